@@ -1,0 +1,11 @@
+//! IRIs, IRIs in angle brackets, and runs of bytes at the front of a text.
+//!
+//! Both text formats are read with these: a text is the list of its UTF-8 bytes. Stands on std alone. Used above: an `Iri` is its bytes,
+//! and those are an IRI.
+#![tactic(auto)]
+
+pub mod bracketed;
+pub mod iri;
+
+pub use bracketed::front_iri;
+pub use iri::{Iri, is_iri};
