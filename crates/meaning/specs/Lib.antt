@@ -1,0 +1,6 @@
+pub mod Vocabulary
+pub mod Mapping
+pub mod Template
+pub mod Effect
+pub mod Run
+pub mod Near

@@ -1,0 +1,35 @@
+-- What an operation does to a dataset (SPARQL 1.1 Update, 3.1).
+use Rattle.std.specs.Prelude.{ℕ, Bool, nat_lt, if◌then◌else◌, List, [], ◌∷◌, length, Result, Ok, Err}
+use Rattle.sets.specs.Sets.{union, without}
+use Rattle.datasets.specs.Dataset.{Dataset, quad_order, names_of}
+use Rattle.datasets.specs.declared.quad.Quad.{Quad}
+use Rattle.meaning.specs.Vocabulary.{Vocabulary}
+use Rattle.meaning.specs.Mapping.{Mapping, empty_mapping}
+use Rattle.meaning.specs.Template.{instances}
+use Rattle.meaning.specs.declared.update.QuadTemplate.{QuadTemplate}
+use Rattle.meaning.specs.declared.update.Operation.{Operation}
+use Rattle.meaning.specs.declared.update.Operation.TheVariants as operation
+use Rattle.meaning.specs.declared.reply.Cause.{Cause}
+use Rattle.meaning.specs.declared.reply.Cause.TheVariants.{TooManySolutions}
+
+-- more than 1,000,000 solutions are too many
+abbrev pub is_too_many : ℕ → Bool
+is_too_many n = nat_lt 1000000 n
+
+module _ {K : Type 0} (V : Vocabulary K) where
+  -- all deletions come first, then all insertions; an inserted quad's graph is there
+  abbrev pub replaced : Dataset K → List (Quad K) → List (Quad K) → Dataset K
+  replaced d deleted inserted = record {
+    quads = union (quad_order V.order) (without (quad_order V.order) d.quads deleted) inserted;
+    names = union V.order d.names (names_of inserted);
+  }
+
+  -- DELETE and INSERT over the solutions of WHERE
+  abbrev pub modified : (request place : ℕ) → (delete insert : List (QuadTemplate K)) → List (Mapping K) → Dataset K → Result (Dataset K) Cause
+  modified request place delete insert solutions d =
+      if is_too_many (length solutions) then Err TooManySolutions
+      else Ok (replaced d (instances V request place delete solutions) (instances V request place insert solutions))
+
+  -- the effect of the operation at a place of a request, both counted from 0. INSERT DATA has the empty mapping as its one solution.
+  abbrev pub effect_of : (request place : ℕ) → Operation K → Dataset K → Result (Dataset K) Cause
+  effect_of request place (operation.InsertData quads) d = modified request place [] quads (empty_mapping ∷ []) d
