@@ -1,0 +1,153 @@
+//! Changes at numbers of terms: what they speak of, and what they make of a dataset.
+ghost use Rattle.std.specs.Prelude.{◌≡◌, ◌↔◌, IsTrue, IfOk, true, ◌||◌};
+ghost use Rattle.std.specs.List.{list_any};
+ghost use Rattle.sets.specs.Sets.{has, without, union, set_of as the_set_of};
+ghost use Rattle.datasets.specs.Id.{id_order};
+ghost use Rattle.datasets.specs.Dataset.{quad_order, matches};
+ghost use Rattle.reads.specs.Reads.{applied, covers as the_covers, no_change};
+ghost use Rattle.reads.specs.Same.{delta_eq};
+
+use crate::lists::{
+    copied_names, copied_quads, has_name, has_names, names_union, names_without, quads_union,
+    quads_without,
+};
+use crate::matching::is_any_matching;
+use crate::same::{same_names, same_quads};
+use crate::view::View;
+use datasets::{Id, Quad, Read};
+use sets::set_of;
+use std::alloc::{AllocError, Global};
+use std::marker::Model;
+
+/// A change: quads that come to be present or absent, and graphs that come to be there or gone.
+#[derive(Drop)]
+pub struct Delta {
+    present: Vec<Quad<Id>>,
+    absent: Vec<Quad<Id>>,
+    there: Vec<Id>,
+    gone: Vec<Id>,
+}
+
+impl Model for Delta {
+    ghost use Rattle.datasets.specs.Dataset.{Change};
+    ghost use Rattle.datasets.specs.declared.id.Id.{Id};
+
+    ghost Value = { Change Id };
+
+    ghost view = { λ d. record { present = d.present.items; absent = d.absent.items; there = d.there.items; gone = d.gone.items } };
+}
+
+impl Delta {
+    /// No change.
+    pub fn new(alloc: Global) -> Self
+        ensures { result ≡ no_change }
+    {
+        Delta {
+            present: Vec::new(alloc),
+            absent: Vec::new(alloc),
+            there: Vec::new(alloc),
+            gone: Vec::new(alloc),
+        }
+    }
+
+    /// The change that speaks of the sets of these, in any order and with repeats. It takes no memory.
+    pub fn from_parts(
+        present: Vec<Quad<Id>>,
+        absent: Vec<Quad<Id>>,
+        there: Vec<Id>,
+        gone: Vec<Id>,
+    ) -> Self
+        ensures present { result.present ≡ the_set_of (quad_order id_order) present.items }
+        ensures absent { result.absent ≡ the_set_of (quad_order id_order) absent.items }
+        ensures there { result.there ≡ the_set_of id_order there.items }
+        ensures gone { result.gone ≡ the_set_of id_order gone.items }
+    {
+        Delta {
+            present: set_of(present),
+            absent: set_of(absent),
+            there: set_of(there),
+            gone: set_of(gone),
+        }
+    }
+
+    /// The quads that come to be present.
+    pub fn present(&self) -> &[Quad<Id>]
+        ensures { result.now ≡ self.now.present }
+    {
+        self.present.as_slice()
+    }
+
+    /// The quads that come to be absent.
+    pub fn absent(&self) -> &[Quad<Id>]
+        ensures { result.now ≡ self.now.absent }
+    {
+        self.absent.as_slice()
+    }
+
+    /// The graphs that come to be there, by name.
+    pub fn there(&self) -> &[Id]
+        ensures { result.now ≡ self.now.there }
+    {
+        self.there.as_slice()
+    }
+
+    /// The graphs that come to be gone, by name.
+    pub fn gone(&self) -> &[Id]
+        ensures { result.now ≡ self.now.gone }
+    {
+        self.gone.as_slice()
+    }
+
+    /// Whether the change speaks of something that the read asks for.
+    #[tactic(auto, unfolding(crate::specs::Reads::covers))]
+    pub fn covers(&self, read: &Read<Id>) -> bool
+        ensures { result ≡ the_covers self.now read.now }
+    {
+        match read {
+            Read::Scan(pattern) => {
+                is_any_matching(&self.present, pattern) || is_any_matching(&self.absent, pattern)
+            }
+            Read::GraphIs(name) => has_name(&self.there, name) || has_name(&self.gone, name),
+            Read::Graphs => has_names(&self.there) || has_names(&self.gone),
+        }
+    }
+
+    /// The dataset after the change.
+    #[tactic(auto, unfolding(crate::specs::Reads::applied))]
+    pub fn apply(&self, alloc: Global, view: View) -> Result<View, AllocError>
+        ensures { IfOk result (λ after. after ≡ applied self.now view) }
+    {
+        let View { quads, names } = view;
+        let present = copied_quads(alloc, &self.present)?;
+        let there = copied_names(alloc, &self.there)?;
+        let quads = quads_union(quads_without(quads, &self.absent), present)?;
+        let names = names_union(names_without(names, &self.gone), there)?;
+        Ok(View { quads, names })
+    }
+
+    /// The same change again.
+    pub fn copied(&self, alloc: Global) -> Result<Self, AllocError>
+        ensures { IfOk result (λ copy. copy ≡ self.now) }
+    {
+        let present = copied_quads(alloc, &self.present)?;
+        let absent = copied_quads(alloc, &self.absent)?;
+        let there = copied_names(alloc, &self.there)?;
+        let gone = copied_names(alloc, &self.gone)?;
+        Ok(Delta {
+            present,
+            absent,
+            there,
+            gone,
+        })
+    }
+
+    /// Whether two changes speak of the same.
+    pub fn is_same(&self, other: &Delta) -> bool
+        ensures { result ≡ delta_eq self.now other.now }
+    {
+        same_quads(&self.present, &other.present)
+            && same_quads(&self.absent, &other.absent)
+            && same_names(&self.there, &other.there)
+            && same_names(&self.gone, &other.gone)
+    }
+}
