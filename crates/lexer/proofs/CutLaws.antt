@@ -1,0 +1,228 @@
+-- Cutting a text goes on at what follows the tokens so far.
+use Rattle.std.proofs.Common.{◌≡◌, ℕ, ◌≤◌, ◌<◌, Bool, true, false, cond, ◌||◌, eqb, List, [], ◌∷◌, ◌++◌, length, Some, None, refl, sym, ap, ◌∙◌, subst, append_assoc, length-append, arith}
+use Rattle.std.specs.Prelude.{Result, Err}
+use Rattle.std.specs.Global.{Vec}
+use Rattle.lexer.specs.declared.stop.Stop.{Stop}
+use Rattle.lexer.specs.declared.stop.Stop.TheVariants as stop
+use Rattle.lexer.specs.Gives.{IsCut}
+use Rattle.std.specs.List.{list_all}
+use Rattle.std.proofs.lemmas.Bool.{eqb-true}
+use Rattle.std.proofs.lemmas.List.{append-nil, nil_from_length}
+use Rattle.iris.specs.Runs.{run_of, rest_of}
+use Rattle.iris.specs.Iri.{is_letter}
+use Rattle.iris.proofs.RunLaws.{run-rest, all-run}
+use Rattle.iris.proofs.BracketLaws.{both, not_false, some_is}
+use Rattle.lexer.specs.declared.token.Token.{Token}
+use Rattle.lexer.specs.declared.token.Sign.{Sign}
+use Rattle.lexer.specs.declared.token.Sign.TheVariants as signs
+use Rattle.lexer.specs.Form.{IsPrefix, IsWord, IsToken, iri, name, word, sign, sign_byte}
+use Rattle.lexer.specs.Cut.{is_space, is_inner, is_line_end, AtLineEnd, IsLongest, Cuts, end, space, comment, token}
+use Rattle.lexer.specs.Reading.{skip_from, token_at}
+use Rattle.lexer.proofs.TokenLaws.{token_found, longest_found, longest_again, none_begins, no_some}
+
+-- ---- white space and comments
+
+or_right : (a b : Bool) → b ≡ true → (a || b) ≡ true
+or_right true b e = refl
+or_right false b e = e
+
+line_end_space : (b : ℕ) → is_inner b ≡ false → is_space b ≡ true
+line_end_space b e = or_right (eqb b 32 || eqb b 9) (is_line_end b) (not_false (is_line_end b) e)
+
+inner_rest : (bs : List ℕ) → AtLineEnd (rest_of is_inner bs)
+inner_rest [] = tt
+inner_rest (b ∷ bs) = elim (is_inner b) as (λ t. is_inner b ≡ t → AtLineEnd (cond t (rest_of is_inner bs) (b ∷ bs))) [ true ↦ λ e. inner_rest bs | false ↦ λ e. e ] refl
+
+-- what is cut after the white space and comments is cut before them
+mutual
+  unskip : (bs : List ℕ) (ts : List Token) → Cuts (skip_from false bs) ts → Cuts bs ts
+  unskip [] ts c = c
+  unskip (b ∷ bs) ts c =
+      elim (is_space b) as (λ t. is_space b ≡ t → Cuts (cond t (skip_from false bs) (cond (eqb b 35) (skip_from true bs) (b ∷ bs))) ts → Cuts (b ∷ bs) ts) [
+        | true ↦ λ e c. space e (unskip bs ts c)
+        | false ↦ λ e c. elim (eqb b 35) as (λ t. eqb b 35 ≡ t → Cuts (cond t (skip_from true bs) (b ∷ bs)) ts → Cuts (b ∷ bs) ts) [
+          | true ↦ λ e c. comment (run_of is_inner bs) (ap (λ (x : ℕ). x ∷ bs) (eqb-true b 35 e) ∙ ap (λ (r : List ℕ). 35 ∷ r) (sym (run-rest is_inner bs))) (all-run is_inner bs) (inner_rest bs) (unskip_comment bs ts c)
+          | false ↦ λ e c. c
+        ] refl c
+      ] refl c
+
+  unskip_comment : (bs : List ℕ) (ts : List Token) → Cuts (skip_from true bs) ts → Cuts (rest_of is_inner bs) ts
+  unskip_comment [] ts c = c
+  unskip_comment (b ∷ bs) ts c =
+      elim (is_inner b) as (λ t. is_inner b ≡ t → Cuts (cond t (skip_from true bs) (skip_from false bs)) ts → Cuts (cond t (rest_of is_inner bs) (b ∷ bs)) ts) [
+        | true ↦ λ e c. unskip_comment bs ts c
+        | false ↦ λ e c. space (line_end_space b e) (unskip bs ts c)
+      ] refl c
+
+skip_inner : (inner rest : List ℕ) → list_all is_inner inner ≡ true → skip_from true (inner ++ rest) ≡ skip_from true rest
+skip_inner [] rest all = refl
+skip_inner (b ∷ bs) rest all = let h = both (is_inner b) (list_all is_inner bs) all in rw (h.0) (skip_inner bs rest h.1)
+
+skip_line_end : (rest : List ℕ) → AtLineEnd rest → skip_from true rest ≡ skip_from false rest
+skip_line_end [] at = refl
+skip_line_end (b ∷ bs) at = ap (λ t. cond t (skip_from true bs) (skip_from false bs)) at ∙ sym (ap (λ t. cond t (skip_from false bs) (cond (eqb b 35) (skip_from true bs) (b ∷ bs))) (line_end_space b at))
+
+-- a token begins with neither white space nor `#`
+letter_ne : (b n : ℕ) → is_letter n ≡ false → is_letter b ≡ true → eqb b n ≡ false
+letter_ne b n no_letter h = elim (eqb b n) as (λ t. eqb b n ≡ t → t ≡ false) [ true ↦ λ e. sym h ∙ ap is_letter (eqb-true b n e) ∙ no_letter | false ↦ λ e. refl ] refl
+
+letter_start : (b : ℕ) (bs : List ℕ) → is_letter b ≡ true → skip_from false (b ∷ bs) ≡ b ∷ bs
+letter_start b bs h =
+    let no_space : is_space b ≡ false = λ i. (letter_ne b 32 refl h i || letter_ne b 9 refl h i) || (letter_ne b 13 refl h i || letter_ne b 10 refl h i) in
+    ap (λ t. cond t (skip_from false bs) (cond (eqb b 35) (skip_from true bs) (b ∷ bs))) no_space
+    ∙ ap (λ t. cond t (skip_from true bs) (b ∷ bs)) (letter_ne b 35 refl h)
+
+word_start : (w rest : List ℕ) → IsWord w → skip_from false (w ++ rest) ≡ w ++ rest
+word_start [] rest is = absurd is
+word_start (b ∷ bs) rest is = letter_start b (bs ++ rest) is.0
+
+sign_start : (s : Sign) (rest : List ℕ) → skip_from false (sign_byte s ∷ rest) ≡ sign_byte s ∷ rest
+sign_start signs.OpenBrace rest = refl
+sign_start signs.CloseBrace rest = refl
+sign_start signs.Dot rest = refl
+sign_start signs.Semicolon rest = refl
+sign_start signs.Comma rest = refl
+
+name_start : (p l rest : List ℕ) → IsPrefix p → skip_from false ((p ++ 58 ∷ l) ++ rest) ≡ (p ++ 58 ∷ l) ++ rest
+name_start [] l rest is = refl
+name_start (b ∷ p) l rest is = letter_start b ((p ++ 58 ∷ l) ++ rest) is.0
+
+token_start : {front : List ℕ} {t : Token} (rest : List ℕ) → IsToken front t → skip_from false (front ++ rest) ≡ front ++ rest
+token_start rest (iri is) = refl
+token_start rest (name {p} {l} prefix local) = name_start p l rest prefix
+token_start rest (word {w} is) = word_start w rest is
+token_start rest (sign s) = sign_start s rest
+
+-- and what is cut before them is cut after them
+skipped : {text : List ℕ} {ts : List Token} → Cuts text ts → Cuts (skip_from false text) ts
+skipped end = end
+skipped (space {b} {rest} {ts} e c) = subst (λ t. Cuts t ts) (sym (ap (λ t. cond t (skip_from false rest) (cond (eqb b 35) (skip_from true rest) (b ∷ rest))) e)) (skipped c)
+skipped (comment {text} {rest} {ts} inner cut all at c) =
+    subst (λ t. Cuts t ts) (sym (ap (skip_from false) cut ∙ skip_inner inner rest all ∙ skip_line_end rest at)) (skipped c)
+skipped (token {text} {front} {rest} {t} {ts} is c) =
+    subst (λ x. Cuts x (t ∷ ts)) (sym (ap (skip_from false) is.cut ∙ token_start rest is.is ∙ sym is.cut)) (token is c)
+
+-- ---- the loop
+
+-- the text is cut into the tokens so far and those of what is left
+pub record IsCutSoFar (text : List ℕ) (before : List Token) (rest : List ℕ) : Type 0 where
+  pub more : (later : List Token) → Cuts rest later → Cuts text (before ++ later)
+  pub only : (all : List Token) → Cuts text all → (later : List Token) × (all ≡ before ++ later) × Cuts rest later
+  pub skips : skip_from false rest ≡ rest
+
+skip_twice : (inside : Bool) (bs : List ℕ) → skip_from false (skip_from inside bs) ≡ skip_from inside bs
+skip_twice inside [] = refl
+skip_twice true (b ∷ bs) = elim (is_inner b) as (λ t. skip_from false (cond t (skip_from true bs) (skip_from false bs)) ≡ cond t (skip_from true bs) (skip_from false bs)) [ true ↦ skip_twice true bs | false ↦ skip_twice false bs ]
+skip_twice false (b ∷ bs) =
+    elim (is_space b) as (λ t. is_space b ≡ t → skip_from false (cond t (skip_from false bs) (cond (eqb b 35) (skip_from true bs) (b ∷ bs))) ≡ cond t (skip_from false bs) (cond (eqb b 35) (skip_from true bs) (b ∷ bs))) [
+      | true ↦ λ e. skip_twice false bs
+      | false ↦ λ e. elim (eqb b 35) as (λ t. eqb b 35 ≡ t → skip_from false (cond t (skip_from true bs) (b ∷ bs)) ≡ cond t (skip_from true bs) (b ∷ bs)) [
+        | true ↦ λ f. skip_twice true bs
+        | false ↦ λ f. ap (λ t. cond t (skip_from false bs) (cond (eqb b 35) (skip_from true bs) (b ∷ bs))) e ∙ ap (λ t. cond t (skip_from true bs) (b ∷ bs)) f
+      ] refl
+    ] refl
+
+pub cut_start : (text : List ℕ) → IsCutSoFar text [] (skip_from false text)
+cut_start text = record { more = λ later c. unskip text later c; only = λ all c. (all, refl, skipped c); skips = skip_twice false text }
+
+-- what a text that begins with a token is cut into
+data BeginsWith (text : List ℕ) (all : List Token) : Type 0 where
+  begins : (front rest : List ℕ) (t : Token) (ts : List Token) → IsLongest text front rest t → Cuts rest ts → all ≡ t ∷ ts → BeginsWith text all
+  ends : text ≡ [] → all ≡ [] → BeginsWith text all
+
+skip_len : (inside : Bool) (bs : List ℕ) → length (skip_from inside bs) ≤ length bs
+skip_len inside [] = omega arith
+skip_len true (b ∷ bs) =
+    let t = skip_len true bs in
+    let f = skip_len false bs in
+    elim (is_inner b) as (λ t. length (cond t (skip_from true bs) (skip_from false bs)) ≤ length (b ∷ bs)) [ true ↦ omega (arith, t) | false ↦ omega (arith, f) ]
+skip_len false (b ∷ bs) =
+    let t = skip_len true bs in
+    let f = skip_len false bs in
+    elim (is_space b) as (λ t. length (cond t (skip_from false bs) (cond (eqb b 35) (skip_from true bs) (b ∷ bs))) ≤ length (b ∷ bs)) [
+      | true ↦ omega (arith, f)
+      | false ↦ elim (eqb b 35) as (λ t. length (cond t (skip_from true bs) (b ∷ bs)) ≤ length (b ∷ bs)) [ true ↦ omega (arith, t) | false ↦ omega arith ]
+    ]
+
+space_skips : (b : ℕ) (rest : List ℕ) → is_space b ≡ true → skip_from false (b ∷ rest) ≡ b ∷ rest → ⊥
+space_skips b rest e skips =
+    let same : length (b ∷ rest) ≡ length (skip_from false rest) = ap length (sym skips) ∙ ap (λ t. length (cond t (skip_from false rest) (cond (eqb b 35) (skip_from true rest) (b ∷ rest)))) e in
+    let less : length (skip_from false rest) ≤ length rest = skip_len false rest in
+    omega arith
+
+comment_skips : (text rest : List ℕ) → text ≡ 35 ∷ rest → skip_from false text ≡ text → ⊥
+comment_skips text rest cut skips =
+    let same : length (35 ∷ rest) ≡ length (skip_from true rest) = ap length (sym cut) ∙ ap length (sym skips) ∙ ap (λ x. length (skip_from false x)) cut in
+    let less : length (skip_from true rest) ≤ length rest = skip_len true rest in
+    omega arith
+
+-- a cut of a text with no white space and no comment in front
+token_first : {text : List ℕ} {ts : List Token} → skip_from false text ≡ text → Cuts text ts → BeginsWith text ts
+token_first skips end = ends refl refl
+token_first skips (space {b} {rest} {ts} e c) = absurd (space_skips b rest e skips)
+token_first skips (comment {text} {rest} {ts} inner cut all at c) = absurd (comment_skips text (inner ++ rest) cut skips)
+token_first skips (token {text} {front} {rest} {t} {ts} is c) = begins front rest t ts is c refl
+
+word_len : (w : List ℕ) → IsWord w → 0 < length w
+word_len [] is = absurd is
+word_len (b ∷ bs) is = omega arith
+
+token_len : {front : List ℕ} {t : Token} → IsToken front t → 0 < length front
+token_len (iri {i} is) = omega arith
+token_len (name {p} {l} prefix local) = omega (arith, length-append p (58 ∷ l))
+token_len (word {w} is) = word_len w is
+token_len (sign s) = omega arith
+
+no_front : (front rest : List ℕ) → [] ≡ front ++ rest → 0 < length front → ⊥
+no_front [] rest e some = omega arith
+no_front (b ∷ bs) rest e some = absurd cc
+
+cut_nil : (rest : List ℕ) (all : List Token) → rest ≡ [] → BeginsWith rest all → all ≡ []
+cut_nil rest all nothing (begins front r u ts is c all-is) = absurd (no_front front r (sym nothing ∙ is.cut) (token_len is.is))
+cut_nil rest all nothing (ends e all-is) = all-is
+
+stuck : (rest : List ℕ) (all : List Token) → 0 < length rest → token_at rest ≡ None → BeginsWith rest all → ⊥
+stuck rest all some e (begins front r u ts is c all-is) = none_begins rest front r u e is.cut is.is
+stuck rest all some e (ends nothing all-is) = let none : length rest ≡ 0 = ap length nothing in omega arith
+
+pub cut_smaller : (rest : List ℕ) (t : Token) (after : List ℕ) → token_at rest ≡ Some (t, after) → length (skip_from false after) < length rest
+cut_smaller rest t after e =
+    let f = token_found rest t after e in
+    let some : 0 < length f.front = token_len f.is in
+    let whole : length rest ≡ length (f.front ++ after) = ap length f.cut in
+    omega (arith, length-append f.front after, skip_len false after)
+
+-- the first token of what is left
+first_is : (rest : List ℕ) (t : Token) (after : List ℕ) (all : List Token) → token_at rest ≡ Some (t, after) → BeginsWith rest all → (later : List Token) × (all ≡ t ∷ later) × Cuts after later
+unfolding token_at
+first_is rest t after all e (begins front r u ts is c all-is) =
+    let same = some_is (u, r) (t, after) (sym (longest_again rest front r u is) ∙ e) in
+    (ts, all-is ∙ ap (λ (x : Token). x ∷ ts) (ap (λ (y : Token × List ℕ). y.0) same), subst (λ x. Cuts x ts) (ap (λ (y : Token × List ℕ). y.1) same) c)
+first_is rest t after all e (ends nothing all-is) = absurd (no_some (t, after) (ap token_at (sym nothing) ∙ e))
+
+pub cut_more : (text : List ℕ) (before : List Token) (rest : List ℕ) (t : Token) (after : List ℕ) → IsCutSoFar text before rest → token_at rest ≡ Some (t, after) → IsCutSoFar text (before ++ t ∷ []) (skip_from false after)
+cut_more text before rest t after so_far e =
+    let l = longest_found rest t after e in
+    record {
+      more = λ later c. subst (λ ts. Cuts text ts) (sym (append_assoc before (t ∷ []) later)) (so_far.more (t ∷ later) (token l.1 (unskip after later c)));
+      only = λ all c.
+          let o = so_far.only all c in
+          let f = first_is rest t after o.0 e (token_first so_far.skips o.2) in
+          (f.0, o.1 ∙ ap (λ (ts : List Token). before ++ ts) f.1 ∙ sym (append_assoc before (t ∷ []) f.0), skipped f.2);
+      skips = skip_twice false after;
+    }
+
+pub cut_stuck : (text : List ℕ) (before : List Token) (rest : List ℕ) → IsCutSoFar text before rest → 0 < length rest → token_at rest ≡ None → (ts : List Token) → Cuts text ts → ⊥
+cut_stuck text before rest so_far some e ts c =
+    let o = so_far.only ts c in
+    stuck rest o.0 some e (token_first so_far.skips o.2)
+
+pub cut_done : (text : List ℕ) (before : List Token) (rest : List ℕ) → IsCutSoFar text before rest → length rest ≡ 0 → Cuts text before × ((ts : List Token) → Cuts text ts → ts ≡ before)
+cut_done text before rest so_far none =
+    let nothing : rest ≡ [] = nil_from_length rest none in (
+      subst (λ ts. Cuts text ts) (append-nil before) (so_far.more [] (subst (λ r. Cuts r []) (sym nothing) end)),
+      λ ts c. let o = so_far.only ts c in o.1 ∙ ap (λ (later : List Token). before ++ later) (cut_nil rest o.0 nothing (token_first so_far.skips o.2)) ∙ append-nil before,
+    )
+
+pub is_stuck : (text : List ℕ) (r : Result (Vec Token) Stop) (e : Stop) → r ≡ Err e → e ≡ stop.NoReading → ((ts : List Token) → Cuts text ts → ⊥) → IsCut text r
+is_stuck text r e r-is e-is nothing = subst (λ r. IsCut text r) (sym (r-is ∙ ap (λ (e : Stop). let r : Result (Vec Token) Stop = Err e in r) e-is)) nothing

@@ -1,0 +1,13 @@
+//! The tokens of a request: IRIs, prefixed names, words and signs, as slices of its text.
+//!
+//! Stands on `iris`. Used above: `tokens` gives the one list of tokens that the text is cut into, or there is none.
+#![tactic(auto)]
+
+mod cut;
+mod scan;
+mod stop;
+mod token;
+
+pub use cut::tokens;
+pub use stop::Stop;
+pub use token::{Piece, Sign, Token};
