@@ -1,0 +1,46 @@
+//! The trees.
+
+use lexer::Piece;
+use sets::Items;
+
+/// An IRI, a prefixed name, or `a` (SPARQL 1.1 Query, 19.8, productions 78 and 136).
+#[derive(Drop)]
+pub enum Node<'a> {
+    Iri(Piece<'a>),
+    Prefixed { prefix: Piece<'a>, local: Piece<'a> },
+    Type,
+}
+
+/// A verb and its objects.
+#[derive(Drop)]
+pub struct Property<'a> {
+    pub verb: Node<'a>,
+    pub objects: Items<Node<'a>>,
+}
+
+/// A subject and its properties (SPARQL 1.1 Query, 19.8, production 75).
+#[derive(Drop)]
+pub struct SameSubject<'a> {
+    pub subject: Node<'a>,
+    pub properties: Items<Property<'a>>,
+}
+
+/// An operation (SPARQL 1.1 Update, section 3.1).
+#[derive(Drop)]
+pub enum Operation<'a> {
+    InsertData(Items<SameSubject<'a>>),
+}
+
+/// A part of a request: a declaration of a prefix, or an operation.
+#[derive(Drop)]
+pub enum Step<'a> {
+    Declare { prefix: Piece<'a>, iri: Piece<'a> },
+    Do(Operation<'a>),
+}
+
+/// A request: its declarations and operations in order, and the length of its text in bytes.
+#[derive(Drop)]
+pub struct Syntax<'a> {
+    pub steps: Items<Step<'a>>,
+    pub length: usize,
+}
