@@ -1,0 +1,64 @@
+//! Statuses of requests, and the refusals of events that a status does not allow.
+ghost use Rattle.std.specs.Prelude.{◌≡◌, IfSome, IfNone};
+ghost use Rattle.block_machine.specs.Machine.{status_of, execution_refusal, executed_refusal, is_closed as closed, is_executed as executed, IsPlain};
+
+use crate::state::{Reply, Slot, Status};
+
+/// The status of request `i`, if the block has it.
+pub fn status_at(slots: &[Slot], i: usize) -> Option<Status>
+    ensures { result ≡ status_of slots.now i }
+{
+    slots.get(i).map(|slot| slot.status)
+}
+
+/// The refusal of an event of this incarnation of a request that this worker executes, if there is one.
+pub fn refused_execution(status: Option<Status>, incarnation: u64, worker: u32) -> Option<Reply>
+    ensures refusal { result ≡ execution_refusal status incarnation worker }
+    ensures plain { IfSome result IsPlain }
+    ensures none { IfNone result (status ≡ Some (Status.Executing incarnation worker)) }
+{
+    match status {
+        Some(Status::Executing(n, by)) => {
+            if n != incarnation {
+                Some(Reply::Stale)
+            } else if by != worker {
+                Some(Reply::NotYours)
+            } else {
+                None
+            }
+        }
+        _ => Some(Reply::Stale),
+    }
+}
+
+/// The refusal of an event of this incarnation of an executed request, if there is one.
+pub fn refused_executed(status: Option<Status>, incarnation: u64) -> Option<Reply>
+    ensures refusal { result ≡ executed_refusal status incarnation }
+    ensures plain { IfSome result IsPlain }
+    ensures none { IfNone result (status ≡ Some (Status.Executed incarnation)) }
+{
+    match status {
+        Some(Status::Executed(n)) => {
+            if n != incarnation {
+                Some(Reply::Stale)
+            } else {
+                None
+            }
+        }
+        _ => Some(Reply::Stale),
+    }
+}
+
+/// Whether a request is committed, or is none of the block.
+pub fn is_closed(status: Option<Status>) -> bool
+    ensures { result ≡ closed status }
+{
+    matches!(status, None | Some(Status::Committed(_)))
+}
+
+/// Whether a request is executed and not committed.
+pub fn is_executed(status: Status) -> bool
+    ensures { result ≡ executed status }
+{
+    matches!(status, Status::Executed(_))
+}

@@ -1,0 +1,18 @@
+//! The machine of a block: optimistic concurrency control with multiple versions, where the requests' order is fixed beforehand.
+//! Each event of a worker is one atomic step. Stands on `reads` and `change_laws`, and of `meaning` on the reply to a request.
+//!
+//! The contracts used above: `Machine::step` replies what specs/Machine.antt allows and leaves the state that it says; by
+//! `laws::front_is_serial`, after any history the front is that of the requests one after another.
+#![tactic(auto)]
+
+pub mod incarnations;
+pub mod laws;
+pub mod machine;
+pub mod slot;
+pub mod state;
+pub mod validate;
+pub mod version_overlay;
+
+pub use machine::Machine;
+pub use state::{Entry, Event, Finished, Noted, Pass, Reply, Slot, Status};
+pub use validate::Verdict;

@@ -1,0 +1,380 @@
+//! The machine: one method for each event.
+ghost use Rattle.std.specs.Prelude.{◌≡◌, ◌<◌, ◌≤◌, ◌+◌, ◌^◌, ◌↔◌, ℕ, length, map, IsTrue, IfOk, OnOk, OnErr, option_copied};
+ghost use Rattle.reads.specs.Reads.{View as Base};
+ghost use Rattle.block_machine.specs.Serial.{replies_to};
+ghost use Rattle.block_machine.specs.Machine.{fresh, view_at, slot_at, note_now, transcript_eq, can_commit, transcript_of, CheckVerdict, NextNamesAnswer, status_of, HasNext, IsReady, IsPlain, IsAllowed, after};
+
+use crate::state::{Event, Finished, Noted, Reply, Slot, Status};
+use crate::validate::{self, Verdict};
+use crate::version_overlay::{blocker, is_stamped, touching, view_before};
+use crate::{incarnations, slot};
+use datasets::{Id, Read};
+use reads::same::same_reads;
+use reads::{Note, View};
+use std::alloc::{AllocError, Global};
+use std::marker::Model;
+
+/// The machine of a block.
+#[derive(Drop)]
+pub struct Machine {
+    slots: Vec<Slot>,
+    clock: u64,
+    front: usize,
+}
+
+impl Model for Machine {
+    ghost use Rattle.block_machine.specs.Machine.{State};
+
+    ghost Value = { State };
+
+    ghost view = { λ m. record { slots = m.slots.items; clock = m.clock; front = m.front } };
+}
+
+impl Machine {
+    /// The machine of a block of this many requests.
+    pub fn new(alloc: Global, size: usize) -> Result<Machine, AllocError>
+        ensures { IfOk result (λ m. m ≡ fresh size) }
+    {
+        let mut slots = Vec::new(alloc);
+        for _count in 0..size {
+            slots.push(slot::fresh(alloc))?;
+        }
+        Ok(Machine {
+            slots,
+            clock: 0,
+            front: 0,
+        })
+    }
+
+    /// How many requests are committed.
+    pub fn front(&self) -> usize
+        ensures { result ≡ self.now.front }
+    {
+        self.front
+    }
+
+    /// The view of the committed requests.
+    pub fn front_view(&self, alloc: Global, base: &View) -> Result<View, AllocError>
+        requires { self.now.front ≤ length self.now.slots }
+        ensures { IfOk result (λ view. view ≡ view_at base.now self.now.slots self.now.front) }
+    {
+        view_before(alloc, base, self.slots.as_slice(), self.front)
+    }
+
+    /// The committed requests' replies.
+    pub fn front_replies(&self, alloc: Global) -> Result<Vec<meaning::Reply>, AllocError>
+        requires { self.now.front ≤ length self.now.slots }
+        ensures { IfOk result (λ list. list.items ≡ replies_to self.now.slots self.now.front) }
+    {
+        replies_before(alloc, self.slots.as_slice(), self.front)
+    }
+
+    /// One event of a worker, with its reply twice: to keep, and to tell. It takes memory before it changes anything.
+    pub fn step(
+        &mut self,
+        alloc: Global,
+        base: &View,
+        worker: u32,
+        event: &Event,
+    ) -> Result<(Reply, Reply), AllocError>
+        requires { IsReady base.now self.old }
+        ensures same { IfOk result (λ replies. replies.1 ≡ replies.0) }
+        ensures allowed { IfOk result (λ replies. IsAllowed base.now self.old worker event.now replies.0) }
+        ensures changed { IfOk result (λ replies. self.new ≡ after self.old worker event.now replies.0) }
+        ensures err { OnErr result (self.new ≡ self.old) }
+    {
+        match event {
+            Event::Take(i) => Ok(twice(self.take(worker, *i))),
+            Event::Read(i, n, read) => self.read(alloc, base, worker, *i, *n, read),
+            Event::Publish(i, n, finished) => {
+                let reply = self.publish(alloc, worker, *i, *n, finished.as_ref())?;
+                Ok(twice(reply))
+            }
+            Event::Begin(i, n) => Ok(twice(self.begin(worker, *i, *n))),
+            Event::Check(i, n) => {
+                let reply = self.check(alloc, base, worker, *i, *n)?;
+                Ok(twice(reply))
+            }
+            Event::Commit(i) => Ok(twice(self.commit(worker, *i))),
+            Event::GiveUp(i, n) => Ok(twice(self.give_up(worker, *i, *n))),
+        }
+    }
+
+    /// Takes a ready request, to execute its next incarnation. Else it is `Stale`.
+    pub fn take(&mut self, worker: u32, i: usize) -> Reply
+        ensures plain { IsPlain result }
+        ensures allowed { (base : Base) → IsAllowed base self.old worker (Event.Take i) result }
+        ensures changed { self.new ≡ after self.old worker (Event.Take i) result }
+    {
+        match incarnations::status_at(self.slots.as_slice(), i) {
+            Some(Status::Ready(n)) => {
+                slot::take(&mut self.slots[i], n, worker);
+                Reply::Taken(n)
+            }
+            _ => Reply::Stale,
+        }
+    }
+
+    /// Leaves a request that the worker executes: its next incarnation is ready, and its delta stays.
+    pub fn give_up(&mut self, worker: u32, i: usize, n: u64) -> Reply
+        requires { status_of self.old.slots i ≡ Some (Status.Executing n worker) → n + 1 < 2 ^ 64 }
+        ensures plain { IsPlain result }
+        ensures allowed { (base : Base) → IsAllowed base self.old worker (Event.GiveUp i n) result }
+        ensures changed { self.new ≡ after self.old worker (Event.GiveUp i n) result }
+    {
+        let status = incarnations::status_at(self.slots.as_slice(), i);
+        if let Some(refusal) = incarnations::refused_execution(status, n, worker) {
+            return refusal;
+        }
+        slot::give_up(&mut self.slots[i], n);
+        Reply::Given
+    }
+
+    /// Answers a read from the view of request `i`, and notes it.
+    pub fn read(
+        &mut self,
+        alloc: Global,
+        base: &View,
+        worker: u32,
+        i: usize,
+        n: u64,
+        read: &Read<Id>,
+    ) -> Result<(Reply, Reply), AllocError>
+        ensures same { IfOk result (λ replies. replies.1 ≡ replies.0) }
+        ensures allowed { IfOk result (λ replies. IsAllowed base.now self.old worker (Event.Read i n read.now) replies.0) }
+        ensures changed { IfOk result (λ replies. self.new ≡ after self.old worker (Event.Read i n read.now) replies.0) }
+        ensures err { OnErr result (self.new ≡ self.old) }
+    {
+        let status = incarnations::status_at(self.slots.as_slice(), i);
+        if let Some(refusal) = incarnations::refused_execution(status, n, worker) {
+            return Ok(twice(refusal));
+        }
+        if let Some(j) = blocker(self.slots.as_slice(), i, read) {
+            return Ok((Reply::Blocked(j), Reply::Blocked(j)));
+        }
+        let noted = noted(alloc, base, self.slots.as_slice(), i, read)?;
+        let answer = noted.answer.copied(alloc)?;
+        let again = noted.answer.copied(alloc)?;
+        slot::note(&mut self.slots[i], noted)?;
+        Ok((Reply::Answered(answer), Reply::Answered(again)))
+    }
+
+    /// Publishes a finished run, if its transcript is the notes.
+    pub fn publish(
+        &mut self,
+        alloc: Global,
+        worker: u32,
+        i: usize,
+        n: u64,
+        finished: Option<&Finished>,
+    ) -> Result<Reply, AllocError>
+        requires { self.old.clock + 1 < 2 ^ 64 }
+        ensures plain { IfOk result IsPlain }
+        ensures allowed { (base : Base) → IfOk result (λ reply. IsAllowed base self.old worker (Event.Publish i n (option_copied finished.entry)) reply) }
+        ensures changed { IfOk result (λ reply. self.new ≡ after self.old worker (Event.Publish i n (option_copied finished.entry)) reply) }
+        ensures err { OnErr result (self.new ≡ self.old) }
+    {
+        let status = incarnations::status_at(self.slots.as_slice(), i);
+        if let Some(refusal) = incarnations::refused_execution(status, n, worker) {
+            return Ok(refusal);
+        }
+        let Some(finished) = finished else {
+            return Ok(Reply::NotYet);
+        };
+        if !has_transcript(&self.slots[i], finished) {
+            return Ok(Reply::NotYet);
+        }
+        self.store(alloc, i, n, finished)?;
+        Ok(Reply::Published)
+    }
+
+    // The slot of request `i` after the publication, and the clock.
+    fn store(
+        &mut self,
+        alloc: Global,
+        i: usize,
+        n: u64,
+        finished: &Finished,
+    ) -> Result<(), AllocError>
+        requires within { i < length self.old.slots }
+        requires room { self.old.clock + 1 < 2 ^ 64 }
+        ensures ok { (worker : ℕ) → OnOk result (self.new ≡ after self.old worker (Event.Publish i n (Some finished.now)) Reply.Published) }
+        ensures err { OnErr result (self.new ≡ self.old) }
+    {
+        let clock = self.clock;
+        let same = slot::publish(alloc, &mut self.slots[i], n, finished, clock)?;
+        if !same {
+            self.clock += 1;
+        }
+        Ok(())
+    }
+
+    /// Begins a pass of checks of an executed request. It can begin again at any time.
+    pub fn begin(&mut self, worker: u32, i: usize, n: u64) -> Reply
+        ensures plain { IsPlain result }
+        ensures allowed { (base : Base) → IsAllowed base self.old worker (Event.Begin i n) result }
+        ensures changed { self.new ≡ after self.old worker (Event.Begin i n) result }
+    {
+        let status = incarnations::status_at(self.slots.as_slice(), i);
+        if let Some(refusal) = incarnations::refused_executed(status, n) {
+            return refusal;
+        }
+        let clock = self.clock;
+        slot::begin(&mut self.slots[i], clock);
+        Reply::Begun
+    }
+
+    /// Compares the next noted answer with what it would be now: `Passed` where it is the same, and `Aborted` where it is another, unless an estimate blocks. An `Err` is want of memory, and nothing else.
+    pub fn check(
+        &mut self,
+        alloc: Global,
+        base: &View,
+        worker: u32,
+        i: usize,
+        n: u64,
+    ) -> Result<Reply, AllocError>
+        requires room { status_of self.old.slots i ≡ Some (Status.Executed n) → n + 1 < 2 ^ 64 }
+        requires next { HasNext self.old i }
+        requires names { NextNamesAnswer base.now self.old i }
+        ensures plain { IfOk result IsPlain }
+        ensures verdict { IfOk result (λ reply. CheckVerdict base.now self.old i n reply) }
+        ensures allowed { IfOk result (λ reply. IsAllowed base.now self.old worker (Event.Check i n) reply) }
+        ensures changed { IfOk result (λ reply. self.new ≡ after self.old worker (Event.Check i n) reply) }
+        ensures err { OnErr result (self.new ≡ self.old) }
+    {
+        let status = incarnations::status_at(self.slots.as_slice(), i);
+        if let Some(refusal) = incarnations::refused_executed(status, n) {
+            return Ok(refusal);
+        }
+        let Some(stands) = self.slots[i].pass else {
+            return Ok(Reply::NotYet);
+        };
+        let note = &self.slots[i].notes.as_slice()[stands.next];
+        match validate::check(alloc, base, self.slots.as_slice(), i, note)? {
+            Verdict::Blocked(j) => Ok(Reply::Blocked(j)),
+            Verdict::Same => {
+                slot::pass(&mut self.slots[i], stands);
+                Ok(Reply::Passed)
+            }
+            Verdict::Changed => {
+                slot::abort(&mut self.slots[i], n);
+                Ok(Reply::Aborted)
+            }
+        }
+    }
+
+    /// Commits the request at the front, where it is executed and stamped and no lower request has changed since.
+    pub fn commit(&mut self, worker: u32, i: usize) -> Reply
+        ensures plain { IsPlain result }
+        ensures allowed { (base : Base) → IsAllowed base self.old worker (Event.Commit i) result }
+        ensures changed { self.new ≡ after self.old worker (Event.Commit i) result }
+    {
+        let status = incarnations::status_at(self.slots.as_slice(), i);
+        if incarnations::is_closed(status) {
+            return Reply::Stale;
+        }
+        if !self.may_commit(i) {
+            return Reply::NotYet;
+        }
+        slot::commit(&mut self.slots[i]);
+        self.front += 1;
+        Reply::Committed
+    }
+
+    // Whether the request is the front, executed, and stamped.
+    fn may_commit(&self, i: usize) -> bool
+        requires { i < length self.now.slots }
+        ensures { result ≡ can_commit self.now i }
+    {
+        let slot = &self.slots[i];
+        i == self.front
+            && incarnations::is_executed(slot.status)
+            && is_stamped(self.slots.as_slice(), i, slot.stamp)
+    }
+}
+
+#[tactic(auto, unfolding(crate::specs::Serial::replies_to))]
+fn replies_before(
+    alloc: Global,
+    slots: &[Slot],
+    n: usize,
+) -> Result<Vec<meaning::Reply>, AllocError>
+    requires { n ≤ length slots.now }
+    ensures { IfOk result (λ list. list.items ≡ replies_to slots.now n) }
+{
+    let mut list = Vec::new(alloc);
+    for j in 0..n {
+        if let Some(reply) = slots[j].reply {
+            list.push(reply)?;
+        }
+    }
+    Ok(list)
+}
+
+// A reply that is no answer, twice. It takes no memory.
+fn twice(reply: Reply) -> (Reply, Reply)
+    requires { IsPlain reply }
+    ensures first { result.0 ≡ reply }
+    ensures second { result.1 ≡ reply }
+{
+    let again = match &reply {
+        Reply::Taken(n) => Reply::Taken(*n),
+        Reply::Answered(_) => unreachable!(),
+        Reply::Blocked(j) => Reply::Blocked(*j),
+        Reply::Published => Reply::Published,
+        Reply::Begun => Reply::Begun,
+        Reply::Passed => Reply::Passed,
+        Reply::Aborted => Reply::Aborted,
+        Reply::Committed => Reply::Committed,
+        Reply::Given => Reply::Given,
+        Reply::Stale => Reply::Stale,
+        Reply::NotYours => Reply::NotYours,
+        Reply::NotYet => Reply::NotYet,
+    };
+    (reply, again)
+}
+
+// The read, its answer, and its touching list.
+fn noted(
+    alloc: Global,
+    base: &View,
+    slots: &[Slot],
+    i: usize,
+    read: &Read<Id>,
+) -> Result<Noted, AllocError>
+    requires { i ≤ length slots.now }
+    ensures { IfOk result (λ note. note ≡ note_now base.now slots.now i read.now) }
+{
+    let view = view_before(alloc, base, slots, i)?;
+    let answer = view.answer(alloc, read)?;
+    let touching = touching(alloc, slots, i, read)?;
+    Ok(Noted {
+        read: *read,
+        answer,
+        touching,
+    })
+}
+
+// Whether the run's transcript is the notes.
+fn has_transcript(slot: &Slot, finished: &Finished) -> bool
+    ensures { IsTrue result ↔ (finished.now.transcript ≡ transcript_of slot.now.notes) }
+{
+    is_transcript(slot.notes.as_slice(), finished.transcript.as_slice())
+}
+
+// Whether these are the noted reads with their answers.
+fn is_transcript(notes: &[Noted], transcript: &[Note]) -> bool
+    ensures { result ≡ transcript_eq transcript.now notes.now }
+{
+    match transcript {
+        [] => notes.is_empty(),
+        [entry, rest @ ..] => match notes {
+            [] => false,
+            [note, others @ ..] => {
+                same_reads(&entry.read, &note.read)
+                    && entry.answer.is_same(&note.answer)
+                    && is_transcript(others, rest)
+            }
+        },
+    }
+}

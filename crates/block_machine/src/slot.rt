@@ -1,0 +1,133 @@
+//! The changes of one request's slot.
+ghost use Rattle.std.specs.Prelude.{◌≡◌, ◌<◌, ◌+◌, ◌^◌, OnOk, OnErr, IfOk, length};
+ghost use Rattle.block_machine.specs.Machine.{fresh_slot, taken, with_note, keeps_delta, published as published_slot, begun as begun_slot, passed as passed_slot, aborted as aborted_slot, given as given_slot, committed as committed_slot};
+
+use crate::state::{Finished, Noted, Pass, Slot, Status};
+use reads::Delta;
+use sets::Items;
+use std::alloc::{AllocError, Global};
+
+/// A request before its first event.
+pub fn fresh(alloc: Global) -> Slot
+    ensures { result ≡ fresh_slot }
+{
+    Slot {
+        status: Status::Ready(0),
+        notes: Items::new(alloc),
+        delta: Delta::new(alloc),
+        version: 0,
+        reply: None,
+        estimate: false,
+        changed: 0,
+        pass: None,
+        stamp: None,
+    }
+}
+
+/// The worker executes incarnation `n`, with no notes yet.
+pub fn take(slot: &mut Slot, n: u64, worker: u32)
+    ensures { slot.new ≡ taken slot.old n worker }
+{
+    slot.status = Status::Executing(n, worker);
+    slot.notes.clear();
+}
+
+/// One more note. After want of memory the slot is as before.
+pub fn note(slot: &mut Slot, noted: Noted) -> Result<(), AllocError>
+    ensures ok { OnOk result (slot.new ≡ with_note slot.old noted) }
+    ensures err { OnErr result (slot.new ≡ slot.old) }
+{
+    slot.notes.push(noted)
+}
+
+/// A pass begins. With no notes there is nothing to check, and the stamp is the clock.
+pub fn begin(slot: &mut Slot, clock: u64)
+    ensures { slot.new ≡ begun_slot slot.old slot.old.notes clock }
+{
+    if slot.notes.is_empty() {
+        slot.pass = None;
+        slot.stamp = Some(clock);
+    } else {
+        slot.pass = Some(Pass {
+            start: clock,
+            next: 0,
+        });
+        slot.stamp = None;
+    }
+}
+
+/// The next note comes. After the last one the pass is over, and its start is the stamp.
+pub fn pass(slot: &mut Slot, stands: Pass)
+    requires { stands.next < length slot.old.notes }
+    ensures { slot.new ≡ passed_slot slot.old (Some stands) }
+{
+    let count = slot.notes.len();
+    let next = stands.next + 1;
+    if next == count {
+        slot.pass = None;
+        slot.stamp = Some(stands.start);
+    } else {
+        slot.pass = Some(Pass {
+            start: stands.start,
+            next,
+        });
+    }
+}
+
+/// The next incarnation is ready. The delta stays, as an estimate.
+pub fn abort(slot: &mut Slot, n: u64)
+    requires { n + 1 < 2 ^ 64 }
+    ensures { slot.new ≡ aborted_slot slot.old n }
+{
+    slot.status = Status::Ready(n + 1);
+    slot.notes.clear();
+    slot.estimate = true;
+    slot.pass = None;
+    slot.stamp = None;
+}
+
+/// The next incarnation is ready. The delta and its mark stay.
+pub fn give_up(slot: &mut Slot, n: u64)
+    requires { n + 1 < 2 ^ 64 }
+    ensures { slot.new ≡ given_slot slot.old n }
+{
+    slot.status = Status::Ready(n + 1);
+    slot.notes.clear();
+}
+
+/// The request is committed.
+pub fn commit(slot: &mut Slot)
+    ensures { slot.new ≡ committed_slot slot.old slot.old.status }
+{
+    if let Status::Executed(n) = slot.status {
+        slot.status = Status::Committed(n);
+    }
+}
+
+/// A publication. It answers whether the delta is as before. After want of memory the slot is as before.
+pub fn publish(
+    alloc: Global,
+    slot: &mut Slot,
+    n: u64,
+    finished: &Finished,
+    clock: u64,
+) -> Result<bool, AllocError>
+    requires { clock + 1 < 2 ^ 64 }
+    ensures ok { OnOk result (slot.new ≡ published_slot slot.old n finished.now clock) }
+    ensures same { IfOk result (λ same. same ≡ keeps_delta slot.old finished.now) }
+    ensures err { OnErr result (slot.new ≡ slot.old) }
+{
+    let same = slot.delta.is_same(&finished.delta);
+    let delta = finished.delta.copied(alloc)?;
+    if !same {
+        slot.changed = clock + 1;
+    }
+    slot.status = Status::Executed(n);
+    slot.delta = delta;
+    slot.version = n;
+    slot.reply = Some(finished.reply);
+    slot.estimate = false;
+    slot.pass = None;
+    slot.stamp = None;
+    Ok(same)
+}

@@ -1,0 +1,86 @@
+//! The check of one note: whether its read would be answered as before.
+ghost use Rattle.std.specs.Prelude.{◌≡◌, ◌≤◌, ◌↔◌, length, IsTrue, IfOk, Some};
+ghost use Rattle.reads.specs.Same.{list_eq};
+ghost use Rattle.block_machine.specs.Machine.{NoteReply, NoteVerdict, ListVerdict, NamesAnswer, pair_eq, verdict_reply};
+
+use crate::state::{Noted, Slot};
+use crate::version_overlay::{blocker, touching, view_before};
+use datasets::{Id, Read};
+use reads::View;
+use std::alloc::{AllocError, Global};
+
+/// What a check of a note finds.
+#[derive(Clone, Copy)]
+pub enum Verdict {
+    /// The answer now is the noted one.
+    Same,
+    /// It is another.
+    Changed,
+    /// An estimate of this lower request covers the read: the greatest such one.
+    Blocked(usize),
+}
+
+/// Compares a note's answer with the answer now, at request `i`.
+pub fn check(
+    alloc: Global,
+    base: &View,
+    slots: &[Slot],
+    i: usize,
+    note: &Noted,
+) -> Result<Verdict, AllocError>
+    requires within { i ≤ length slots.now }
+    requires names { NamesAnswer base.now slots.now i note.now }
+    ensures verdict { IfOk result (λ verdict. NoteVerdict base.now slots.now i note.now verdict) }
+    ensures reply { IfOk result (λ verdict. NoteReply base.now slots.now i (Some note.now) (verdict_reply verdict)) }
+{
+    if let Some(j) = blocker(slots, i, &note.read) {
+        return Ok(Verdict::Blocked(j));
+    }
+    let view = view_before(alloc, base, slots, i)?;
+    let now = view.answer(alloc, &note.read)?;
+    if note.answer.is_same(&now) {
+        Ok(Verdict::Same)
+    } else {
+        Ok(Verdict::Changed)
+    }
+}
+
+/// Compares a note's touching list with the list now, at request `i`: no answer is kept, and none is computed.
+pub fn check_list(
+    alloc: Global,
+    slots: &[Slot],
+    i: usize,
+    read: &Read<Id>,
+    list: &[(usize, u64)],
+) -> Result<Verdict, AllocError>
+    requires { i ≤ length slots.now }
+    ensures { IfOk result (λ verdict. ListVerdict slots.now i read.now list.now verdict) }
+{
+    if let Some(j) = blocker(slots, i, read) {
+        return Ok(Verdict::Blocked(j));
+    }
+    let now = touching(alloc, slots, i, read)?;
+    if is_same_list(list, now.as_slice()) {
+        Ok(Verdict::Same)
+    } else {
+        Ok(Verdict::Changed)
+    }
+}
+
+fn is_same_list(a: &[(usize, u64)], b: &[(usize, u64)]) -> bool
+    ensures { IsTrue result ↔ (a.now ≡ b.now) }
+{
+    same_lists(a, b)
+}
+
+fn same_lists(a: &[(usize, u64)], b: &[(usize, u64)]) -> bool
+    ensures { result ≡ list_eq pair_eq a.now b.now }
+{
+    match a {
+        [] => b.is_empty(),
+        [x, xs @ ..] => match b {
+            [] => false,
+            [y, ys @ ..] => x.0 == y.0 && x.1 == y.1 && same_lists(xs, ys),
+        },
+    }
+}
