@@ -1,0 +1,4 @@
+pub mod ManyLaws
+pub mod Instances
+pub mod Blocks
+pub mod Requests
