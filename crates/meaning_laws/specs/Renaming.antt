@@ -1,0 +1,91 @@
+-- Renaming terms, in quads, datasets and requests.
+use Rattle.std.specs.Prelude.{◌≡◌, ℕ, Bool, true, ◌&&◌, List, Option, Some, None, Ok, Err, map}
+use Rattle.std.specs.List.{list_all}
+use Rattle.std.specs.Option.{option_map}
+use Rattle.datasets.specs.Dataset.{Dataset}
+use Rattle.datasets.specs.declared.quad.Quad.{Quad}
+use Rattle.meaning.specs.Vocabulary.{Vocabulary}
+use Rattle.meaning.specs.Run.{Request, run}
+use Rattle.meaning.specs.declared.update.Slot.{Slot}
+use Rattle.meaning.specs.declared.update.Slot.TheVariants.{Term, Variable, Label}
+use Rattle.meaning.specs.declared.update.QuadTemplate.{QuadTemplate}
+use Rattle.meaning.specs.declared.update.Operation.{Operation}
+use Rattle.meaning.specs.declared.update.Operation.TheVariants.{InsertData}
+
+module _ {A B : Type 0} (f : A → B) where
+  abbrev pub renamed_quad : Quad A → Quad B
+  renamed_quad q = record { subject = f q.subject; predicate = f q.predicate; object = f q.object; graph = option_map f q.graph }
+
+  abbrev pub renamed : Dataset A → Dataset B
+  renamed d = record { quads = map renamed_quad d.quads; names = map f d.names }
+
+  abbrev pub renamed_slot : Slot A → Slot B
+  renamed_slot (Term t) = Term (f t)
+  renamed_slot (Variable v) = Variable v
+  renamed_slot (Label l) = Label l
+
+  abbrev pub renamed_template : QuadTemplate A → QuadTemplate B
+  renamed_template t = record {
+    subject = renamed_slot t.subject;
+    predicate = renamed_slot t.predicate;
+    object = renamed_slot t.object;
+    graph = option_map renamed_slot t.graph;
+  }
+
+  abbrev pub renamed_operation : Operation A → Operation B
+  renamed_operation (InsertData quads) = InsertData (map renamed_template quads)
+
+  abbrev pub renamed_request : Request A → Request B
+  renamed_request (Ok operations) = Ok (map renamed_operation operations)
+  renamed_request (Err refusal) = Err refusal
+
+-- whether all terms are among those that are renamed
+module _ {A : Type 0} (known : A → Bool) where
+  abbrev pub option_known : Option A → Bool
+  option_known None = true
+  option_known (Some x) = known x
+
+  abbrev pub quad_known : Quad A → Bool
+  quad_known q = known q.subject && (known q.predicate && (known q.object && option_known q.graph))
+
+  abbrev pub dataset_known : Dataset A → Bool
+  dataset_known d = list_all quad_known d.quads && list_all known d.names
+
+  abbrev pub slot_known : Slot A → Bool
+  slot_known (Term t) = known t
+  slot_known (Variable v) = true
+  slot_known (Label l) = true
+
+  abbrev pub graph_known : Option (Slot A) → Bool
+  graph_known None = true
+  graph_known (Some g) = slot_known g
+
+  abbrev pub template_known : QuadTemplate A → Bool
+  template_known t = slot_known t.subject && (slot_known t.predicate && (slot_known t.object && graph_known t.graph))
+
+  abbrev pub operation_known : Operation A → Bool
+  operation_known (InsertData quads) = list_all template_known quads
+
+  abbrev pub request_known : Request A → Bool
+  request_known (Ok operations) = list_all operation_known operations
+  request_known (Err refusal) = true
+
+-- the renaming keeps the order and the kinds of the known terms, and takes made nodes, which are known, to made nodes
+pub record IsRenaming {A B : Type 0} (V : Vocabulary A) (W : Vocabulary B) (f : A → B) (known : A → Bool) : Type 0 where
+  pub order : (x y : A) → known x ≡ true → known y ≡ true → W.order (f x) (f y) ≡ V.order x y
+  pub iris : (x : A) → known x ≡ true → W.is_iri (f x) ≡ V.is_iri x
+  pub literals : (x : A) → known x ≡ true → W.is_literal (f x) ≡ V.is_literal x
+  pub nodes : (request operation label rank : ℕ) → f (V.made request operation label rank) ≡ W.made request operation label rank
+  pub nodes_known : (request operation label rank : ℕ) → known (V.made request operation label rank) ≡ true
+
+-- the run of a renamed block on a renamed dataset is the renamed run, with the same replies, and its terms are known
+pub record IsRenamedRun {A B : Type 0} (V : Vocabulary A) (W : Vocabulary B) (f : A → B) (known : A → Bool) (requests : List (Request A)) (d : Dataset A) : Type 0 where
+  pub dataset : renamed f (run V requests d).0 ≡ (run W (map (renamed_request f) requests) (renamed f d)).0
+  pub replies : (run V requests d).1 ≡ (run W (map (renamed_request f) requests) (renamed f d)).1
+  pub known_after : dataset_known known (run V requests d).0 ≡ true
+
+abbrev pub CarriesRun : Type 0 → Type 0 → Type 0
+CarriesRun A B =
+    (V : Vocabulary A) (W : Vocabulary B) (f : A → B) (known : A → Bool) (requests : List (Request A)) (d : Dataset A)
+    → IsRenaming V W f known → list_all (request_known known) requests ≡ true → dataset_known known d ≡ true
+    → IsRenamedRun V W f known requests d

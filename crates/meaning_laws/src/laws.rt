@@ -1,0 +1,18 @@
+//! Each law is the contract of a function with an empty body.
+ghost use Rattle.meaning_laws.specs.Renaming.{CarriesRun};
+ghost use Rattle.meaning_laws.specs.Answers.{AnswersWithDatasets, GoesOnByOne};
+
+/// The run of a renamed block on a renamed dataset is the renamed run, with the same replies.
+pub fn run_is_renamed<A, B>()
+    ensures { CarriesRun A B }
+{}
+
+/// The answer to a request leaves a dataset where there was one.
+pub fn answers_with_datasets<K>()
+    ensures { AnswersWithDatasets K }
+{}
+
+/// The run of one request more is the run so far and the answer to that request.
+pub fn goes_on_by_one<K>()
+    ensures { GoesOnByOne K }
+{}
