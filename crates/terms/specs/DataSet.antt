@@ -1,0 +1,24 @@
+-- Datasets of terms (RDF 1.1 Concepts, section 4): a set of quads, and a set of graph names with the name of each quad's graph. A named
+-- graph may be empty.
+use Rattle.std.specs.Prelude.{List, Option, Some, None}
+use Rattle.sets.specs.Sets.{set_of, with}
+use Rattle.datasets.specs.declared.quad.Quad.{Quad}
+use Rattle.datasets.specs.Dataset.{Dataset, quad_order}
+use Rattle.terms.specs.declared.term.Term.{Term}
+use Rattle.terms.specs.Term.{term_order}
+
+-- the dataset of these quads and names
+abbrev pub dataset_of : List (Quad Term) → List Term → Dataset Term
+dataset_of quads names = record { quads = set_of (quad_order term_order) quads; names = set_of term_order names }
+
+abbrev pub with_name : Option Term → List Term → List Term
+with_name None names = names
+with_name (Some g) names = with term_order g names
+
+-- the dataset with one more quad, and with the name of its graph
+abbrev pub with_quad : Quad Term → Dataset Term → Dataset Term
+with_quad q d = record { quads = with (quad_order term_order) q d.quads; names = with_name q.graph d.names }
+
+-- the dataset with one more graph
+abbrev pub with_graph : Term → Dataset Term → Dataset Term
+with_graph g d = record d { names = with term_order g d.names }

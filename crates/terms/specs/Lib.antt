@@ -1,0 +1,6 @@
+pub mod Literal
+pub mod Parts
+pub mod Term
+pub mod TermLaws
+pub mod DataSet
+pub mod Canonical
