@@ -1,0 +1,63 @@
+//! The reader.
+ghost use Rattle.std.specs.Prelude.{◌≡◌, ◌+◌, ◌<◌, ◌^◌, IfOk, IsErrOf, IfErr, ℕ, OnOk, OnErr, Some, None, Ok};
+ghost use Rattle.datasets.specs.Dataset.{Dataset};
+ghost use Rattle.terms.specs.declared.term.Term.{Term};
+ghost use Rattle.nquads.specs.Lines.{lines};
+ghost use Rattle.nquads.specs.Spelled.{Spells, IsFirstBad};
+ghost use Rattle.nquads.specs.Reading.{line_of};
+ghost use Rattle.nquads.specs.Whole.{Faults, Reads, read_from, no_quads, keep};
+
+use crate::fault::BaseFault;
+use crate::line::line_of;
+use crate::lines::first_line;
+use crate::stop::{Line, Stop};
+use std::alloc::{AllocError, Global};
+use terms::DataSet;
+
+/// Puts what a line says into the dataset.
+fn keep(dataset: &mut DataSet, said: Line) -> Result<(), AllocError>
+    ensures ok { OnOk result (dataset.new ≡ keep dataset.old said) }
+{
+    match said {
+        Line::Nothing => Ok(()),
+        Line::Statement(quad) => dataset.add(quad),
+    }
+}
+
+/// What line says, where it has this number.
+fn said(alloc: Global, line: &[u8], number: usize) -> Result<Line, BaseFault>
+    ensures ok { IfOk result (λ said. line_of line.now ≡ Some said) }
+    ensures bad { IfErr result (λ e. Faults e number (line_of line.now)) }
+{
+    match line_of(alloc, line) {
+        Ok(said) => Ok(said),
+        Err(Stop::Memory) => Err(BaseFault::OutOfMemory),
+        Err(Stop::Bad) => Err(BaseFault::BadLine(number)),
+    }
+}
+
+fn read_lines(alloc: Global, bytes: &[u8]) -> Result<DataSet, BaseFault>
+    ensures { Reads result (read_from no_quads 0 (lines bytes.now)) }
+{
+    let mut dataset = DataSet::new(alloc);
+    let mut number = 0;
+    let mut rest = Some(bytes);
+    while let Some(text) = rest {
+        let (line, after) = first_line(text);
+        number += 1;
+        keep(&mut dataset, said(alloc, line, number)?)?;
+        rest = after;
+    }
+    Ok(dataset)
+}
+
+/// The dataset that the bytes spell.
+pub fn read(alloc: Global, bytes: &[u8]) -> Result<DataSet, BaseFault>
+    ensures spelled { IfOk result (λ d. Spells bytes.now d) }
+    // What is spelled is read, unless memory runs out.
+    ensures only { (d : Dataset Term) → Spells bytes.now d → Reads result (Ok d) }
+    // The first line that says nothing a line may say.
+    ensures bad { (n : ℕ) → IsErrOf result (BaseFault.BadLine n) → IsFirstBad bytes.now n }
+{
+    read_lines(alloc, bytes)
+}

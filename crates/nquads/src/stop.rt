@@ -1,0 +1,36 @@
+ghost use Rattle.std.specs.Prelude.{◌≡◌};
+ghost use Rattle.nquads.specs.declared.stop.Stop.TheVariants.{Memory};
+
+use datasets::Quad;
+use std::alloc::{AllocError, AllocFailed};
+use terms::Term;
+
+/// What a line says.
+#[derive(Drop)]
+pub enum Line {
+    Nothing,
+    Statement(Quad<Term>),
+}
+
+/// Why a line was not read.
+#[derive(Clone, Copy, Debug)]
+pub enum Stop {
+    Memory,
+    Bad,
+}
+
+impl From<AllocError> for Stop {
+    ghost from_gives = { λ _ e. e ≡ Memory };
+
+    fn from(_e: AllocError) -> Stop {
+        Stop::Memory
+    }
+}
+
+impl<T: Drop> From<AllocFailed<T>> for Stop {
+    ghost from_gives = { λ _ e. e ≡ Memory };
+
+    fn from(_e: AllocFailed<T>) -> Stop {
+        Stop::Memory
+    }
+}
