@@ -1,0 +1,17 @@
+use Rattle.std.proofs.Common.{rules, ◌≡◌, List, filter, sym, ap, ◌∙◌, subst}
+use Rattle.std.proofs.lemmas.Fn.{filter_same}
+use Rattle.sets.specs.Sets.{set_of}
+use Rattle.terms.specs.Term.{term_order}
+use Rattle.terms.specs.declared.term.Term.{Term}
+use Rattle.dict.specs.Dictionary.{is_written, IsDictionary}
+use Rattle.dict.proofs.Frozen.{frozen}
+use Rattle.dict.proofs.dictionary.Dict.freeze.Goals as goal
+
+pub returns : goal.returns
+returns c = c.set_of.ensures ∙ ap (set_of term_order) (filter_same _ is_written _ (λ x b f' k. search rules) _ _ c.retain.ensures.filtered)
+
+pub invariant_of-result : goal.invariant_of-result
+invariant_of-result c =
+    let items : c.set_of.result.items ≡ set_of term_order (filter is_written c.args.terms.items) =
+    c.set_of.ensures ∙ ap (set_of term_order) (filter_same _ is_written _ (λ x b f' k. search rules) _ _ c.retain.ensures.filtered) in
+    subst (λ (ts : List Term). IsDictionary ts) (sym items) (frozen c.args.terms.items)

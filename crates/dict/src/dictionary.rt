@@ -1,0 +1,124 @@
+//! A frozen dictionary.
+ghost use Rattle.std.specs.Prelude.{◌≡◌, true, false, length, filter, IfOk, IfSome, IfNone};
+ghost use Rattle.sets.specs.Sets.{set_of as the_set_of, has};
+ghost use Rattle.terms.specs.Term.{term_order};
+ghost use Rattle.dict.specs.Dictionary.{IsDictionary, is_written, is_known, term_of as the_term_of, numbers};
+
+use crate::search::place_of;
+use datasets::Id;
+use sets::set_of;
+use std::alloc::{AllocError, Global};
+use std::marker::Model;
+use terms::Term;
+
+/// Terms, each once and in their order. The number of a term is its place, counted from 0. A node that a request makes is in no
+/// dictionary: its number is the node itself. Contracts see the list of the terms.
+#[derive(Drop)]
+pub struct Dict {
+    terms: Vec<Term>,
+}
+
+impl Model for Dict {
+    ghost use Rattle.std.specs.Prelude.{List};
+    ghost use Rattle.terms.specs.declared.term.Term.{Term};
+    ghost use Rattle.dict.specs.Dictionary.{IsDictionary};
+
+    ghost Value = { List Term };
+
+    ghost view = { λ d. d.terms.items };
+
+    ghost invariant = { λ d. IsDictionary d.terms.items };
+}
+
+impl Dict {
+    /// The dictionary of these terms, in any order and with doubles. Made nodes are left out. It takes no memory.
+    pub fn freeze(mut terms: Vec<Term>) -> Dict
+        ensures { result ≡ the_set_of term_order (filter is_written terms.items) }
+    {
+        terms.retain(|term| is_written(term));
+        Dict {
+            terms: set_of(terms),
+        }
+    }
+
+    /// How many terms it has.
+    pub fn len(&self) -> usize
+        ensures number { result ≡ length self.now }
+        ensures form { IsDictionary self.now }
+    {
+        self.terms.len()
+    }
+
+    /// The number of a term, or nothing where the dictionary lacks it. It takes no memory.
+    pub fn id_of(&self, term: &Term) -> Option<Id>
+        ensures known { IfSome result (λ id. is_known self.now id ≡ true) }
+        ensures found { IfSome result (λ id. the_term_of self.now id ≡ term.now) }
+        ensures written { IfNone result (is_written term.now ≡ true) }
+        ensures none { IfNone result (has term_order self.now term.now ≡ false) }
+    {
+        match term {
+            Term::Made {
+                request,
+                op,
+                label,
+                rank,
+            } => Some(Id::Made {
+                request: *request,
+                op: *op,
+                label: *label,
+                rank: *rank,
+            }),
+            _ => place_of(self.terms.as_slice(), term).map(|place| Id::Known(place)),
+        }
+    }
+
+    /// The term of a number.
+    pub fn term_of(&self, alloc: Global, id: Id) -> Result<Term, AllocError>
+        requires { is_known self.now id ≡ true }
+        ensures { IfOk result (λ term. term ≡ the_term_of self.now id) }
+    {
+        match id {
+            Id::Known(place) => self.terms[place].copied(alloc),
+            Id::Made {
+                request,
+                op,
+                label,
+                rank,
+            } => Ok(Term::Made {
+                request,
+                op,
+                label,
+                rank,
+            }),
+        }
+    }
+
+    /// Whether the term of a number is an IRI.
+    pub fn is_iri(&self, id: Id) -> bool
+        requires { is_known self.now id ≡ true }
+        ensures { result ≡ (numbers self.now).is_iri id }
+    {
+        match id {
+            Id::Known(place) => matches!(&self.terms[place], Term::Iri(_)),
+            Id::Made { .. } => false,
+        }
+    }
+
+    /// Whether the term of a number is a literal.
+    pub fn is_literal(&self, id: Id) -> bool
+        requires { is_known self.now id ≡ true }
+        ensures { result ≡ (numbers self.now).is_literal id }
+    {
+        match id {
+            Id::Known(place) => matches!(&self.terms[place], Term::Literal(_)),
+            Id::Made { .. } => false,
+        }
+    }
+}
+
+/// Whether a term was written, and not made by a request.
+fn is_written(term: &Term) -> bool
+    ensures { result ≡ is_written term.now }
+{
+    !matches!(term, Term::Made { .. })
+}
