@@ -5,15 +5,14 @@ use Rattle.std.proofs.lemmas.Bool.{cases_lt, cases_eq}
 use Rattle.std.proofs.lemmas.List.{get_or-replicate, get_or_past}
 use Rattle.std.proofs.Math.ListN.{length-replicate}
 use Rattle.datasets.specs.declared.read.Read.TheVariants.{Scan, GraphIs, Graphs}
-use Rattle.datasets.specs.Id.{id_order, id_total, id_exact}
+use Rattle.datasets.specs.Id.{id_order}
 use Rattle.change_laws.specs.Laws.{IsRising}
-use Rattle.change_laws.proofs.ChangeLaws.{uncovered_keeps, same_after, rises_after}
 use Rattle.reads.specs.Reads.{View, Delta, Read, says, applied, covers, no_change}
 use Rattle.block_machine.specs.declared.state.Status.{Status}
 use Rattle.block_machine.specs.declared.state.Status.TheVariants.{Ready, Executing, Executed, Committed as HasCommitted}
 use Rattle.block_machine.specs.declared.state.Noted.{Noted}
 use Rattle.block_machine.specs.declared.state.Pass.{Pass}
-use Rattle.block_machine.specs.declared.state.Finished.{Finished}
+use Rattle.reads.specs.declared.finished.Finished.{Finished}
 use Rattle.block_machine.specs.declared.state.Slot.{Slot}
 use Rattle.block_machine.specs.declared.state.Event.{Event}
 use Rattle.block_machine.specs.declared.state.Event.TheVariants.{Take, Read as ReadOf, Publish, Begin, Check, Commit, GiveUp}
@@ -25,22 +24,9 @@ use Rattle.block_machine.specs.declared.state.Entry.{Entry}
 use Rattle.block_machine.specs.Machine.{State, fresh_slot, fresh, slot_at, status_of, view_at, touching, is_closed, can_commit, IsAllowed, after, state_after, with_note, published, begun, passed, committed, NamesAnswer, NextNamesAnswer, NoteReply, ListVerdict, verdict_reply}
 use Rattle.block_machine.specs.Archive.{Archive, along, filed_at, archive_with, nothing_filed, archive_after, archive_of}
 use Rattle.block_machine.specs.Serial.{Setting, IsSetting, LawfulFrom, IsHistory}
+use Rattle.block_machine.proofs.Overlay.{uncovered, depends, view_rises}
 use Rattle.block_machine.proofs.Slots.{set_same, set_other, status_within}
 use Rattle.block_machine.proofs.Theorem.{unless_execution, unless_executed, take_ready, commit_can, open_is}
-
--- THE LAWS OF CHANGES, AT NUMBERS OF TERMS
-
-uncovered : (c : Delta) (v : View) (r : Read) → IsRising id_order v → covers c r ≡ false → says r (applied c v) ≡ says r v
-unfolding says applied covers
-uncovered c v r rising h = uncovered_keeps id_total id_exact c v r rising h
-
-depends : (c : Delta) (v w : View) (r : Read) → says r v ≡ says r w → says r (applied c v) ≡ says r (applied c w)
-unfolding says applied
-depends c v w r h = same_after id_total id_exact c v w r h
-
-rises : (c : Delta) (v : View) → IsRising id_order (applied c v)
-unfolding applied
-rises c v = rises_after id_total id_exact c v
 
 covers_none : (r : Read) → covers no_change r ≡ false
 unfolding covers
@@ -110,11 +96,6 @@ note_at base archive slots (x ∷ xs) (suc k) n a e = note_at base archive slots
 -- WHAT A TOUCHING LIST NAMES
 
 module _ (base : View) (rising : IsRising id_order base) (archive : Archive) (slots : List Slot) (each : Archived base archive slots) where
-  view_rises : (i : ℕ) → IsRising id_order (view_at base slots i)
-  unfolding view_at
-  view_rises zero = rising
-  view_rises (suc i) = rises (slot_at slots i).delta (view_at base slots i)
-
   -- a delta that covers a read is in the archive
   covering : (j : ℕ) (read : Read) → covers (slot_at slots j).delta read ≡ true → (archive j (slot_at slots j).version ≡ (slot_at slots j).delta) × ((slot_at slots j).version < next_of (slot_at slots j).status)
   covering j read e = go (each j).delta
@@ -131,7 +112,7 @@ module _ (base : View) (rising : IsRising id_order base) (archive : Archive) (sl
       ∙ ap (λ (c : Delta). says read (applied c (along archive base ts))) (sym (covering i read e).0)
       ∙ ap (λ (v : View). says read v) (sym (along_append archive base ts (i, (slot_at slots i).version)))
   named_next i read before false e =
-      uncovered (slot_at slots i).delta (view_at base slots i) read (view_rises i) e
+      uncovered (slot_at slots i).delta (view_at base slots i) read (view_rises base slots rising i) e
       ∙ before
       ∙ ap (λ (ts : List (ℕ × ℕ)). says read (along archive base ts)) (sym (append_none (touching slots i read)))
 

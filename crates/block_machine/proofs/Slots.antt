@@ -9,7 +9,8 @@ use Rattle.block_machine.specs.declared.state.Status.{Status}
 use Rattle.block_machine.specs.declared.state.Noted.{Noted}
 use Rattle.block_machine.specs.declared.state.Slot.{Slot}
 use Rattle.block_machine.specs.Machine.{fresh_slot, slot_at, status_of, view_at, is_current, transcript_of}
-use Rattle.block_machine.specs.Serial.{replies_to, Agrees}
+use Rattle.reads.specs.Runs.{Agrees}
+use Rattle.block_machine.specs.Serial.{replies_to}
 
 pub set_same : (slots : List Slot) (i : ℕ) (x : Slot) → i < length slots → slot_at (slice_set slots i x) i ≡ x
 set_same slots i x h = get_or-set_same slots i x fresh_slot h

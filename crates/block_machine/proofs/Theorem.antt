@@ -10,7 +10,7 @@ use Rattle.block_machine.specs.declared.state.Status.{Status}
 use Rattle.block_machine.specs.declared.state.Status.TheVariants.{Ready, Executing, Executed, Committed as HasCommitted}
 use Rattle.block_machine.specs.declared.state.Noted.{Noted}
 use Rattle.block_machine.specs.declared.state.Pass.{Pass}
-use Rattle.block_machine.specs.declared.state.Finished.{Finished}
+use Rattle.reads.specs.declared.finished.Finished.{Finished}
 use Rattle.block_machine.specs.declared.state.Slot.{Slot}
 use Rattle.block_machine.specs.declared.state.Event.{Event}
 use Rattle.block_machine.specs.declared.state.Event.TheVariants.{Take, Read as ReadOf, Publish, Begin, Check, Commit, GiveUp}
@@ -18,7 +18,8 @@ use Rattle.block_machine.specs.declared.state.Reply.{Reply}
 use Rattle.block_machine.specs.declared.state.Reply.TheVariants.{Taken, Answered, Published, Begun, Passed, Aborted, Committed, Given, Stale, NotYours, NotYet}
 use Rattle.block_machine.specs.declared.state.Entry.{Entry}
 use Rattle.block_machine.specs.Machine.{State, fresh_slot, fresh, slot_at, status_of, view_at, is_current, is_closed, is_executed, is_stamped, can_commit, commit_reply, execution_refusal, executed_refusal, Unless, TakeReply, NoteReply, CheckReply, IsAllowed, keeps_delta, taken, begun, passed, aborted, committed, after, state_after, transcript_of}
-use Rattle.block_machine.specs.Serial.{Agrees, Setting, IsSetting, dataset_after, replies_after, IsSound, IsSoundEntry, IsLawful, LawfulFrom, IsHistory, replies_to, FrontIsSerial}
+use Rattle.reads.specs.Runs.{Agrees, IsSoundFor}
+use Rattle.block_machine.specs.Serial.{Setting, IsSetting, dataset_after, replies_after, IsSound, IsSoundEntry, IsLawful, LawfulFrom, IsHistory, replies_to, FrontIsSerial}
 use Rattle.block_machine.proofs.Slots.{set_same, set_other, status_within, view_below, replies_below, is_current-Clear, Known, known_more, known_agrees}
 use Rattle.block_machine.proofs.Invariant.{is_done, Holds, Ran, PassHolds, StampHolds, SlotHolds, InOrder, Invariant, Steady, slot_steady, each_replaced, replaced}
 
@@ -297,7 +298,7 @@ module _ (m : Setting) (s : State) (inv : Invariant m s) where
 
   -- a request at the front whose notes are known has its answer
   front_answer : IsSetting m → (x : Slot) → Ran m s.front x → Known (view_at m.base s.slots s.front) (length x.notes) x.notes → (applied x.delta (view_at m.base s.slots s.front) ≡ dataset_after m (suc s.front)) × (replies_to s.slots s.front ++ option_to_list x.reply ≡ replies_after m (suc s.front))
-  unfolding dataset_after replies_after IsSound
+  unfolding dataset_after replies_after IsSoundFor
   front_answer ok x ran known =
       let d = view_at m.base s.slots s.front in
       let same = inv.serial.dataset in

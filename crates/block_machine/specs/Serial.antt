@@ -1,9 +1,9 @@
 -- One request after another, and the histories of the machine that are held to it.
 use Rattle.std.specs.Prelude.{◌≡◌, ℕ, zero, suc, List, [], ◌∷◌, ◌++◌, Some, option_to_list}
-use Rattle.reads.specs.Reads.{View, says, applied, IsDataset}
-use Rattle.reads.specs.declared.note.Note.{Note}
+use Rattle.reads.specs.Reads.{View, IsDataset}
+use Rattle.reads.specs.Runs.{IsSoundFor}
 use Rattle.meaning.specs.declared.reply.Reply as request
-use Rattle.block_machine.specs.declared.state.Finished.{Finished}
+use Rattle.reads.specs.declared.finished.Finished.{Finished}
 use Rattle.block_machine.specs.declared.state.Slot.{Slot}
 use Rattle.block_machine.specs.declared.state.Event.{Event}
 use Rattle.block_machine.specs.declared.state.Event.TheVariants.{Publish}
@@ -33,16 +33,9 @@ unfoldable pub replies_after : Setting → ℕ → List request.Reply
 replies_after m zero = []
 replies_after m (suc n) = replies_after m n ++ (m.answer n (dataset_after m n)).1 ∷ []
 
--- each answer is what its read says of the view
-abbrev pub Agrees : List Note → View → Type 0
-Agrees [] v = Unit {0}
-Agrees (n ∷ ns) v = (n.answer ≡ says n.read v) × Agrees ns v
-
--- for every dataset that its transcript agrees with, a finished run has the request's dataset and reply
-unfoldable pub IsSound : Setting → ℕ → Finished → Type 0
-IsSound m i finished =
-    (d : View) → IsDataset d → Agrees finished.transcript d
-    → (applied finished.delta d ≡ (m.answer i d).0) × (finished.reply ≡ (m.answer i d).1)
+-- a finished run is sound for the request at this place
+abbrev pub IsSound : Setting → ℕ → Finished → Type 0
+IsSound m i finished = IsSoundFor (m.answer i) finished
 
 -- a published run is sound
 abbrev pub IsSoundEntry : Setting → Event → Reply → Type 0

@@ -14,5 +14,5 @@ pub mod validate;
 pub mod version_overlay;
 
 pub use machine::Machine;
-pub use state::{Entry, Event, Finished, Noted, Pass, Reply, Slot, Status};
+pub use state::{Entry, Event, Noted, Pass, Reply, Slot, Status};
 pub use validate::Verdict;

@@ -4,13 +4,13 @@ ghost use Rattle.reads.specs.Reads.{View as Base};
 ghost use Rattle.block_machine.specs.Serial.{replies_to};
 ghost use Rattle.block_machine.specs.Machine.{fresh, view_at, slot_at, note_now, transcript_eq, can_commit, transcript_of, CheckVerdict, NextNamesAnswer, status_of, HasNext, IsReady, IsPlain, IsAllowed, after};
 
-use crate::state::{Event, Finished, Noted, Reply, Slot, Status};
+use crate::state::{Event, Noted, Reply, Slot, Status};
 use crate::validate::{self, Verdict};
-use crate::version_overlay::{blocker, is_stamped, touching, view_before};
+use crate::version_overlay::{answer_before, blocker, is_stamped, touching, view_before};
 use crate::{incarnations, slot};
 use datasets::{Id, Read};
 use reads::same::same_reads;
-use reads::{Note, View};
+use reads::{Finished, Note, View};
 use std::alloc::{AllocError, Global};
 use std::marker::Model;
 
@@ -345,8 +345,7 @@ fn noted(
     requires { i ≤ length slots.now }
     ensures { IfOk result (λ note. note ≡ note_now base.now slots.now i read.now) }
 {
-    let view = view_before(alloc, base, slots, i)?;
-    let answer = view.answer(alloc, read)?;
+    let answer = answer_before(alloc, base, slots, i, read)?;
     let touching = touching(alloc, slots, i, read)?;
     Ok(Noted {
         read: *read,

@@ -1,7 +1,7 @@
 //! What the machine keeps of each request, the events of workers, and what it replies to them.
 
 use datasets::{Id, Read};
-use reads::{Answered, Delta, Note};
+use reads::{Answered, Delta, Finished};
 use sets::Items;
 
 /// A request's incarnation, counted from 0, and how far it has come.
@@ -27,14 +27,6 @@ pub struct Noted {
     pub read: Read<Id>,
     pub answer: Answered,
     pub touching: Items<(usize, u64)>,
-}
-
-/// A finished run of a request: what it read and was answered, in order, the change that it makes, and the reply to the request.
-#[derive(Drop)]
-pub struct Finished {
-    pub transcript: Items<Note>,
-    pub delta: Delta,
-    pub reply: meaning::Reply,
 }
 
 /// One request's part of the machine.

@@ -4,7 +4,7 @@ ghost use Rattle.reads.specs.Same.{list_eq};
 ghost use Rattle.block_machine.specs.Machine.{NoteReply, NoteVerdict, ListVerdict, NamesAnswer, pair_eq, verdict_reply};
 
 use crate::state::{Noted, Slot};
-use crate::version_overlay::{blocker, touching, view_before};
+use crate::version_overlay::{answer_before, blocker, touching};
 use datasets::{Id, Read};
 use reads::View;
 use std::alloc::{AllocError, Global};
@@ -36,8 +36,7 @@ pub fn check(
     if let Some(j) = blocker(slots, i, &note.read) {
         return Ok(Verdict::Blocked(j));
     }
-    let view = view_before(alloc, base, slots, i)?;
-    let now = view.answer(alloc, &note.read)?;
+    let now = answer_before(alloc, base, slots, i, &note.read)?;
     if note.answer.is_same(&now) {
         Ok(Verdict::Same)
     } else {

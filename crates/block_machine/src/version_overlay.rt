@@ -1,10 +1,13 @@
 //! What the requests below one have published: the view that their deltas make, their estimates, and their changes.
-ghost use Rattle.std.specs.Prelude.{◌≡◌, ◌≤◌, length, IfOk};
+ghost use Rattle.std.specs.Prelude.{◌≡◌, ◌≤◌, ◌<◌, suc, length, IfOk};
+ghost use Rattle.datasets.specs.Id.{id_order};
+ghost use Rattle.change_laws.specs.Laws.{IsRising};
+ghost use Rattle.reads.specs.Reads.{says};
 ghost use Rattle.block_machine.specs.Machine.{view_at, blocker as blocker_of, touching as touching_of, is_current as is_current_at, is_stamped as stamped};
 
 use crate::state::Slot;
 use datasets::{Id, Read};
-use reads::View;
+use reads::{Answered, View};
 use sets::Items;
 use std::alloc::{AllocError, Global};
 
@@ -19,6 +22,49 @@ pub fn view_before(alloc: Global, base: &View, slots: &[Slot], i: usize) -> Resu
         view = slots[j].delta.apply(alloc, view)?;
     }
     Ok(view)
+}
+
+/// What the read says of the base with the deltas of the requests below `i`. It copies only what the read asks for.
+#[tactic(auto, using(crate::proofs::Overlay::starts))]
+pub fn answer_before(
+    alloc: Global,
+    base: &View,
+    slots: &[Slot],
+    i: usize,
+    read: &Read<Id>,
+) -> Result<Answered, AllocError>
+    requires { i ≤ length slots.now }
+    ensures { IfOk result (λ answer. answer ≡ says read.now (view_at base.now slots.now i)) }
+{
+    base.rises();
+    let mut part = base.asked(alloc, read)?;
+    for j in 0..i {
+        part = applied_part(alloc, base, slots, j, read, part)?;
+    }
+    part.answer(alloc, read)
+}
+
+// One delta more, where it covers the read.
+#[tactic(auto, using(crate::proofs::Overlay::next_covered, crate::proofs::Overlay::next_uncovered))]
+fn applied_part(
+    alloc: Global,
+    base: &View,
+    slots: &[Slot],
+    j: usize,
+    read: &Read<Id>,
+    part: View,
+) -> Result<View, AllocError>
+    requires within { j < length slots.now }
+    requires rising { IsRising id_order base.now }
+    requires alike { says read.now part ≡ says read.now (view_at base.now slots.now j) }
+    ensures { IfOk result (λ next. says read.now next ≡ says read.now (view_at base.now slots.now (suc j))) }
+{
+    let delta = &slots[j].delta;
+    if delta.covers(read) {
+        delta.asked(alloc, read)?.apply(alloc, part)
+    } else {
+        Ok(part)
+    }
 }
 
 /// The greatest request below `i` that is an estimate and whose delta covers the read.

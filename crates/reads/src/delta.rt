@@ -1,20 +1,20 @@
 //! Changes at numbers of terms: what they speak of, and what they make of a dataset.
-ghost use Rattle.std.specs.Prelude.{◌≡◌, ◌↔◌, IsTrue, IfOk, true, ◌||◌};
+ghost use Rattle.std.specs.Prelude.{◌≡◌, IfOk, [], filter, true, ◌||◌};
 ghost use Rattle.std.specs.List.{list_any};
 ghost use Rattle.sets.specs.Sets.{has, without, union, set_of as the_set_of};
 ghost use Rattle.datasets.specs.Id.{id_order};
 ghost use Rattle.datasets.specs.Dataset.{quad_order, matches};
-ghost use Rattle.reads.specs.Reads.{applied, covers as the_covers, no_change};
+ghost use Rattle.reads.specs.Reads.{View as Dataset, says, applied, covers as the_covers, no_change};
 ghost use Rattle.reads.specs.Same.{delta_eq};
 
 use crate::lists::{
     copied_names, copied_quads, has_name, has_names, names_union, names_without, quads_union,
     quads_without,
 };
-use crate::matching::is_any_matching;
+use crate::matching::{is_any_matching, matching};
 use crate::same::{same_names, same_quads};
 use crate::view::View;
-use datasets::{Id, Quad, Read};
+use datasets::{Id, Quad, QuadPattern, Read};
 use sets::set_of;
 use std::alloc::{AllocError, Global};
 use std::marker::Model;
@@ -109,6 +109,45 @@ impl Delta {
             }
             Read::GraphIs(name) => has_name(&self.there, name) || has_name(&self.gone, name),
             Read::Graphs => has_names(&self.there) || has_names(&self.gone),
+        }
+    }
+
+    // Of the quads, those that match.
+    fn matching_part(&self, alloc: Global, pattern: &QuadPattern<Id>) -> Result<Delta, AllocError>
+        ensures { IfOk result (λ part. part ≡ record { present = filter (matches id_order pattern.now) self.now.present; absent = filter (matches id_order pattern.now) self.now.absent; there = []; gone = [] }) }
+    {
+        let present = matching(alloc, pattern, &self.present)?;
+        let absent = matching(alloc, pattern, &self.absent)?;
+        Ok(Delta {
+            present,
+            absent,
+            there: Vec::new(alloc),
+            gone: Vec::new(alloc),
+        })
+    }
+
+    // The graphs.
+    fn names_part(&self, alloc: Global) -> Result<Delta, AllocError>
+        ensures { IfOk result (λ part. part ≡ record { present = []; absent = []; there = self.now.there; gone = self.now.gone }) }
+    {
+        let there = copied_names(alloc, &self.there)?;
+        let gone = copied_names(alloc, &self.gone)?;
+        Ok(Delta {
+            present: Vec::new(alloc),
+            absent: Vec::new(alloc),
+            there,
+            gone,
+        })
+    }
+
+    /// The part of the change that the read asks for: what the read says after the part is what it says after the whole.
+    pub fn asked(&self, alloc: Global, read: &Read<Id>) -> Result<Delta, AllocError>
+        ensures { IfOk result (λ part. (d : Dataset) → says read.now (applied part d) ≡ says read.now (applied self.now d)) }
+    {
+        match read {
+            Read::Scan(pattern) => self.matching_part(alloc, pattern),
+            Read::GraphIs(_) => self.names_part(alloc),
+            Read::Graphs => self.names_part(alloc),
         }
     }
 

@@ -1,5 +1,5 @@
 //! Lists of quads and of graph names as sets: members, differences, unions, copies.
-ghost use Rattle.std.specs.Prelude.{◌≡◌, ◌++◌, IfOk, filter, not, true};
+ghost use Rattle.std.specs.Prelude.{◌≡◌, ◌++◌, ◌∷◌, [], IfOk, filter, not, true, if◌then◌else◌};
 ghost use Rattle.std.specs.List.{list_any};
 ghost use Rattle.sets.specs.Sets.{has, without, union};
 ghost use Rattle.datasets.specs.Id.{id_order};
@@ -42,6 +42,17 @@ pub fn copied_names(alloc: Global, names: &[Id]) -> Result<Vec<Id>, AllocError>
     ensures { IfOk result (λ copy. copy.items ≡ names.now) }
 {
     names.iter().copied().collect(alloc)
+}
+
+/// The name alone, or nothing.
+pub fn name_if(alloc: Global, so: bool, name: &Id) -> Result<Vec<Id>, AllocError>
+    ensures { IfOk result (λ names. names.items ≡ (if so then name.now ∷ [] else [])) }
+{
+    let mut names = Vec::new(alloc);
+    if so {
+        names.push(*name)?;
+    }
+    Ok(names)
 }
 
 /// The quads that are none of the others.

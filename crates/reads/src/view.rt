@@ -1,19 +1,20 @@
 //! Datasets at numbers of terms, and what a read says of one.
-ghost use Rattle.std.specs.Prelude.{◌≡◌, IfOk};
-ghost use Rattle.sets.specs.Sets.{set_of as the_set_of};
+ghost use Rattle.std.specs.Prelude.{◌≡◌, IfOk, [], ◌∷◌, filter, if◌then◌else◌};
+ghost use Rattle.sets.specs.Sets.{has, set_of as the_set_of};
 ghost use Rattle.datasets.specs.Id.{id_order};
-ghost use Rattle.datasets.specs.Dataset.{quad_order, Quads, Is, Names};
+ghost use Rattle.datasets.specs.Dataset.{quad_order, matches, Quads, Is, Names};
+ghost use Rattle.change_laws.specs.Laws.{IsRising};
 ghost use Rattle.reads.specs.Reads.{says};
 
 use crate::answered::Answered;
-use crate::lists::{copied_names, copied_quads, has_name};
+use crate::lists::{copied_names, copied_quads, has_name, name_if};
 use crate::matching::matching;
-use datasets::{Answer, Id, Quad, Read};
+use datasets::{Answer, Id, Quad, QuadPattern, Read};
 use sets::set_of;
 use std::alloc::{AllocError, Global};
 use std::marker::Model;
 
-/// A dataset, or what changes made of one: a set of quads and a set of graph names.
+/// A dataset, or what changes made of one: a set of quads and a set of graph names. A quad's graph need not be named.
 #[derive(Drop)]
 pub struct View {
     pub(crate) quads: Vec<Quad<Id>>,
@@ -23,10 +24,14 @@ pub struct View {
 impl Model for View {
     ghost use Rattle.datasets.specs.Dataset.{Dataset};
     ghost use Rattle.datasets.specs.declared.id.Id.{Id};
+    ghost use Rattle.datasets.specs.Id.{id_order};
+    ghost use Rattle.change_laws.specs.Laws.{IsRising};
 
     ghost Value = { Dataset Id };
 
     ghost view = { λ d. record { quads = d.quads.items; names = d.names.items } };
+
+    ghost invariant = { λ d. IsRising id_order (record { quads = d.quads.items; names = d.names.items }) };
 }
 
 impl View {
@@ -62,6 +67,58 @@ impl View {
         let quads = copied_quads(alloc, &self.quads)?;
         let names = copied_names(alloc, &self.names)?;
         Ok(View { quads, names })
+    }
+
+    /// Its quads and its names are sets.
+    pub fn rises(&self)
+        ensures { IsRising id_order self.now }
+    {
+        let _ = &self.quads;
+    }
+
+    // The quads that match.
+    fn matching_part(&self, alloc: Global, pattern: &QuadPattern<Id>) -> Result<View, AllocError>
+        ensures { IfOk result (λ part. part ≡ record { quads = filter (matches id_order pattern.now) self.now.quads; names = [] }) }
+    {
+        let quads = matching(alloc, pattern, &self.quads)?;
+        Ok(View {
+            quads,
+            names: Vec::new(alloc),
+        })
+    }
+
+    // The name alone, if it is there.
+    fn name_part(&self, alloc: Global, name: &Id) -> Result<View, AllocError>
+        ensures { IfOk result (λ part. part ≡ record { quads = []; names = if has id_order self.now.names name.now then name.now ∷ [] else [] }) }
+    {
+        let is_there = has_name(&self.names, name);
+        let names = name_if(alloc, is_there, name)?;
+        Ok(View {
+            quads: Vec::new(alloc),
+            names,
+        })
+    }
+
+    // The names.
+    fn names_part(&self, alloc: Global) -> Result<View, AllocError>
+        ensures { IfOk result (λ part. part ≡ record { quads = []; names = self.now.names }) }
+    {
+        let names = copied_names(alloc, &self.names)?;
+        Ok(View {
+            quads: Vec::new(alloc),
+            names,
+        })
+    }
+
+    /// The part of the dataset that the read asks for: what it says of the part is what it says of the whole.
+    pub fn asked(&self, alloc: Global, read: &Read<Id>) -> Result<View, AllocError>
+        ensures { IfOk result (λ part. says read.now part ≡ says read.now self.now) }
+    {
+        match read {
+            Read::Scan(pattern) => self.matching_part(alloc, pattern),
+            Read::GraphIs(name) => self.name_part(alloc, name),
+            Read::Graphs => self.names_part(alloc),
+        }
     }
 
     /// What the read says of the dataset.

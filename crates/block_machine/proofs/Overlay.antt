@@ -1,0 +1,43 @@
+-- What a read says of the view of a request, without the whole view.
+use Rattle.std.proofs.Common.{◌≡◌, ℕ, zero, suc, false, List, ap, sym, ◌∙◌}
+use Rattle.datasets.specs.Id.{id_order, id_total, id_exact}
+use Rattle.change_laws.specs.Laws.{IsRising}
+use Rattle.change_laws.proofs.ChangeLaws.{uncovered_keeps, same_after, rises_after}
+use Rattle.reads.specs.Reads.{View, Delta, Read, says, applied, covers}
+use Rattle.block_machine.specs.declared.state.Slot.{Slot}
+use Rattle.block_machine.specs.Machine.{slot_at, view_at}
+
+-- THE LAWS OF CHANGES, AT NUMBERS OF TERMS
+
+pub uncovered : (c : Delta) (v : View) (r : Read) → IsRising id_order v → covers c r ≡ false → says r (applied c v) ≡ says r v
+unfolding says applied covers
+uncovered c v r rising h = uncovered_keeps id_total id_exact c v r rising h
+
+pub depends : (c : Delta) (v w : View) (r : Read) → says r v ≡ says r w → says r (applied c v) ≡ says r (applied c w)
+unfolding says applied
+depends c v w r h = same_after id_total id_exact c v w r h
+
+pub rises : (c : Delta) (v : View) → IsRising id_order (applied c v)
+unfolding applied
+rises c v = rises_after id_total id_exact c v
+
+module _ (base : View) (slots : List Slot) where
+  pub view_rises : IsRising id_order base → (i : ℕ) → IsRising id_order (view_at base slots i)
+  unfolding view_at
+  view_rises rising zero = rising
+  view_rises rising (suc i) = rises (slot_at slots i).delta (view_at base slots i)
+
+  pub starts : (r : Read) (part : View) → says r part ≡ says r base → says r part ≡ says r (view_at base slots 0)
+  unfolding view_at
+  starts r part h = h
+
+  module _ (j : ℕ) (r : Read) (c : Delta) (is : c ≡ (slot_at slots j).delta) (part : View) (alike : says r part ≡ says r (view_at base slots j)) where
+    pub next_covered : (asked : Delta) (next : View) → ((d : View) → says r (applied asked d) ≡ says r (applied c d)) → next ≡ applied asked part → says r next ≡ says r (view_at base slots (suc j))
+    unfolding view_at
+    next_covered asked next same e =
+        ap (λ v. says r v) e ∙ same part ∙ depends c part (view_at base slots j) r alike ∙ ap (λ d. says r (applied d (view_at base slots j))) is
+
+    pub next_uncovered : IsRising id_order base → covers c r ≡ false → says r part ≡ says r (view_at base slots (suc j))
+    unfolding view_at
+    next_uncovered rising e =
+        alike ∙ sym (uncovered c (view_at base slots j) r (view_rises rising j) e) ∙ ap (λ d. says r (applied d (view_at base slots j))) is

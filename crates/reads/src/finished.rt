@@ -1,0 +1,34 @@
+//! Finished runs of requests.
+ghost use Rattle.std.specs.Prelude.{◌≡◌, IfOk};
+
+use crate::delta::Delta;
+use crate::note::Note;
+use sets::Items;
+use std::alloc::{AllocError, Global};
+
+/// A finished run of a request: what it read and was answered, in order, the change that it makes, and the reply to the request.
+/// Specs/Runs.antt says when it is sound.
+#[derive(Drop)]
+pub struct Finished {
+    pub transcript: Items<Note>,
+    pub delta: Delta,
+    pub reply: meaning::Reply,
+}
+
+impl Finished {
+    /// The same again.
+    pub fn copied(&self, alloc: Global) -> Result<Finished, AllocError>
+        ensures { IfOk result (λ copy. copy ≡ self.now) }
+    {
+        let mut notes = Vec::new(alloc);
+        for note in self.transcript.as_slice() {
+            notes.push(note.copied(alloc)?)?;
+        }
+        let delta = self.delta.copied(alloc)?;
+        Ok(Finished {
+            transcript: Items::from_vec(notes),
+            delta,
+            reply: self.reply,
+        })
+    }
+}
