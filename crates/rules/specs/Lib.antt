@@ -1,0 +1,4 @@
+pub mod Names
+pub mod Translation
+pub mod Refusal
+pub mod Reading
