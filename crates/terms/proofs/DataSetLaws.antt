@@ -17,7 +17,7 @@ use Rattle.datasets.specs.Id.{quad_exact, quad_total}
 use Rattle.terms.specs.declared.term.Term.{Term}
 use Rattle.terms.specs.Term.{term_order}
 use Rattle.terms.specs.TermLaws.{term_total, term_exact}
-use Rattle.terms.specs.DataSet.{dataset_of, with_name, with_quad, with_graph}
+use Rattle.terms.specs.DataSet.{is_named, in_named, dataset_of, with_name, with_quad, with_graph}
 
 or_last : (a b : Bool) → (a || (b || false)) ≡ (b || a)
 or_last true true = refl
@@ -65,20 +65,12 @@ module _ {A : Type 0} {R : A → A → Ordering} (o : IsTotalOrder R) (exact : (
   any-set_of p [] = refl
   any-set_of p (x ∷ xs) = any-with p x (set_of R xs) ∙ ap (λ b. p x || b) (any-set_of p xs)
 
--- a quad's graph has this name
-abbrev is_named : Term → Option Term → Bool
-is_named g None = false
-is_named g (Some n) = eq_by_cmp term_order g n
-
-abbrev in_named : Term → Quad Term → Bool
-in_named g q = is_named g q.graph
-
 any_first : (g : Term) (qs : List (Quad Term)) → has term_order (names_of qs) g ≡ list_any (in_named g) qs → (q : Quad Term) (n : Option Term) → q.graph ≡ n
     → has term_order (names_of (q ∷ qs)) g ≡ (is_named g n || list_any (in_named g) qs)
 any_first g qs h q None e = rw e h
 any_first g qs h q (Some n) e = rw e (ap (λ b. eq_by_cmp term_order g n || b) h)
 
-any_named : (g : Term) (qs : List (Quad Term)) → has term_order (names_of qs) g ≡ list_any (in_named g) qs
+pub any_named : (g : Term) (qs : List (Quad Term)) → has term_order (names_of qs) g ≡ list_any (in_named g) qs
 any_named g [] = refl
 any_named g (q ∷ qs) = any_first g qs (any_named g qs) q q.graph refl
 
@@ -87,6 +79,10 @@ quads_total = quad_total term_total
 
 pub quads_exact : (a b : Quad Term) → quad_order term_order a b ≡ Equal → a ≡ b
 quads_exact = quad_exact term_order term_exact
+
+-- a set of quads names the graphs that its list names
+pub names_of-set_of : (g : Term) (qs : List (Quad Term)) → has term_order (names_of (set_of (quad_order term_order) qs)) g ≡ has term_order (names_of qs) g
+names_of-set_of g qs = any_named g (set_of (quad_order term_order) qs) ∙ any-set_of quads_total quads_exact (in_named g) qs ∙ sym (any_named g qs)
 
 -- two lists are a dataset if each quad's graph has its name
 pub IsDataset-of : (quads : List (Quad Term)) (names : List Term) → ((g : Term) → has term_order (names_of quads) g ≡ true → has term_order names g ≡ true)

@@ -1,11 +1,20 @@
 -- Datasets of terms (RDF 1.1 Concepts, section 4): a set of quads, and a set of graph names with the name of each quad's graph. A named
 -- graph may be empty.
-use Rattle.std.specs.Prelude.{List, Option, Some, None}
+use Rattle.std.specs.Prelude.{Bool, false, List, Option, Some, None}
+use Rattle.std.specs.Ordering.{eq_by_cmp}
 use Rattle.sets.specs.Sets.{set_of, with}
 use Rattle.datasets.specs.declared.quad.Quad.{Quad}
 use Rattle.datasets.specs.Dataset.{Dataset, quad_order}
 use Rattle.terms.specs.declared.term.Term.{Term}
 use Rattle.terms.specs.Term.{term_order}
+
+-- a quad's graph has this name
+abbrev pub is_named : Term → Option Term → Bool
+is_named g None = false
+is_named g (Some n) = eq_by_cmp term_order g n
+
+abbrev pub in_named : Term → Quad Term → Bool
+in_named g q = is_named g q.graph
 
 -- the dataset of these quads and names
 abbrev pub dataset_of : List (Quad Term) → List Term → Dataset Term
