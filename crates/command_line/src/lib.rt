@@ -3,6 +3,8 @@
 //! Stands on `meaning`, whose replies it tells, and on `clap`. Used above: `replies_text` is exactly `reply_lines`.
 #![tactic(auto)]
 
+pub mod fault;
 pub mod replies;
 
+pub use fault::{Fault, File, LineFault, Message, told};
 pub use replies::replies_text;
