@@ -1,0 +1,64 @@
+-- What a book is seen as, and what it keeps.
+use Rattle.std.specs.Prelude.{◌≡◌, ℕ, List, length, Option, Some, None, slice_get}
+use Rattle.terms.specs.declared.term.Term.{Term}
+use Rattle.datasets.specs.declared.id.Id.{Id}
+use Rattle.dict.specs.Dictionary.{numbers}
+use Rattle.meaning.specs.Vocabulary.{Vocabulary}
+use Rattle.meaning.specs.Run.{Request, answer_of, run_of_first}
+use Rattle.meaning.specs.declared.reply.Reply as request
+use Rattle.meaning.specs.declared.reply.Reply.TheVariants.{Done}
+use Rattle.reads.specs.Reads.{View, IsDataset}
+use Rattle.reads.specs.Runs.{IsSoundFor}
+use Rattle.block_machine.specs.declared.state.Event.{Event}
+use Rattle.block_machine.specs.declared.state.Event.TheVariants.{Publish}
+use Rattle.block_machine.specs.declared.state.Reply.{Reply}
+use Rattle.block_machine.specs.declared.state.Reply.TheVariants.{Published}
+use Rattle.block_machine.specs.declared.state.Entry.{Entry}
+use Rattle.block_machine.specs.Machine.{State, fresh, state_after}
+use Rattle.block_machine.specs.Serial.{Setting, IsHistory}
+
+-- the terms that are numbered, a base, a block, and the events that were answered so far
+pub record Run : Type 0 where
+  pub terms : List Term
+  pub base : View
+  pub block : List (Request Id)
+  pub history : List Entry
+
+-- the answer to the request at a place of a block; past its end nothing happens
+abbrev pub answer_at : Vocabulary Id → ℕ → Option (Request Id) → View → View × request.Reply
+answer_at V i (Some r) d = answer_of V i r d
+answer_at V i None d = (d, Done 0 0)
+
+-- what the machine runs
+unfoldable pub setting : List Term → View → List (Request Id) → Setting
+setting terms base block =
+    record { base = base; size = length block; answer = λ i d. answer_at (numbers terms) i (slice_get block i) d }
+
+abbrev pub setting_of : Run → Setting
+setting_of run = setting run.terms run.base run.block
+
+-- where the journal leaves the machine
+abbrev pub state_of : Run → State
+state_of run = state_after (fresh (length run.block)) run.history
+
+-- the sequential run of as many first requests as are committed
+abbrev pub front_run : Run → View × List request.Reply
+front_run run = run_of_first (numbers run.terms) (state_of run).front run.block run.base
+
+-- the base is a dataset, the journal is a history, and the machine is where it leads
+pub record IsReplayed (run : Run) (machine : State) : Type 0 where
+  pub base : IsDataset run.base
+  pub lawful : IsHistory (setting_of run) run.history
+  pub state : machine ≡ state_of run
+
+-- a run that is published is kept; another is not
+abbrev pub kept : Event → Reply → Event
+kept (Publish i n finished) Published = Publish i n finished
+kept (Publish i n finished) reply = Publish i n None
+kept event reply = event
+
+-- the callers' condition: a finished run is sound for the block's request
+abbrev pub IsSoundEvent : Run → Event → Type 0
+IsSoundEvent run (Publish i n (Some finished)) =
+    (r : Request Id) → slice_get run.block i ≡ Some r → IsSoundFor (answer_of (numbers run.terms) i r) finished
+IsSoundEvent run event = Unit {0}

@@ -1,0 +1,162 @@
+//! A block's machine with its journal.
+ghost use Rattle.std.specs.Prelude.{◌≡◌, [], ◌∷◌, ◌++◌, IfOk, OnErr};
+ghost use Rattle.reads.specs.Reads.{IsDataset};
+ghost use Rattle.block_machine.specs.Machine.{IsAllowed};
+ghost use Rattle.book.specs.Run.{state_of, front_run, kept, IsSoundEvent};
+
+use crate::Request;
+use crate::copies::{copy_of_event, kept_event};
+use block_machine::{Entry, Event, Machine, Reply};
+use dict::Dict;
+use reads::View;
+use sets::Items;
+use std::alloc::{AllocError, Global};
+use std::marker::Model;
+
+/// A run of a block: what it is of, and every event that was answered, in order.
+#[derive(Drop)]
+pub struct Book<'a> {
+    terms: &'a Dict,
+    base: &'a View,
+    block: &'a [Request],
+    machine: Machine,
+    journal: Vec<Entry>,
+}
+
+impl<'a> Model for Book<'a> {
+    ghost use Rattle.book.specs.Run.{Run, IsReplayed};
+
+    ghost Value = { Run };
+
+    ghost view = { λ b. record { terms = b.terms.now; base = b.base.now; block = b.block.now; history = b.journal.items } };
+
+    ghost invariant = { λ b. IsReplayed (record { terms = b.terms.now; base = b.base.now; block = b.block.now; history = b.journal.items }) b.machine };
+}
+
+/// The dataset after a number of first requests, and their replies.
+#[derive(Drop)]
+pub struct Outcome {
+    pub dataset: View,
+    pub replies: Items<meaning::Reply>,
+}
+
+impl<'a> Book<'a> {
+    /// The book of a base and a block, before any event.
+    pub fn new(
+        alloc: Global,
+        terms: &'a Dict,
+        base: &'a View,
+        block: &'a [Request],
+    ) -> Result<Book<'a>, AllocError>
+        requires { IsDataset base.now }
+        ensures { IfOk result (λ book. book ≡ record { terms = terms.now; base = base.now; block = block.now; history = [] }) }
+    {
+        let machine = Machine::new(alloc, block.len())?;
+        Ok(Book {
+            terms,
+            base,
+            block,
+            machine,
+            journal: Vec::new(alloc),
+        })
+    }
+
+    /// One event of a worker, which the journal keeps as it is. Its reply is lawful, and the journal has both at its end. After want of
+    /// memory the book is as before.
+    pub fn step_owned(
+        &mut self,
+        alloc: Global,
+        worker: u32,
+        event: Event,
+    ) -> Result<Reply, AllocError>
+        requires { IsSoundEvent self.old event }
+        ensures lawful { IfOk result (λ reply. IsAllowed self.old.base (state_of self.old) worker event reply) }
+        ensures entry { IfOk result (λ reply. self.new ≡ record self.old { history = self.old.history ++ record { worker = worker; event = kept event reply; reply = reply } ∷ [] }) }
+        ensures err { OnErr result (self.new ≡ self.old) }
+    {
+        self.journal.reserve(1)?;
+        let (reply, told) = self.machine.step(alloc, self.base, worker, &event)?;
+        let event = kept_event(event, &reply);
+        let entry = Entry {
+            worker,
+            event,
+            reply,
+        };
+        match self.journal.push(entry) {
+            Ok(()) => Ok(told),
+            Err(_) => unreachable!(),
+        }
+    }
+
+    /// The same of an event that the caller keeps: the journal has a copy of its finished run.
+    pub fn step(&mut self, alloc: Global, worker: u32, event: &Event) -> Result<Reply, AllocError>
+        requires { IsSoundEvent self.old event.now }
+        ensures lawful { IfOk result (λ reply. IsAllowed self.old.base (state_of self.old) worker event.now reply) }
+        ensures entry { IfOk result (λ reply. self.new ≡ record self.old { history = self.old.history ++ record { worker = worker; event = kept event.now reply; reply = reply } ∷ [] }) }
+        ensures err { OnErr result (self.new ≡ self.old) }
+    {
+        let copy = copy_of_event(alloc, event)?;
+        self.step_owned(alloc, worker, copy)
+    }
+
+    /// How many requests are committed.
+    pub fn front(&self) -> usize
+        ensures { result ≡ (state_of self.now).front }
+    {
+        self.machine.front()
+    }
+
+    /// The dataset of the committed requests: that of their sequential run.
+    pub fn front_dataset(&self, alloc: Global) -> Result<View, AllocError>
+        ensures { IfOk result (λ dataset. dataset ≡ (front_run self.now).0) }
+    {
+        self.machine.front_view(alloc, self.base)
+    }
+
+    /// The replies to the committed requests: those of their sequential run.
+    pub fn committed_replies(&self, alloc: Global) -> Result<Vec<meaning::Reply>, AllocError>
+        ensures { IfOk result (λ replies. replies.items ≡ (front_run self.now).1) }
+    {
+        self.machine.front_replies(alloc)
+    }
+
+    /// The dataset and the replies of the committed requests: those of their sequential run.
+    pub fn outcome(&self, alloc: Global) -> Result<Outcome, AllocError>
+        ensures { IfOk result (λ outcome. (outcome.dataset, outcome.replies) ≡ front_run self.now) }
+    {
+        let dataset = self.front_dataset(alloc)?;
+        let replies = self.committed_replies(alloc)?;
+        Ok(Outcome {
+            dataset,
+            replies: Items::from_vec(replies),
+        })
+    }
+
+    /// Every event that was answered, in order.
+    pub fn journal(&self) -> &[Entry]
+        ensures { result.now ≡ self.now.history }
+    {
+        self.journal.as_slice()
+    }
+
+    /// The dictionary of the base and the block.
+    pub fn terms(&self) -> &'a Dict
+        ensures { result.now ≡ self.now.terms }
+    {
+        self.terms
+    }
+
+    /// The dataset before the first request.
+    pub fn base(&self) -> &'a View
+        ensures { result.now ≡ self.now.base }
+    {
+        self.base
+    }
+
+    /// The requests.
+    pub fn block(&self) -> &'a [Request]
+        ensures { result.now ≡ self.now.block }
+    {
+        self.block
+    }
+}

@@ -1,0 +1,16 @@
+//! The book of a block: its machine, with the journal of every answered event. Stands on `block_machine`, `dict` and `meaning`.
+//!
+//! The contract used above: a `Book`'s type keeps that its journal is a history and its state is where the journal leads. So its front is
+//! the sequential run of that many first requests, whatever the workers did.
+#![tactic(auto)]
+
+pub mod book;
+pub mod copies;
+
+pub use book::{Book, Outcome};
+
+/// A request at numbers of terms: its operations, or why it is refused.
+pub type Request = Result<sets::Items<meaning::Operation<datasets::Id>>, meaning::Refusal>;
+
+#[cfg(test)]
+mod tests;

@@ -1,0 +1,1 @@
+//! A block by the calls of a book.
