@@ -1,3 +1,4 @@
 pub mod NameLaws
 pub mod SpreadLaws
 pub mod Verdicts
+pub mod CutLaws

@@ -2,3 +2,6 @@ pub mod Names
 pub mod Translation
 pub mod Refusal
 pub mod Reading
+pub mod Requests
+pub mod Cutting
+pub mod Terms

@@ -3,8 +3,15 @@
 //! Stands on `grammar`, `terms` and `meaning`. Used above: `checked` gives the one request that a text is, `split` the requests of a block.
 #![tactic(auto)]
 
+mod block;
+mod cut;
+mod fault;
 mod names;
 mod request;
+mod splitting;
 mod translation;
 
+pub use block::Block;
+pub use fault::BlockFault;
 pub use request::{Checked, Update, check, checked};
+pub use splitting::split;

@@ -1,0 +1,33 @@
+-- The terms of requests.
+use Rattle.std.specs.Prelude.{List, [], ◌∷◌, ◌++◌, Option, Some, None, Result, Ok, Err}
+use Rattle.std.specs.List.{flat_map}
+use Rattle.terms.specs.declared.term.Term.{Term}
+use Rattle.meaning.specs.declared.update.Slot.{Slot}
+use Rattle.meaning.specs.declared.update.Slot.TheVariants as slot
+use Rattle.meaning.specs.declared.update.QuadTemplate.{QuadTemplate}
+use Rattle.meaning.specs.declared.update.Operation.{Operation}
+use Rattle.meaning.specs.declared.update.Operation.TheVariants as update
+use Rattle.meaning.specs.declared.reply.Refusal.{Refusal}
+
+abbrev pub terms_of_slot : Slot Term → List Term
+terms_of_slot (slot.Term t) = t ∷ []
+terms_of_slot (slot.Variable v) = []
+terms_of_slot (slot.Label l) = []
+
+abbrev pub terms_of_graph : Option (Slot Term) → List Term
+terms_of_graph None = []
+terms_of_graph (Some s) = terms_of_slot s
+
+abbrev pub terms_of_quad : QuadTemplate Term → List Term
+terms_of_quad q = terms_of_slot q.subject ++ terms_of_slot q.predicate ++ terms_of_slot q.object ++ terms_of_graph q.graph
+
+abbrev pub terms_of_operation : Operation Term → List Term
+terms_of_operation (update.InsertData quads) = flat_map terms_of_quad quads
+
+-- those of an accepted request
+abbrev pub terms_of_request : Result (List (Operation Term)) Refusal → List Term
+terms_of_request (Ok operations) = flat_map terms_of_operation operations
+terms_of_request (Err kind) = []
+
+abbrev pub terms_of : List (Result (List (Operation Term)) Refusal) → List Term
+terms_of block = flat_map terms_of_request block
