@@ -79,7 +79,7 @@ lines_found (l ∷ ls) front n d e =
 no_quads-of : no_quads ≡ of []
 no_quads-of = refl
 
-whole_found : (text : List ℕ) (d : Dataset Term) → read_from no_quads 0 (lines text) ≡ Ok d → Spells text d
+pub whole_found : (text : List ℕ) (d : Dataset Term) → read_from no_quads 0 (lines text) ≡ Ok d → Spells text d
 whole_found text d e =
     let r = lines_found (lines text) [] 0 d e in
     record { said = r.0; each = r.1; quads = ap (λ (x : Dataset Term). x.quads) r.2; names = ap (λ (x : Dataset Term). x.names) r.2 }
@@ -114,7 +114,7 @@ record BadAfter (ls : List (List ℕ)) (m n : ℕ) : Type 0 where
   here : IsBad bad
   number : n ≡ m + length front + 1
 
-bad_line : (l : List ℕ) → line_of l ≡ None → IsBad l
+pub bad_line : (l : List ℕ) → line_of l ≡ None → IsBad l
 bad_line l e said is = absurd (let f : None ≡ Some said = sym e ∙ line_again l said is in cc)
 
 lines_bad : (ls : List (List ℕ)) (d : Dataset Term) (m n : ℕ) → read_from d m ls ≡ Err n → BadAfter ls m n
@@ -129,14 +129,14 @@ lines_bad (l ∷ ls) d m n e =
           record { before = said ∷ b.before; bad = b.bad; after = b.after; front = l ∷ b.front; cut = ap (λ (t : List (List ℕ)). l ∷ t) b.cut; good = more (line_found l said o) b.good; here = b.here; number = omega arith }
     ] refl e
 
-whole_bad : (text : List ℕ) (n : ℕ) → read_from no_quads 0 (lines text) ≡ Err n → IsFirstBad text n
+pub whole_bad : (text : List ℕ) (n : ℕ) → read_from no_quads 0 (lines text) ≡ Err n → IsFirstBad text n
 whole_bad text n e =
     let b = lines_bad (lines text) no_quads 0 n e in
     let number : n ≡ 0 + length b.front + 1 = b.number in
     record { before = b.before; bad = b.bad; after = b.after; front = b.front; cut = b.cut; good = b.good; here = b.here; number = omega arith }
 
 -- a line that is read isn't bad
-no_bad_in : (front : List (List ℕ)) (bad : List ℕ) (after : List (List ℕ)) (said : List Line) → IsBad bad → AreLines (front ++ bad ∷ after) said → ⊥
+pub no_bad_in : (front : List (List ℕ)) (bad : List ℕ) (after : List (List ℕ)) (said : List Line) → IsBad bad → AreLines (front ++ bad ∷ after) said → ⊥
 no_bad_in [] bad after [] here all = elim all [ ]
 no_bad_in (l ∷ front) bad after [] here all = elim all [ ]
 no_bad_in [] bad after (s ∷ said) here (more is others) = here s is

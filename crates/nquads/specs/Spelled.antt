@@ -32,13 +32,16 @@ pub record Spells (text : List ℕ) (d : Dataset Term) : Type 0 where
 abbrev pub IsBad : List ℕ → Type 0
 IsBad line = (said : Line) → IsLine line said → ⊥
 
--- the n-th line, counted from 1, is the first bad one
-pub record IsFirstBad (text : List ℕ) (n : ℕ) : Type 0 where
+-- the n-th of these lines, counted from 1, is the first bad one
+pub record IsFirstBadOf (all : List (List ℕ)) (n : ℕ) : Type 0 where
   pub before : List Line
   pub bad : List ℕ
   pub after : List (List ℕ)
   pub front : List (List ℕ)
-  pub cut : lines text ≡ front ++ bad ∷ after
+  pub cut : all ≡ front ++ bad ∷ after
   pub good : AreLines front before
   pub here : IsBad bad
   pub number : n ≡ length front + 1
+
+abbrev pub IsFirstBad : List ℕ → ℕ → Type 0
+IsFirstBad text n = IsFirstBadOf (lines text) n

@@ -1,6 +1,7 @@
 ghost use Rattle.std.specs.Prelude.{◌≡◌};
-ghost use Rattle.nquads.specs.declared.fault.BaseFault.TheVariants.{OutOfMemory};
+ghost use Rattle.nquads.specs.declared.fault.BaseFault.TheVariants.{OutOfMemory, Device};
 
+use crate::watched::Failed;
 use std::alloc::{AllocError, AllocFailed};
 use thiserror::Error;
 
@@ -34,5 +35,13 @@ impl<T: Drop> From<AllocFailed<T>> for BaseFault {
 
     fn from(_e: AllocFailed<T>) -> BaseFault {
         BaseFault::OutOfMemory
+    }
+}
+
+impl From<Failed> for BaseFault {
+    ghost from_gives = { λ _ e. e ≡ Device };
+
+    fn from(_e: Failed) -> BaseFault {
+        BaseFault::Device
     }
 }

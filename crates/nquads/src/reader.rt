@@ -25,7 +25,7 @@ fn keep(dataset: &mut DataSet, said: Line) -> Result<(), AllocError>
 }
 
 /// What line says, where it has this number.
-fn said(alloc: Global, line: &[u8], number: usize) -> Result<Line, BaseFault>
+pub fn said(alloc: Global, line: &[u8], number: usize) -> Result<Line, BaseFault>
     ensures ok { IfOk result (λ said. line_of line.now ≡ Some said) }
     ensures bad { IfErr result (λ e. Faults e number (line_of line.now)) }
 {
@@ -36,7 +36,7 @@ fn said(alloc: Global, line: &[u8], number: usize) -> Result<Line, BaseFault>
     }
 }
 
-fn read_lines(alloc: Global, bytes: &[u8]) -> Result<DataSet, BaseFault>
+pub fn read_lines(alloc: Global, bytes: &[u8]) -> Result<DataSet, BaseFault>
     ensures { Reads result (read_from no_quads 0 (lines bytes.now)) }
 {
     let mut dataset = DataSet::new(alloc);
@@ -52,7 +52,7 @@ fn read_lines(alloc: Global, bytes: &[u8]) -> Result<DataSet, BaseFault>
 }
 
 /// The dataset that the bytes spell.
-pub fn read(alloc: Global, bytes: &[u8]) -> Result<DataSet, BaseFault>
+pub fn read_bytes(alloc: Global, bytes: &[u8]) -> Result<DataSet, BaseFault>
     ensures spelled { IfOk result (λ d. Spells bytes.now d) }
     // What is spelled is read, unless memory runs out.
     ensures only { (d : Dataset Term) → Spells bytes.now d → Reads result (Ok d) }
