@@ -1,5 +1,5 @@
 -- Requests: what a step of the loop reads is in the grammar, and what is in it is read.
-use Rattle.std.proofs.Common.{◌≡◌, ℕ, ◌<◌, true, false, List, [], ◌∷◌, ◌++◌, length, Some, None, Result, Ok, Err, refl, sym, ap, ◌∙◌, subst, map, arith, append_assoc, ◌⊎◌, inl, inr}
+use Rattle.std.proofs.Common.{◌≡◌, ℕ, zero, suc, ◌<◌, true, false, List, [], ◌∷◌, ◌++◌, length, Some, None, Result, Ok, Err, refl, sym, ap, ◌∙◌, subst, map, arith, append_assoc, ◌⊎◌, inl, inr}
 use Rattle.std.specs.Prelude.{codes, bytes_eq}
 use Rattle.std.specs.Option.{option_map_or}
 use Rattle.std.specs.Char.{to_ascii_lowercase}
@@ -8,6 +8,7 @@ use Rattle.std.proofs.lemmas.List.{append-nil, nil_from_length}
 use Rattle.iris.specs.Bracketed.{◌>>=◌}
 use Rattle.iris.proofs.BracketLaws.{bind_some, some_is}
 use Rattle.lexer.specs.Cut.{Cuts}
+use Rattle.lexer.proofs.CutLaws.{one_cut}
 use Rattle.lexer.specs.declared.token.Token.{Token}
 use Rattle.lexer.specs.declared.token.Token.TheVariants as token
 use Rattle.lexer.specs.declared.token.Sign.TheVariants as signs
@@ -193,7 +194,7 @@ read_smaller rest s after e = step_shorter (step_found rest (s, after) e)
 
 stuck : (rest : List Token) (all : List Step) → 0 < length rest → step_at rest ≡ None → BeginsWith rest all → ⊥
 stuck rest all some e (begins s r ss at request all-is) = none_some (s, r) (sym e ∙ step_again at)
-stuck rest all some e (is_done none all-is) = let zero : length rest ≡ 0 = ap length none in omega arith
+stuck rest all some e (is_done none all-is) = let at-end : length rest ≡ 0 = ap length none in omega arith
 
 read_stuck : (tokens : List Token) (before : List Step) (rest : List Token) → IsReadSoFar tokens before rest → 0 < length rest → step_at rest ≡ None → (ss : List Step) → ReadsRequest tokens ss → ⊥
 read_stuck tokens before rest so_far some e ss r =
@@ -208,8 +209,8 @@ pub passes_on : (tokens : List Token) (r : Result (List Step) Stop) (e f : Stop)
 passes_on tokens r e f r-is e-is fails = subst (λ (r : Result (List Step) Stop). AreRead tokens r) (sym (r-is ∙ ap (λ (e : Stop). let r : Result (List Step) Stop = Err e in r) e-is)) fails
 
 pub read_done : (tokens : List Token) (before : List Step) (rest : List Token) → IsReadSoFar tokens before rest → length rest ≡ 0 → AreRead tokens (Ok before)
-read_done tokens before rest so_far zero =
-    let none : rest ≡ [] = nil_from_length rest zero in (
+read_done tokens before rest so_far at-end =
+    let none : rest ≡ [] = nil_from_length rest at-end in (
       subst (λ (ss : List Step). ReadsRequest tokens ss) (append-nil before) (so_far.more [] (subst (λ (r : List Token). ReadsRequest r []) (sym none) nothing)),
       λ ss r.
           let o = so_far.only ss r in
@@ -232,3 +233,28 @@ is_read text ts (Err stop.NoReading) cut read = λ other reads. read other.steps
 -- a text without tokens has no reading
 pub no_cut : (text : List ℕ) → ((us : List Token) → Cuts text us → ⊥) → (other : Syntax) → Reads text other → ⊥
 no_cut text none other reads = none reads.tokens reads.cut
+
+-- ---- one reading
+
+done_only : (ts : List Token) (us : List Step) → ts ≡ [] → BeginsWith ts us → us ≡ []
+done_only ts us none (begins s rest later at request us-is) = absurd (none_some (s, rest) (sym no_step ∙ ap step_at (sym none) ∙ step_again at))
+done_only ts us none (is_done same us-is) = us-is
+
+one_from : (n : ℕ) (ts : List Token) (ss us : List Step) → length ts < n → BeginsWith ts ss → BeginsWith ts us → ss ≡ us
+one_from zero ts ss us less a b = absurd (omega arith)
+one_from (suc n) ts ss us less (is_done none ss-is) b = ss-is ∙ sym (done_only ts us none b)
+one_from (suc n) ts ss us less (begins s rest later at request ss-is) b =
+    let o = first_is ts s rest us (step_again at) b in
+    let shorter = step_shorter at in
+    ss-is ∙ ap (λ (x : List Step). s ∷ x) (one_from n rest later o.0 (omega arith) (first_step request) (first_step o.2)) ∙ sym o.1
+
+one_request : (ts : List Token) (ss us : List Step) → ReadsRequest ts ss → ReadsRequest ts us → ss ≡ us
+one_request ts ss us a b = one_from (suc (length ts)) ts ss us (omega arith) (first_step a) (first_step b)
+
+-- a text has at most one reading
+pub one_reading : (text : List ℕ) (s t : Syntax) → Reads text s → Reads text t → s ≡ t
+one_reading text s t a b =
+    let tokens : a.tokens ≡ b.tokens = one_cut text a.tokens b.tokens a.cut b.cut in
+    let steps : s.steps ≡ t.steps = one_request b.tokens s.steps t.steps (subst (λ (ts : List Token). ReadsRequest ts s.steps) tokens a.request) b.request in
+    let bytes : s.length ≡ t.length = a.bytes ∙ sym b.bytes in
+    λ i. record { steps = steps i; length = bytes i }

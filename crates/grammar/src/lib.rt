@@ -4,6 +4,7 @@
 #![tactic(auto)]
 
 mod block;
+pub mod laws;
 mod nodes;
 mod objects;
 mod request;

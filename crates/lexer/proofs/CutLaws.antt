@@ -1,5 +1,5 @@
 -- Cutting a text goes on at what follows the tokens so far.
-use Rattle.std.proofs.Common.{◌≡◌, ℕ, ◌≤◌, ◌<◌, Bool, true, false, cond, ◌||◌, eqb, List, [], ◌∷◌, ◌++◌, length, Some, None, refl, sym, ap, ◌∙◌, subst, append_assoc, length-append, arith}
+use Rattle.std.proofs.Common.{◌≡◌, ℕ, zero, suc, ◌≤◌, ◌<◌, Bool, true, false, cond, ◌||◌, eqb, List, [], ◌∷◌, ◌++◌, length, Some, None, refl, sym, ap, ◌∙◌, subst, append_assoc, length-append, arith}
 use Rattle.std.specs.Prelude.{Result, Err}
 use Rattle.std.specs.Global.{Vec}
 use Rattle.lexer.specs.declared.stop.Stop.{Stop}
@@ -226,3 +226,25 @@ cut_done text before rest so_far none =
 
 pub is_stuck : (text : List ℕ) (r : Result (Vec Token) Stop) (e : Stop) → r ≡ Err e → e ≡ stop.NoReading → ((ts : List Token) → Cuts text ts → ⊥) → IsCut text r
 is_stuck text r e r-is e-is nothing = subst (λ r. IsCut text r) (sym (r-is ∙ ap (λ (e : Stop). let r : Result (Vec Token) Stop = Err e in r) e-is)) nothing
+
+-- ---- one list of tokens
+
+one_first : (rest : List ℕ) (us : List Token) (front after : List ℕ) (t : Token) (ts : List Token) → IsLongest rest front after t → BeginsWith rest us → (later : List Token) × (us ≡ t ∷ later) × Cuts after later
+one_first rest us front after t ts is other = first_is rest t after us (longest_again rest front after t is) other
+
+-- a text of at most n bytes, at the place of a token or at its end
+one_from : (n : ℕ) (rest : List ℕ) (ts us : List Token) → length rest < n → BeginsWith rest ts → BeginsWith rest us → ts ≡ us
+one_from zero rest ts us less a b = absurd (omega arith)
+one_from (suc n) rest ts us less (ends nothing ts-is) b = ts-is ∙ sym (cut_nil rest us nothing b)
+one_from (suc n) rest ts us less (begins front after t later is c ts-is) b =
+    let o = one_first rest us front after t later is b in
+    let some : 0 < length front = token_len is.is in
+    let whole : length rest ≡ length (front ++ after) = ap length is.cut in
+    let shorter : length (skip_from false after) < n = omega (arith, length-append front after, skip_len false after) in
+    ts-is
+    ∙ ap (λ (x : List Token). t ∷ x) (one_from n (skip_from false after) later o.0 shorter (token_first (skip_twice false after) (skipped c)) (token_first (skip_twice false after) (skipped o.2)))
+    ∙ sym o.1
+
+-- a text is cut into at most one list of tokens
+pub one_cut : (text : List ℕ) (ts us : List Token) → Cuts text ts → Cuts text us → ts ≡ us
+one_cut text ts us c d = one_from (suc (length (skip_from false text))) (skip_from false text) ts us (omega arith) (token_first (skip_twice false text) (skipped c)) (token_first (skip_twice false text) (skipped d))

@@ -4,6 +4,7 @@
 #![tactic(auto)]
 
 mod cut;
+pub mod laws;
 mod scan;
 mod stop;
 mod token;
