@@ -95,22 +95,20 @@ impl Dict {
 
     /// Whether the term of a number is an IRI.
     pub fn is_iri(&self, id: Id) -> bool
-        requires { is_known self.now id ≡ true }
         ensures { result ≡ (numbers self.now).is_iri id }
     {
         match id {
-            Id::Known(place) => matches!(&self.terms[place], Term::Iri(_)),
+            Id::Known(place) => matches!(self.terms.get(place), Some(Term::Iri(_))),
             Id::Made { .. } => false,
         }
     }
 
     /// Whether the term of a number is a literal.
     pub fn is_literal(&self, id: Id) -> bool
-        requires { is_known self.now id ≡ true }
         ensures { result ≡ (numbers self.now).is_literal id }
     {
         match id {
-            Id::Known(place) => matches!(&self.terms[place], Term::Literal(_)),
+            Id::Known(place) => matches!(self.terms.get(place), Some(Term::Literal(_))),
             Id::Made { .. } => false,
         }
     }
