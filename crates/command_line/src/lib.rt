@@ -1,10 +1,13 @@
 //! The program's command line, and the words it tells: a line for each reply and a line for a fault.
 //!
-//! Stands on `meaning`, whose replies it tells, and on `clap`. Used above: `replies_text` is exactly `reply_lines`.
+//! Stands on `meaning`, whose replies it tells, and on `clap`. Used above: `replies_text` is exactly `reply_lines`, and a `Job` is what the words
+//! say.
 #![tactic(auto)]
 
 pub mod fault;
+pub mod job;
 pub mod replies;
 
 pub use fault::{Fault, File, LineFault, Message, told};
+pub use job::{Job, read_job};
 pub use replies::replies_text;

@@ -1,0 +1,188 @@
+-- From what `clap` says of a parse to the answer of a command line.
+use Rattle.std.proofs.Common.{◌≡◌, ◌≢◌, ◌⊎◌, ◌∙◌, ◌<◌, ◌≤◌, ℕ, true, List, [], ◌∷◌, Option, Some, None, rules, refl, sym, ap, subst, ◌^◌, inl, inr, arith, codes}
+use Rattle.std.specs.Prelude.{option_map, Result, Ok, Err, string_bytes, String, unwrap_or}
+use Rattle.std.specs.declared.alloc.Global.{Global}
+use Rattle.std.specs.Borrow.{Bor}
+use Rattle.std.specs.Str.Parse.{IsNumeral, ParsesUnsigned, ExplainsUnsignedError, HasUnsignedDigitsIfOk, digits_value, without_leading_plus}
+use Rattle.clap.specs.Words.{App, Row, Text, app_of, first_of, one_of, first_value, one_text, found_of, rows_of, kind_of, is_simple, is_simple_and_free, subcommand_of, subcommand_rows_of, fault_of, HasKind, IsAmong, Kinds, matches_of}
+use Rattle.clap.specs.Matches.{ReadsOne}
+use Rattle.clap.specs.declared.error.Error.{Error}
+use Rattle.clap.specs.declared.error.kind.ErrorKind.{ErrorKind}
+use Rattle.clap.specs.declared.error.kind.ErrorKind.TheVariants.{DisplayHelp, OutOfMemory, InvalidValue}
+use Rattle.clap.specs.declared.parser.matches.ArgMatches.{ArgMatches}
+use Rattle.clap.specs.declared.parser.matches.Found.{Found}
+use Rattle.clap.proofs.OnLiterals.{clap_on_literals}
+use Rattle.clap.proofs.WalkLemmas.{first_value-rows, one_text-rows}
+use Rattle.command_line.specs.declared.fault.LineFault.{LineFault}
+use Rattle.command_line.specs.declared.fault.LineFault.TheVariants.{Memory, Help, Wrong}
+use Rattle.command_line.specs.declared.job.Job.{Job}
+use Rattle.command_line.specs.declared.job.Job.TheVariants.{Run}
+use Rattle.command_line.specs.CommandLine.{program, IsNumber, IsWorkers, IsRun, IsFileAnswer, IsWorkersAnswer, IsRunAnswer, IsToldAs, IsJob, IsAnswer}
+
+simple : is_simple program ≡ true
+unfolding clap_on_literals
+simple = refl
+
+simple_and_free : is_simple_and_free program ≡ true
+unfolding clap_on_literals
+simple_and_free = refl
+
+no_help : InvalidValue ≡ DisplayHelp → ⊥
+no_help e = cc
+
+-- a file that is not named
+pub file_missing : (text : Option Text) (f : LineFault) → IsToldAs InvalidValue f → text ≡ None → IsFileAnswer text (Err f)
+file_missing text Memory told e = search rules
+file_missing text (Help m) told e = absurd (no_help told)
+file_missing text (Wrong m) told e = e
+
+-- a number that is not read, or not from 1 to 64
+pub workers_wrong : (text : Option Text) (f : LineFault) → IsToldAs InvalidValue f → ((n : ℕ) → IsWorkers text n → ⊥) → IsWorkersAnswer text (Err f)
+workers_wrong text Memory told none = search rules
+workers_wrong text (Help m) told none = absurd (no_help told)
+workers_wrong text (Wrong m) told none = none
+
+pub base_fails : (rows : List Row) (f : LineFault) → IsFileAnswer (first_of (codes "BASE") rows) (Err f) → IsRunAnswer rows (Err f)
+base_fails rows Memory a = search rules
+base_fails rows (Help m) a = absurd a
+base_fails rows (Wrong m) a = no
+  where
+    no : (j : Job) → IsRun rows j → ⊥
+    no (Run b k o w) h = let bad : None ≡ Some (string_bytes b) = sym a ∙ h.0 in cc
+
+pub block_fails : (rows : List Row) (f : LineFault) → IsFileAnswer (first_of (codes "BLOCK") rows) (Err f) → IsRunAnswer rows (Err f)
+block_fails rows Memory a = search rules
+block_fails rows (Help m) a = absurd a
+block_fails rows (Wrong m) a = no
+  where
+    no : (j : Job) → IsRun rows j → ⊥
+    no (Run b k o w) h = let bad : None ≡ Some (string_bytes k) = sym a ∙ h.1 in cc
+
+pub out_fails : (rows : List Row) (f : LineFault) → IsFileAnswer (first_of (codes "OUT") rows) (Err f) → IsRunAnswer rows (Err f)
+out_fails rows Memory a = search rules
+out_fails rows (Help m) a = absurd a
+out_fails rows (Wrong m) a = no
+  where
+    no : (j : Job) → IsRun rows j → ⊥
+    no (Run b k o w) h = let bad : None ≡ Some (string_bytes o) = sym a ∙ h.2 in cc
+
+pub workers_fail : (rows : List Row) (f : LineFault) → IsWorkersAnswer (one_of (codes "workers") rows) (Err f) → IsRunAnswer rows (Err f)
+workers_fail rows Memory a = search rules
+workers_fail rows (Help m) a = absurd a
+workers_fail rows (Wrong m) a = no
+  where
+    no : (j : Job) → IsRun rows j → ⊥
+    no (Run b k o w) h = a w h.3
+
+none_among : (k : ErrorKind) (ks : Kinds) → ks ≡ [] → IsAmong k ks → ⊥
+none_among k ks e h = subst (λ (x : Kinds). IsAmong k x) e h
+
+-- a parse that fails
+pub parse_fails : (app : App) → app ≡ program → (words : List Text) (e : Error) (f : LineFault)
+    → (is_simple_and_free app ≡ true → HasKind (fault_of app words) e) → IsToldAs (kind_of e) f → IsAnswer words (Err f)
+parse_fails app is words e f kinds told = go f told
+  where
+    has : HasKind (fault_of program words) e
+    has = subst (λ (a : App). is_simple_and_free a ≡ true → HasKind (fault_of a words) e) is kinds simple_and_free
+
+    go : (f : LineFault) → IsToldAs (kind_of e) f → IsAnswer words (Err f)
+    go Memory t = search rules
+    go (Help m) t = elim has [
+      | inl o ↦ let bad : OutOfMemory ≡ DisplayHelp = sym o ∙ t in cc
+      | inr h ↦ subst (λ (k : ErrorKind). IsAmong k (fault_of program words)) t h
+    ]
+    go (Wrong m) t = λ none j job. elim has [
+      | inl o ↦ t o
+      | inr h ↦ none_among (kind_of e) (fault_of program words) none h
+    ]
+
+named : (o : Option (Text × List Row)) (rows : List Row) → Some rows ≡ option_map (λ p. p.1) o → (name : Text) × (o ≡ Some (name, rows))
+named None rows e = let bad : Some rows ≡ None = e in cc
+named (Some p) rows e =
+    let same : rows ≡ p.1 = cc in
+    (p.0, ap (λ (x : List Row). Some (p.0, x)) (sym same))
+
+unnamed : (o : Option (Text × List Row)) → None ≡ option_map (λ p. p.1) o → o ≡ None
+unnamed None e = refl
+unnamed (Some p) e = cc
+
+same_rows : (o : Option (Text × List Row)) (n m : Text) (xs ys : List Row) → o ≡ Some (n, xs) → o ≡ Some (m, ys) → ys ≡ xs
+same_rows o n m xs ys e h =
+    let both : Some xs ≡ Some ys = ap (option_map (λ (p : Text × List Row). p.1)) (sym e ∙ h) in
+    cc
+
+none_some : (o : Option (Text × List Row)) (x : Text × List Row) → o ≡ None → o ≡ Some x → ⊥
+none_some o x e h = let bad : None ≡ Some x = sym e ∙ h in cc
+
+-- a parse that enters a command
+pub parse_enters : (app : App) → app ≡ program → (words : List Text) (m : ArgMatches) (rows : List Row) (r : Result Job LineFault)
+    → (is_simple_and_free app ≡ true → fault_of app words ≡ [])
+    → (is_simple app ≡ true → (rows_of (found_of m) ≡ matches_of app words) × (subcommand_rows_of m ≡ subcommand_of app words))
+    → Some rows ≡ option_map (λ p. p.1) (subcommand_rows_of m) → IsRunAnswer rows r → IsAnswer words r
+parse_enters app is words m rows r kinds matches found a = go r a
+  where
+    free : fault_of program words ≡ []
+    free = subst (λ (x : App). is_simple_and_free x ≡ true → fault_of x words ≡ []) is kinds simple_and_free
+
+    entered : subcommand_rows_of m ≡ subcommand_of program words
+    entered = (matches (ap is_simple is ∙ simple)).1 ∙ ap (λ (x : App). subcommand_of x words) is
+
+    own : (name : Text) × (subcommand_of program words ≡ Some (name, rows))
+    own = named (subcommand_of program words) rows (found ∙ ap (option_map (λ p. p.1)) entered)
+
+    go : (r : Result Job LineFault) → IsRunAnswer rows r → IsAnswer words r
+    go (Ok j) h = (free, (own.0, rows, own.1, h))
+    go (Err Memory) h = search rules
+    go (Err (Help t)) h = absurd h
+    go (Err (Wrong t)) h = λ none j job. h j (subst (λ (x : List Row). IsRun x j) (same_rows _ own.0 job.0 rows job.1 own.1 job.2) job.3)
+
+-- a parse that enters none
+pub parse_enters_none : (app : App) → app ≡ program → (words : List Text) (m : ArgMatches) (f : LineFault)
+    → (is_simple app ≡ true → (rows_of (found_of m) ≡ matches_of app words) × (subcommand_rows_of m ≡ subcommand_of app words))
+    → None ≡ option_map (λ p. p.1) (subcommand_rows_of m) → IsToldAs InvalidValue f → IsAnswer words (Err f)
+parse_enters_none app is words m f matches found told = go f told
+  where
+    entered : subcommand_rows_of m ≡ subcommand_of program words
+    entered = (matches (ap is_simple is ∙ simple)).1 ∙ ap (λ (x : App). subcommand_of x words) is
+
+    nothing : subcommand_of program words ≡ None
+    nothing = unnamed (subcommand_of program words) (found ∙ ap (option_map (λ p. p.1)) entered)
+
+    go : (f : LineFault) → IsToldAs InvalidValue f → IsAnswer words (Err f)
+    go Memory t = search rules
+    go (Help m) t = absurd (no_help t)
+    go (Wrong m) t = λ none j job. none_some (subcommand_of program words) (job.0, job.1) nothing job.2
+
+pub word_is : (f : Found) (id : Text) → first_value f id ≡ first_of id (rows_of f)
+word_is f id = first_value-rows f id
+
+module _ {E : Type 0} (G : List ℕ → Result ℕ E → Type 0) (parses : (bs : List ℕ) (r : Result ℕ E) → G bs r → ParsesUnsigned 32 10 bs r) where
+  fits : (n m : ℕ) → n ≡ m → n ≤ 64 → m < 2 ^ 32
+  fits n m e h = omega arith
+
+  -- what is read is the number of the text
+  pub number_is : (f : Found) (r : Option ℕ) → ((t : List ℕ) → one_text f (codes "workers") ≡ Some t → ReadsOne G t r)
+      → (w : ℕ) → IsWorkers (one_of (codes "workers") (rows_of f)) w → unwrap_or r 0 ≡ w
+  number_is f r value w h = go r (value h.0.0 (one_text-rows f (codes "workers") ∙ h.0.1))
+    where
+      go : (r : Option ℕ) → ReadsOne G h.0.0 r → unwrap_or r 0 ≡ w
+      go (Some v) g = (parses _ (Ok v) g).1 ∙ sym h.0.2.1
+      go None g = absurd (parses _ (Err g.0) g.1 (h.0.2.0, fits w _ h.0.2.1 h.2))
+
+  -- and where it is not 0 there is such a text
+  pub number_read : (f : Found) (r : Option ℕ) → (one_text f (codes "workers") ≡ None → r ≡ None)
+      → ((t : List ℕ) → one_text f (codes "workers") ≡ Some t → ReadsOne G t r)
+      → 1 ≤ unwrap_or r 0 → unwrap_or r 0 ≤ 64 → IsWorkers (one_of (codes "workers") (rows_of f)) (unwrap_or r 0)
+  number_read f r none value low high = go (one_text f (codes "workers")) refl
+    where
+      read : (t : Text) (r : Option ℕ) → ReadsOne G t r → 1 ≤ unwrap_or r 0 → unwrap_or r 0 ≤ 64 → one_text f (codes "workers") ≡ Some t
+          → IsWorkers (one_of (codes "workers") (rows_of f)) (unwrap_or r 0)
+      read t (Some v) g low high e =
+          ((t, sym (one_text-rows f (codes "workers")) ∙ e, ((parses _ (Ok v) g).0.0, (parses _ (Ok v) g).1)), low, high)
+      read t None g low high e = absurd (omega arith)
+
+      go : (o : Option Text) → one_text f (codes "workers") ≡ o → IsWorkers (one_of (codes "workers") (rows_of f)) (unwrap_or r 0)
+      go None e =
+          let bad : 1 ≤ 0 = subst (λ (x : Option ℕ). 1 ≤ unwrap_or x 0) (none e) low in
+          absurd (omega arith)
+      go (Some t) e = read t r (value t e) low high e

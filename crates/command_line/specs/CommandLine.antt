@@ -1,0 +1,88 @@
+-- The command line, as `clap` reads it: `sparql-block run BASE BLOCK OUT [--workers N]`.
+use Rattle.std.specs.Prelude.{◌≡◌, ◌≢◌, ◌≤◌, ⊤, true, ℕ, List, [], ◌∷◌, Option, Some, None, Result, Ok, Err, codes, pos, String, string_bytes}
+use Rattle.std.specs.declared.alloc.Global.{Global}
+use Rattle.std.specs.Str.Parse.{IsNumeral, digits_value, without_leading_plus}
+use Rattle.clap.specs.Words.{App, Row, Rule, Shape, Text, new_app, new_rule, with_rule, with_subcommand, first_of, one_of, subcommand_of, fault_of, IsAmong}
+use Rattle.clap.specs.declared.builder.value_parser.ValueParser.TheVariants.{Signed}
+use Rattle.clap.specs.declared.error.kind.ErrorKind.{ErrorKind}
+use Rattle.clap.specs.declared.error.kind.ErrorKind.TheVariants.{DisplayHelp, OutOfMemory}
+use Rattle.command_line.specs.declared.fault.LineFault.{LineFault}
+use Rattle.command_line.specs.declared.fault.LineFault.TheVariants.{Memory, Help, Wrong}
+use Rattle.command_line.specs.declared.job.Job.{Job}
+use Rattle.command_line.specs.declared.job.Job.TheVariants.{Run}
+
+-- a file is a word that must be there
+abbrev pub file_rule : Text → Rule
+file_rule id = record (new_rule id) { required = true }
+
+-- `--workers N`, 4 where it is not there
+abbrev pub workers_rule : Rule
+workers_rule = record (new_rule (codes "workers")) {
+  long = Some (codes "workers");
+  value_names = 1;
+  defaults = codes "4" ∷ [];
+  parser = Some (Signed (pos 0) (pos 4294967295));
+}
+
+abbrev pub run_app : App
+run_app = with_rule (with_rule (with_rule (with_rule (new_app (codes "run")) (file_rule (codes "BASE"))) (file_rule (codes "BLOCK"))) (file_rule (codes "OUT"))) workers_rule
+
+-- one subcommand must be there, and `help` is none
+abbrev pub program_shape : Shape
+program_shape = record (new_app (codes "sparql-block")).top { subcommand_required = true; disable_help_subcommand = true }
+
+abbrev pub program : App
+program = with_subcommand (record { top = program_shape; subs = [] }) run_app.top
+
+-- the text is the number in decimal digits, where a plus may stand first
+abbrev pub IsNumber : Text → ℕ → Type 0
+IsNumber t n = IsNumeral 10 (without_leading_plus t) × (n ≡ digits_value 10 (without_leading_plus t))
+
+-- the text of `--workers` is this number, from 1 to 64
+abbrev pub IsWorkers : Option Text → ℕ → Type 0
+IsWorkers text n = ((t : Text) × (text ≡ Some t) × IsNumber t n) × (1 ≤ n) × (n ≤ 64)
+
+-- the job's files are the words of the rows, and its workers their number
+abbrev pub IsRun : List Row → Job → Type 0
+IsRun rows (Run base block out workers) = (first_of (codes "BASE") rows ≡ Some (string_bytes base))
+    × (first_of (codes "BLOCK") rows ≡ Some (string_bytes block))
+    × (first_of (codes "OUT") rows ≡ Some (string_bytes out))
+    × IsWorkers (one_of (codes "workers") rows) workers
+
+-- what a file's word comes to
+abbrev pub IsFileAnswer : Option Text → Result (String Global) LineFault → Type 0
+IsFileAnswer text (Ok s) = text ≡ Some (string_bytes s)
+IsFileAnswer text (Err Memory) = ⊤
+IsFileAnswer text (Err (Help message)) = ⊥
+IsFileAnswer text (Err (Wrong message)) = text ≡ None
+
+-- what the text of `--workers` comes to
+abbrev pub IsWorkersAnswer : Option Text → Result ℕ LineFault → Type 0
+IsWorkersAnswer text (Ok n) = IsWorkers text n
+IsWorkersAnswer text (Err Memory) = ⊤
+IsWorkersAnswer text (Err (Help message)) = ⊥
+IsWorkersAnswer text (Err (Wrong message)) = (n : ℕ) → IsWorkers text n → ⊥
+
+-- what the rows of `run` come to
+abbrev pub IsRunAnswer : List Row → Result Job LineFault → Type 0
+IsRunAnswer rows (Ok j) = IsRun rows j
+IsRunAnswer rows (Err Memory) = ⊤
+IsRunAnswer rows (Err (Help text)) = ⊥
+IsRunAnswer rows (Err (Wrong text)) = (j : Job) → IsRun rows j → ⊥
+
+-- what an error of this kind is told as
+abbrev pub IsToldAs : ErrorKind → LineFault → Type 0
+IsToldAs k Memory = ⊤
+IsToldAs k (Help text) = k ≡ DisplayHelp
+IsToldAs k (Wrong text) = k ≢ OutOfMemory
+
+-- the words, of which the first is the program's name, give this job
+abbrev pub IsJob : List Text → Job → Type 0
+IsJob words j = (name : Text) × (rows : List Row) × (subcommand_of program words ≡ Some (name, rows)) × IsRun rows j
+
+-- a job where the words are free of faults and give it; help where they ask for it; else they have a fault or give no job
+abbrev pub IsAnswer : List Text → Result Job LineFault → Type 0
+IsAnswer words (Ok j) = (fault_of program words ≡ []) × IsJob words j
+IsAnswer words (Err Memory) = ⊤
+IsAnswer words (Err (Help text)) = IsAmong DisplayHelp (fault_of program words)
+IsAnswer words (Err (Wrong text)) = fault_of program words ≡ [] → (j : Job) → IsJob words j → ⊥

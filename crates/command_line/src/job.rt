@@ -1,0 +1,152 @@
+//! The command line and the job that it asks for.
+ghost use Rattle.std.specs.Prelude.{◌≡◌, codes, false, map, IfOk, string_bytes};
+ghost use Rattle.clap.specs.declared.builder.command.Command.TheViews.{out-Command as fields_of};
+ghost use Rattle.clap.specs.Words.{app_of, first_of, found_of, kind_of, one_of, rows_of, rule_of};
+ghost use Rattle.command_line.specs.CommandLine.{IsAnswer, IsFileAnswer, IsRunAnswer, IsToldAs, IsWorkersAnswer, file_rule, workers_rule, run_app, program as the_program};
+
+use crate::fault::{LineFault, Message};
+use clap::error::ErrorKind;
+use clap::{Arg, ArgMatches, Command, value_parser};
+use std::alloc::{AllocError, Global};
+
+/// The most workers that a run may have.
+const MAX_WORKERS: u32 = 64;
+
+/// What the program is asked to do.
+#[derive(Debug, Drop)]
+pub enum Job {
+    /// Runs the block on the base, and writes the dataset that it ends with.
+    Run {
+        /// The path of the base.
+        base: String,
+        /// The path of the block.
+        block: String,
+        /// The path that the dataset is written to.
+        out: String,
+        /// How many workers run the block, from 1 to 64.
+        workers: u32,
+    },
+}
+
+impl From<AllocError> for LineFault {
+    ghost use Rattle.command_line.specs.declared.fault.LineFault.TheVariants.{Memory};
+
+    ghost from_gives = { λ _ e. e ≡ Memory };
+
+    fn from(_e: AllocError) -> LineFault {
+        LineFault::Memory
+    }
+}
+
+/// A file that must be named.
+fn file_argument<'a>(alloc: Global, id: &'a str, help: &'a str) -> Arg<'a>
+    ensures rule { rule_of result ≡ file_rule id.entry.now }
+    ensures local { result.global ≡ false }
+{
+    Arg::new(alloc, id).required(true).help(help)
+}
+
+fn workers_argument<'a>(alloc: Global) -> Arg<'a>
+    ensures rule { rule_of result ≡ workers_rule }
+    ensures local { result.global ≡ false }
+{
+    Arg::new(alloc, "workers")
+        .long("workers")
+        .value_name("N")
+        .value_parser(value_parser!(u32))
+        .default_value("4")
+        .help("How many workers run the block, from 1 to 64")
+}
+
+fn run_command<'a>(alloc: Global) -> Result<Command<'a>, AllocError>
+    ensures app { IfOk result (λ c. app_of c ≡ run_app) }
+    ensures local { IfOk result (λ c. (fields_of c).has_globals ≡ false) }
+{
+    Command::new(alloc, "run")
+        .about("Runs a block of SPARQL updates on a base of N-Quads")
+        .arg(file_argument(alloc, "BASE", "The base, a file of N-Quads"))?
+        .arg(file_argument(alloc, "BLOCK", "The block, requests that lines ---- part"))?
+        .arg(file_argument(alloc, "OUT", "The file that the dataset is written to"))?
+        .arg(workers_argument(alloc))
+}
+
+fn program<'a>(alloc: Global) -> Result<Command<'a>, AllocError>
+    ensures { IfOk result (λ c. app_of c ≡ the_program) }
+{
+    Command::new(alloc, "sparql-block")
+        .about("Runs ordered blocks of SPARQL 1.1 updates")
+        .subcommand_required(true)
+        .disable_help_subcommand(true)
+        .subcommand(run_command(alloc)?)
+}
+
+fn wrong(alloc: Global, text: &str) -> LineFault
+    ensures { IsToldAs ErrorKind.InvalidValue result }
+{
+    match String::from_str(alloc, text) {
+        Ok(text) => LineFault::Wrong(Message::new(text)),
+        Err(_) => LineFault::Memory,
+    }
+}
+
+/// What a command line's error tells.
+fn line_fault(alloc: Global, error: &clap::Error) -> Result<LineFault, AllocError>
+    ensures { IfOk result (IsToldAs (kind_of error.now)) }
+{
+    let text = error.to_string(alloc)?;
+    let message = Message::new(String::from_str(alloc, text.trim_end())?);
+    Ok(match error.kind() {
+        ErrorKind::DisplayHelp => LineFault::Help(message),
+        ErrorKind::OutOfMemory => LineFault::Memory,
+        _ => LineFault::Wrong(message),
+    })
+}
+
+/// The path of a file that must be named.
+#[tactic(auto, using(crate::proofs::JobLaws::file_missing, crate::proofs::JobLaws::word_is))]
+fn file_named(alloc: Global, run: &ArgMatches<'_>, id: &str) -> Result<String, LineFault>
+    ensures { IsFileAnswer (first_of id.now (rows_of (found_of run.now))) result }
+{
+    match run.get_str(id) {
+        Some(path) => Ok(String::from_str(alloc, path)?),
+        None => Err(wrong(alloc, "error: run takes BASE, BLOCK and OUT")),
+    }
+}
+
+fn worker_count(alloc: Global, run: &ArgMatches<'_>) -> Result<u32, LineFault>
+    ensures { IsWorkersAnswer (one_of (codes "workers") (rows_of (found_of run.now))) result }
+{
+    // 0 is no number of workers.
+    let workers = run.get_one::<u32>("workers").unwrap_or(0);
+    if workers < 1 || MAX_WORKERS < workers {
+        return Err(wrong(alloc, "error: --workers takes a number from 1 to 64"));
+    }
+    Ok(workers)
+}
+
+/// The job of the command `run`.
+#[tactic(auto, using(crate::proofs::JobLaws::base_fails, crate::proofs::JobLaws::block_fails, crate::proofs::JobLaws::out_fails, crate::proofs::JobLaws::workers_fail))]
+fn run_job(alloc: Global, run: &ArgMatches<'_>) -> Result<Job, LineFault>
+    ensures { IsRunAnswer (rows_of (found_of run.now)) result }
+{
+    Ok(Job::Run {
+        base: file_named(alloc, run, "BASE")?,
+        block: file_named(alloc, run, "BLOCK")?,
+        out: file_named(alloc, run, "OUT")?,
+        workers: worker_count(alloc, run)?,
+    })
+}
+
+/// Reads a command line, whose first word is the program's name. The job's workers are from 1 to 64. `Help` comes where the words ask for
+/// help, `Wrong` where they are no command line of the program, and `Memory` where memory runs out.
+pub fn read_job(alloc: Global, words: &[String]) -> Result<Job, LineFault>
+    ensures { IsAnswer (map string_bytes words.now) result }
+{
+    match program(alloc)?.try_get_matches_from(words) {
+        Err(error) => Err(line_fault(alloc, &error)?),
+        Ok(matches) => match matches.subcommand() {
+            Some((_, run)) => run_job(alloc, run),
+            None => Err(wrong(alloc, "error: a command is missing")),
+        },
+    }
+}
