@@ -1,5 +1,6 @@
 -- What a request is refused for, and its translation where it is refused for nothing.
-use Rattle.std.proofs.Common.{◌≡◌, ℕ, suc, ◌<◌, ◌^◌, Bool, true, false, ◌||◌, List, [], ◌∷◌, ◌++◌, length, map, Option, Some, None, Result, Ok, Err, refl, sym, ap, ◌∙◌, subst, arith}
+use Rattle.std.proofs.Common.{◌≡◌, ℕ, suc, ◌<◌, ◌^◌, Bool, true, false, ◌||◌, List, [], ◌∷◌, ◌++◌, length, map, Option, Some, None, Result, Ok, Err, refl, sym, ap, ◌∙◌, subst, arith, eqb, cond, inl, inr}
+use Rattle.std.proofs.lemmas.Bool.{cases_order}
 use Rattle.std.specs.Prelude.{◌&&◌, nat_lt, IfOk, unwrap_or}
 use Rattle.std.specs.Option.{option_map, option_and_then}
 use Rattle.std.specs.List.{list_any, flat_map}
@@ -20,10 +21,11 @@ use Rattle.syntax_trees.specs.declared.tree.Step.{Step}
 use Rattle.syntax_trees.specs.declared.tree.Step.TheVariants as step
 use Rattle.syntax_trees.specs.declared.tree.Syntax.{Syntax}
 use Rattle.grammar.specs.Reads.{Reads, IsParsed}
+use Rattle.grammar.proofs.Requests.{one_reading}
 use Rattle.rules.specs.declared.names.Declaration.{Declaration}
 use Rattle.rules.specs.Names.{iri_of}
-use Rattle.rules.specs.Translation.{Triple, triples_of, quad_of, term_of, translated_after}
-use Rattle.rules.specs.Refusal.{place_of, text_faults, iri_faults, node_faults, triple_faults, name_faults, is_syntax, is_prefix, has_fault, Holds, no_reading, fault, IsRefusal, IsChecked, IsVerdict}
+use Rattle.rules.specs.Translation.{Triple, triples_of, quad_of, term_of, translated_after, translated}
+use Rattle.rules.specs.Refusal.{place_of, text_faults, iri_faults, node_faults, triple_faults, name_faults, is_syntax, is_prefix, has_fault, Holds, no_reading, fault, IsRefusal, IsChecked, IsVerdict, IsAccepted}
 use Rattle.rules.specs.Reading.{term_at, quads_from, quads_at, operations_after}
 
 -- neither kind that a name is refused for
@@ -152,3 +154,33 @@ unread_checked text o parsed is = record {
   holds = no_reading (subst (λ (o : Option Syntax). IsParsed text o) is parsed);
   first = λ j lt holds. let zero : place_of j < 0 = lt in absurd (omega arith);
 }
+
+-- ---- one answer
+
+kind_at : ℕ → Refusal
+kind_at n = cond (eqb n 0) refusal.Syntax (cond (eqb n 1) refusal.Prefix (cond (eqb n 2) refusal.VariableInData (cond (eqb n 3) refusal.BlankInDelete (cond (eqb n 4) refusal.LabelReused refusal.Limit))))
+
+kind_is : (k : Refusal) → kind_at (place_of k) ≡ k
+unfolding kind_at
+kind_is refusal.Syntax = refl
+kind_is refusal.Prefix = refl
+kind_is refusal.VariableInData = refl
+kind_is refusal.BlankInDelete = refl
+kind_is refusal.LabelReused = refl
+kind_is refusal.Limit = refl
+
+not_both : (text : List ℕ) (operations : List (Operation Term)) (k : Refusal) → IsAccepted text operations → IsRefusal text k → ⊥
+not_both text operations k a r = clash (has_fault k a.syntax) (holds_means a.syntax a.reads (λ other reads. one_reading text other a.syntax reads a.reads) r.holds) (a.free k)
+
+-- a text is at most one request
+pub one_answer : (text : List ℕ) (c d : Result (List (Operation Term)) Refusal) → IsChecked text c → IsChecked text d → c ≡ d
+one_answer text (Ok x) (Ok y) a b =
+    let steps : translated a.syntax.steps ≡ translated b.syntax.steps = ap (λ (s : Syntax). translated s.steps) (one_reading text a.syntax b.syntax a.reads b.reads) in
+    ap (λ (z : List (Operation Term)). let r : Result (List (Operation Term)) Refusal = Ok z in r) (a.is ∙ steps ∙ sym b.is)
+one_answer text (Ok x) (Err k) a b = absurd (not_both text x k a b)
+one_answer text (Err k) (Ok y) a b = absurd (not_both text y k b a)
+one_answer text (Err k) (Err j) a b =
+    elim (cases_order (place_of k) (place_of j)) [
+      | inl e ↦ ap (λ (z : Refusal). let r : Result (List (Operation Term)) Refusal = Err z in r) (sym (kind_is k) ∙ ap kind_at e ∙ kind_is j)
+      | inr h ↦ elim h [ inl lt ↦ absurd (b.first k lt a.holds) | inr lt ↦ absurd (a.first j lt b.holds) ]
+    ]

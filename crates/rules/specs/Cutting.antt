@@ -1,5 +1,5 @@
 -- Cutting a block from left to right.
-use Rattle.std.specs.Prelude.{ℕ, ◌==◌, ◌&&◌, Bool, true, false, List, [], ◌∷◌, drop, if◌then◌else◌}
+use Rattle.std.specs.Prelude.{ℕ, ◌==◌, ◌&&◌, Bool, false, List, [], ◌∷◌, drop, if◌then◌else◌}
 
 -- four dashes and an LF
 abbrev pub begins_separator : List ℕ → Bool

@@ -6,6 +6,7 @@
 mod block;
 mod cut;
 mod fault;
+pub mod laws;
 mod names;
 mod request;
 mod splitting;

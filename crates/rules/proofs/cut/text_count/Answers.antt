@@ -1,4 +1,4 @@
-use Rattle.std.proofs.Common.{◌+◌, ◌≤◌, length, ap, arith}
+use Rattle.std.proofs.Common.{ap}
 use Rattle.std.specs.Prelude.{not}
 use Rattle.rules.proofs.CutLaws.{turn_smaller, turn_counts, turn_bound}
 use Rattle.rules.proofs.cut.text_count.Goals as goal
