@@ -16,3 +16,6 @@ pub use block::Block;
 pub use fault::BlockFault;
 pub use request::{Checked, Update, check, checked};
 pub use splitting::split;
+
+#[cfg(test)]
+mod tests;
