@@ -1,0 +1,9 @@
+//! The driver: runs a block to its end by events of a book, on one thread. Request i belongs to worker i modulo their number.
+//!
+//! Stands on `book` and `update`. Used above: where it returns, all requests are committed and the book is of the same base and block.
+#![tactic(auto)]
+
+pub mod attempt;
+pub mod drive;
+
+pub use drive::run_to_end;
