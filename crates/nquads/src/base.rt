@@ -17,8 +17,8 @@ use terms::DataSet;
 /// The most bytes of a base.
 const MOST_BYTES: usize = 1_073_741_824;
 
-/// The first bytes that a reader gives: all of them, or more than the limit.
-fn front_of<R: Read>(
+/// The first bytes that a reader gives: all of them, or more than the limit. `OutOfMemory` and `Device` are its only errors.
+pub fn front_of<R: Read>(
     alloc: Global,
     reader: &mut Watched<R>,
     limit: usize,
