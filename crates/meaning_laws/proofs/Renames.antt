@@ -83,13 +83,13 @@ module _ {A B : Type 0} (R : A → A → Ordering) (S : B → B → Ordering) (f
       map-placed (R x y) x y ys (with R x ys)
       ∙ (λ i. placed (sym (o x y hx parts.0) i) (f x) (f y) (map f ys) (map-with x ys hx parts.1 i))
 
-  all-set_of : (xs : List A) → list_all k xs ≡ true → list_all k (set_of R xs) ≡ true
+  pub all-set_of : (xs : List A) → list_all k xs ≡ true → list_all k (set_of R xs) ≡ true
   all-set_of [] h = refl
   all-set_of (x ∷ xs) h =
       let parts = and_parts (k x) (list_all k xs) h in
       all-with x (set_of R xs) parts.0 (all-set_of xs parts.1)
 
-  map-set_of : (xs : List A) → list_all k xs ≡ true → map f (set_of R xs) ≡ set_of S (map f xs)
+  pub map-set_of : (xs : List A) → list_all k xs ≡ true → map f (set_of R xs) ≡ set_of S (map f xs)
   map-set_of [] h = refl
   map-set_of (x ∷ xs) h =
       let parts = and_parts (k x) (list_all k xs) h in
@@ -101,7 +101,7 @@ module _ {A B : Type 0} (R : A → A → Ordering) (S : B → B → Ordering) (f
   all-union : (xs ys : List A) → list_all k xs ≡ true → list_all k ys ≡ true → list_all k (union R xs ys) ≡ true
   all-union xs ys h h' = all-set_of (xs ++ ys) (all-append k xs ys h h')
 
-  has-map : (xs : List A) (x : A) → list_all k xs ≡ true → k x ≡ true → has S (map f xs) (f x) ≡ has R xs x
+  pub has-map : (xs : List A) (x : A) → list_all k xs ≡ true → k x ≡ true → has S (map f xs) (f x) ≡ has R xs x
   has-map [] x h hx = refl
   has-map (y ∷ ys) x h hx =
       let parts = and_parts (k y) (list_all k ys) h in
@@ -123,7 +123,7 @@ module _ {A B : Type 0} (R : A → A → Ordering) (S : B → B → Ordering) (f
 
   -- ---- quads
 
-  quad-order : (a b : Quad A) → quad_known k a ≡ true → quad_known k b ≡ true → quad_order S (renamed_quad f a) (renamed_quad f b) ≡ quad_order R a b
+  pub quad-order : (a b : Quad A) → quad_known k a ≡ true → quad_known k b ≡ true → quad_order S (renamed_quad f a) (renamed_quad f b) ≡ quad_order R a b
   quad-order a b h h' =
       let a1 = and_parts (k a.subject) (k a.predicate && (k a.object && option_known k a.graph)) h in
       let b1 = and_parts (k b.subject) (k b.predicate && (k b.object && option_known k b.graph)) h' in
@@ -139,7 +139,7 @@ module _ {A B : Type 0} (R : A → A → Ordering) (S : B → B → Ordering) (f
   names-cons None ns = refl
   names-cons (Some g) ns = refl
 
-  map-names_of : (qs : List (Quad A)) → map f (names_of qs) ≡ names_of (map (renamed_quad f) qs)
+  pub map-names_of : (qs : List (Quad A)) → map f (names_of qs) ≡ names_of (map (renamed_quad f) qs)
   map-names_of [] = refl
   map-names_of (q ∷ qs) = names-cons q.graph (names_of qs) ∙ ap (cons_option (option_map f q.graph)) (map-names_of qs)
 
@@ -147,7 +147,7 @@ module _ {A B : Type 0} (R : A → A → Ordering) (S : B → B → Ordering) (f
   all-cons None ns h h' = h'
   all-cons (Some g) ns h h' = and_from (k g) (list_all k ns) h h'
 
-  all-names_of : (qs : List (Quad A)) → list_all (quad_known k) qs ≡ true → list_all k (names_of qs) ≡ true
+  pub all-names_of : (qs : List (Quad A)) → list_all (quad_known k) qs ≡ true → list_all k (names_of qs) ≡ true
   all-names_of [] h = refl
   all-names_of (q ∷ qs) h =
       let parts = and_parts (quad_known k q) (list_all (quad_known k) qs) h in
@@ -393,14 +393,14 @@ module _ {A B : Type 0} (V : Vocabulary A) (W : Vocabulary B) (f : A → B) (k :
   settled-known d (Ok e) h h' = h'
   settled-known d (Err failure) h h' = h
 
-  answer-map : (i : ℕ) (q : Request A) (d : Dataset A) → request_known k q ≡ true → dataset_known k d ≡ true
+  pub answer-map : (i : ℕ) (q : Request A) (d : Dataset A) → request_known k q ≡ true → dataset_known k d ≡ true
       → renamed_answer (answer_of V i q d) ≡ answer_of W i (renamed_request f q) (renamed f d)
   answer-map i (Ok ops) d h h' =
       settled-map d (performed V i 0 ops d) h' (performed-known i 0 ops d h h')
       ∙ ap (settled W (renamed f d)) (performed-map i 0 ops d h h')
   answer-map i (Err refusal) d h h' = refl
 
-  answer-known : (i : ℕ) (q : Request A) (d : Dataset A) → request_known k q ≡ true → dataset_known k d ≡ true → dataset_known k (answer_of V i q d).0 ≡ true
+  pub answer-known : (i : ℕ) (q : Request A) (d : Dataset A) → request_known k q ≡ true → dataset_known k d ≡ true → dataset_known k (answer_of V i q d).0 ≡ true
   answer-known i (Ok ops) d h h' = settled-known d (performed V i 0 ops d) h' (performed-known i 0 ops d h h')
   answer-known i (Err refusal) d h h' = h'
 

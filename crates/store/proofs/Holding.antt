@@ -1,0 +1,113 @@
+-- The dictionary of collected terms holds what they were collected from.
+use Rattle.std.proofs.Common.{◌≡◌, Bool, true, false, List, [], ◌∷◌, ◌++◌, Option, Some, None, Result, Ok, Err, refl, sym, ap, ◌∙◌}
+use Rattle.std.specs.Prelude.{◌||◌, ◌&&◌, not, filter}
+use Rattle.std.specs.List.{list_all, flat_map}
+use Rattle.std.specs.Option.{option_to_list}
+use Rattle.std.specs.Ordering.{eq_by_cmp, is_eq}
+use Rattle.std.specs.Cmp.{tied_itself}
+use Rattle.std.proofs.lemmas.Bool.{and_parts, and_from, or_right}
+use Rattle.sets.specs.Sets.{set_of, has}
+use Rattle.sets.proofs.SetLaws.{has-set_of, has-filter}
+use Rattle.terms.specs.Term.{term_order}
+use Rattle.terms.specs.TermLaws.{term_total, term_exact}
+use Rattle.terms.specs.declared.term.Term.{Term}
+use Rattle.datasets.specs.declared.quad.Quad.{Quad}
+use Rattle.dict.specs.Dictionary.{is_written}
+use Rattle.meaning.specs.Run.{Request}
+use Rattle.meaning.specs.declared.update.Slot.{Slot}
+use Rattle.meaning.specs.declared.update.Slot.TheVariants as slot
+use Rattle.meaning.specs.declared.update.QuadTemplate.{QuadTemplate}
+use Rattle.meaning.specs.declared.update.Operation.{Operation}
+use Rattle.meaning.specs.declared.update.Operation.TheVariants as operation
+use Rattle.meaning_laws.specs.Renaming.{option_known, quad_known, slot_known, graph_known, template_known, operation_known, request_known}
+use Rattle.rules.specs.Terms.{terms_of_slot, terms_of_graph, terms_of_quad as terms_of_template, terms_of_operation, terms_of_request, terms_of}
+use Rattle.store.specs.Collected.{terms_of_quad}
+use Rattle.store.specs.Held.{is_held}
+
+all_such : (p : Term → Bool) (xs : List Term) → ((t : Term) → has term_order xs t ≡ true → p t ≡ true) → list_all p xs ≡ true
+all_such p [] f = refl
+all_such p (x ∷ xs) f =
+    and_from (p x) (list_all p xs) (f x (ap (λ r. is_eq r || has term_order xs x) (tied_itself term_total x)))
+    (all_such p xs (λ t h. f t (or_right (eq_by_cmp term_order t x) (has term_order xs t) h)))
+
+-- it is made, or written and among these
+made_or_among : (b c : Bool) → c ≡ true → (not b || (c && b)) ≡ true
+made_or_among true true h = refl
+made_or_among false c h = refl
+made_or_among true false h = h
+
+-- all that is collected is held
+pub all_held : (found : List Term) → list_all (is_held (set_of term_order (filter is_written found))) found ≡ true
+all_held found =
+    all_such (is_held (set_of term_order (filter is_written found))) found (λ t h.
+    ap (λ b. not (is_written t) || b) (has-set_of term_total t (filter is_written found) ∙ has-filter term_total term_exact is_written t found)
+    ∙ made_or_among (is_written t) (has term_order found t) h)
+
+module _ (p : Term → Bool) where
+  pub all_parts : (xs ys : List Term) → list_all p (xs ++ ys) ≡ true → (list_all p xs ≡ true) × (list_all p ys ≡ true)
+  all_parts [] ys h = (refl, h)
+  all_parts (x ∷ xs) ys h =
+      let parts = and_parts (p x) (list_all p (xs ++ ys)) h in
+      let rest = all_parts xs ys parts.1 in
+      (and_from (p x) (list_all p xs) parts.0 rest.0, rest.1)
+
+  spread_parts : {X : Type 0} (f : X → List Term) (q : X → Bool) → ((x : X) → list_all p (f x) ≡ true → q x ≡ true) → (xs : List X) → list_all p (flat_map f xs) ≡ true → list_all q xs ≡ true
+  spread_parts f q each [] h = refl
+  spread_parts f q each (x ∷ xs) h =
+      let parts = all_parts (f x) (flat_map f xs) h in
+      and_from (q x) (list_all q xs) (each x parts.0) (spread_parts f q each xs parts.1)
+
+  slot_held : (s : Slot Term) → list_all p (terms_of_slot s) ≡ true → slot_known p s ≡ true
+  slot_held (slot.Term t) h = (and_parts (p t) true h).0
+  slot_held (slot.Variable v) h = refl
+  slot_held (slot.Label l) h = refl
+
+  graph_held : (g : Option (Slot Term)) → list_all p (terms_of_graph g) ≡ true → graph_known p g ≡ true
+  graph_held None h = refl
+  graph_held (Some s) h = slot_held s h
+
+  template_held : (t : QuadTemplate Term) → list_all p (terms_of_template t) ≡ true → template_known p t ≡ true
+  template_held t h =
+      let a = all_parts ((terms_of_slot t.subject ++ terms_of_slot t.predicate) ++ terms_of_slot t.object) (terms_of_graph t.graph) h in
+      let b = all_parts (terms_of_slot t.subject ++ terms_of_slot t.predicate) (terms_of_slot t.object) a.0 in
+      let c = all_parts (terms_of_slot t.subject) (terms_of_slot t.predicate) b.0 in
+      and_from (slot_known p t.subject) (slot_known p t.predicate && (slot_known p t.object && graph_known p t.graph)) (slot_held t.subject c.0)
+      (and_from (slot_known p t.predicate) (slot_known p t.object && graph_known p t.graph) (slot_held t.predicate c.1)
+      (and_from (slot_known p t.object) (graph_known p t.graph) (slot_held t.object b.1) (graph_held t.graph a.1)))
+
+  operation_held : (o : Operation Term) → list_all p (terms_of_operation o) ≡ true → operation_known p o ≡ true
+  operation_held (operation.InsertData quads) h = spread_parts terms_of_template (template_known p) template_held quads h
+
+  request_held : (r : Request Term) → list_all p (terms_of_request r) ≡ true → request_known p r ≡ true
+  request_held (Ok operations) h = spread_parts terms_of_operation (operation_known p) operation_held operations h
+  request_held (Err refusal) h = refl
+
+  pub block_held : (block : List (Request Term)) → list_all p (terms_of block) ≡ true → list_all (request_known p) block ≡ true
+  block_held block h = spread_parts terms_of_request (request_known p) request_held block h
+
+  name_held : (g : Option Term) → list_all p (option_to_list g) ≡ true → option_known p g ≡ true
+  name_held None h = refl
+  name_held (Some t) h = (and_parts (p t) true h).0
+
+  quad_held : (q : Quad Term) → list_all p (terms_of_quad q) ≡ true → quad_known p q ≡ true
+  quad_held q h =
+      let a = and_parts (p q.subject) (p q.predicate && (p q.object && list_all p (option_to_list q.graph))) h in
+      let b = and_parts (p q.predicate) (p q.object && list_all p (option_to_list q.graph)) a.1 in
+      let c = and_parts (p q.object) (list_all p (option_to_list q.graph)) b.1 in
+      and_from (p q.subject) (p q.predicate && (p q.object && option_known p q.graph)) a.0
+      (and_from (p q.predicate) (p q.object && option_known p q.graph) b.0
+      (and_from (p q.object) (option_known p q.graph) c.0 (name_held q.graph c.1)))
+
+  pub quads_held : (quads : List (Quad Term)) → list_all p (flat_map terms_of_quad quads) ≡ true → list_all (quad_known p) quads ≡ true
+  quads_held quads h = spread_parts terms_of_quad (quad_known p) quad_held quads h
+
+-- the parts of what was collected from a block, quads and names
+pub all_three : (found terms : List Term) (block : List (Request Term)) (quads : List (Quad Term)) (names : List Term)
+    → found ≡ (terms_of block ++ flat_map terms_of_quad quads) ++ names → terms ≡ set_of term_order (filter is_written found)
+    → (list_all (request_known (is_held terms)) block ≡ true) × ((list_all (quad_known (is_held terms)) quads ≡ true) × (list_all (is_held terms) names ≡ true))
+all_three found terms block quads names made frozen =
+    let held : list_all (is_held terms) found ≡ true = ap (λ (ts : List Term). list_all (is_held ts) found) frozen ∙ all_held found in
+    let whole : list_all (is_held terms) ((terms_of block ++ flat_map terms_of_quad quads) ++ names) ≡ true = sym (ap (λ (ts : List Term). list_all (is_held terms) ts) made) ∙ held in
+    let a = all_parts (is_held terms) (terms_of block ++ flat_map terms_of_quad quads) names whole in
+    let b = all_parts (is_held terms) (terms_of block) (flat_map terms_of_quad quads) a.0 in
+    (block_held (is_held terms) block b.0, (quads_held (is_held terms) quads b.1, a.1))

@@ -1,0 +1,4 @@
+pub mod Loops
+pub mod Holding
+pub mod Numbers
+pub mod Carried

@@ -1,0 +1,131 @@
+//! Requests at numbers of terms.
+ghost use Rattle.std.specs.Prelude.{◌≡◌, true, map, IfOk};
+ghost use Rattle.std.specs.List.{list_all};
+ghost use Rattle.std.specs.Option.{option_map};
+ghost use Rattle.dict.specs.Dictionary.{term_of, is_known};
+ghost use Rattle.meaning_laws.specs.Renaming.{renamed_slot, renamed_template, renamed_operation, renamed_request, slot_known, graph_known, template_known, operation_known, request_known};
+ghost use Rattle.store.specs.Held.{is_held};
+
+use crate::numbering::number_term;
+use dict::{Dict, Id};
+use meaning::{Operation, QuadTemplate, Refusal, Slot};
+use rules::Checked;
+use sets::Items;
+use std::alloc::{AllocError, Global};
+use terms::Term;
+
+/// A request at numbers of terms: its operations, or why it is refused.
+pub type Request = Result<Items<Operation<Id>>, Refusal>;
+
+fn number_slot(dict: &Dict, slot: &Slot<Term>) -> Slot<Id>
+    requires { slot_known (is_held dict.now) slot.now ≡ true }
+    ensures renamed { renamed_slot (term_of dict.now) result ≡ slot.now }
+    ensures known { slot_known (is_known dict.now) result ≡ true }
+{
+    match slot {
+        Slot::Term(term) => Slot::Term(number_term(dict, term)),
+        Slot::Variable(variable) => Slot::Variable(*variable),
+        Slot::Label(label) => Slot::Label(*label),
+    }
+}
+
+fn number_graph(dict: &Dict, graph: &Option<Slot<Term>>) -> Option<Slot<Id>>
+    requires { graph_known (is_held dict.now) graph.now ≡ true }
+    ensures renamed { option_map (renamed_slot (term_of dict.now)) result ≡ graph.now }
+    ensures known { graph_known (is_known dict.now) result ≡ true }
+{
+    match graph {
+        Some(slot) => Some(number_slot(dict, slot)),
+        None => None,
+    }
+}
+
+fn number_template(dict: &Dict, template: &QuadTemplate<Term>) -> QuadTemplate<Id>
+    requires { template_known (is_held dict.now) template.now ≡ true }
+    ensures renamed { renamed_template (term_of dict.now) result ≡ template.now }
+    ensures known { template_known (is_known dict.now) result ≡ true }
+{
+    QuadTemplate {
+        subject: number_slot(dict, &template.subject),
+        predicate: number_slot(dict, &template.predicate),
+        object: number_slot(dict, &template.object),
+        graph: number_graph(dict, &template.graph),
+    }
+}
+
+fn number_templates(
+    alloc: Global,
+    dict: &Dict,
+    templates: &[QuadTemplate<Term>],
+) -> Result<Vec<QuadTemplate<Id>>, AllocError>
+    requires { list_all (template_known (is_held dict.now)) templates.now ≡ true }
+    ensures renamed { IfOk result (λ list. map (renamed_template (term_of dict.now)) list.items ≡ templates.now) }
+    ensures known { IfOk result (λ list. list_all (template_known (is_known dict.now)) list.items ≡ true) }
+{
+    let mut list = Vec::new(alloc);
+    for template in templates {
+        list.push(number_template(dict, template))?;
+    }
+    Ok(list)
+}
+
+fn number_operation(
+    alloc: Global,
+    dict: &Dict,
+    operation: &Operation<Term>,
+) -> Result<Operation<Id>, AllocError>
+    requires { operation_known (is_held dict.now) operation.now ≡ true }
+    ensures renamed { IfOk result (λ o. renamed_operation (term_of dict.now) o ≡ operation.now) }
+    ensures known { IfOk result (λ o. operation_known (is_known dict.now) o ≡ true) }
+{
+    let Operation::InsertData(quads) = operation;
+    let list = number_templates(alloc, dict, quads.as_slice())?;
+    Ok(Operation::InsertData(Items::from_vec(list)))
+}
+
+fn number_operations(
+    alloc: Global,
+    dict: &Dict,
+    operations: &[Operation<Term>],
+) -> Result<Vec<Operation<Id>>, AllocError>
+    requires { list_all (operation_known (is_held dict.now)) operations.now ≡ true }
+    ensures renamed { IfOk result (λ list. map (renamed_operation (term_of dict.now)) list.items ≡ operations.now) }
+    ensures known { IfOk result (λ list. list_all (operation_known (is_known dict.now)) list.items ≡ true) }
+{
+    let mut list = Vec::new(alloc);
+    for operation in operations {
+        list.push(number_operation(alloc, dict, operation)?)?;
+    }
+    Ok(list)
+}
+
+fn number_request(alloc: Global, dict: &Dict, request: &Checked) -> Result<Request, AllocError>
+    requires { request_known (is_held dict.now) request.now ≡ true }
+    ensures renamed { IfOk result (λ r. renamed_request (term_of dict.now) r ≡ request.now) }
+    ensures known { IfOk result (λ r. request_known (is_known dict.now) r ≡ true) }
+{
+    match request {
+        Ok(operations) => {
+            let list = number_operations(alloc, dict, operations.as_slice())?;
+            Ok(Ok(Items::from_vec(list)))
+        }
+        Err(refusal) => Ok(Err(*refusal)),
+    }
+}
+
+/// The numbers of requests whose terms the dictionary holds.
+pub(crate) fn number_requests(
+    alloc: Global,
+    dict: &Dict,
+    requests: &[Checked],
+) -> Result<Vec<Request>, AllocError>
+    requires { list_all (request_known (is_held dict.now)) requests.now ≡ true }
+    ensures renamed { IfOk result (λ list. map (renamed_request (term_of dict.now)) list.items ≡ requests.now) }
+    ensures known { IfOk result (λ list. list_all (request_known (is_known dict.now)) list.items ≡ true) }
+{
+    let mut list = Vec::new(alloc);
+    for request in requests {
+        list.push(number_request(alloc, dict, request)?)?;
+    }
+    Ok(list)
+}
