@@ -1,21 +1,19 @@
 -- The run of the numbers is the run of the terms.
-use Rattle.std.proofs.Common.{◌≡◌, ℕ, zero, suc, ◌+◌, true, Bool, List, [], ◌∷◌, take, map, refl, sym, ap, ◌∙◌, subst}
+use Rattle.std.proofs.Common.{◌≡◌, ℕ, zero, suc, ◌+◌, true, Bool, List, [], ◌∷◌, take, map, refl, ap, ◌∙◌}
 use Rattle.std.specs.List.{list_all}
 use Rattle.std.proofs.lemmas.Bool.{and_parts, and_from}
-use Rattle.terms.specs.Term.{term_order}
 use Rattle.terms.specs.TermLaws.{term_total, term_exact}
 use Rattle.terms.specs.declared.term.Term.{Term}
-use Rattle.datasets.specs.declared.id.Id.{Id}
 use Rattle.datasets.specs.Dataset.{Dataset, IsDataset}
-use Rattle.dict.specs.Dictionary.{IsDictionary, term_of, is_known, written, numbers}
+use Rattle.dict.specs.Dictionary.{term_of, is_known, written, numbers}
 use Rattle.dict.proofs.Numbers.{is_renaming}
 use Rattle.meaning.specs.Vocabulary.{Vocabulary}
 use Rattle.meaning.specs.Run.{Request, answer_of, run_from, run_of_first}
-use Rattle.meaning_laws.specs.Renaming.{renamed, renamed_request, dataset_known, request_known}
+use Rattle.meaning_laws.specs.Renaming.{renamed, renamed_request, request_known}
 use Rattle.meaning_laws.specs.Answers.{IsExactOrder}
 use Rattle.meaning_laws.proofs.Renames.{carries_run}
 use Rattle.meaning_laws.proofs.Answers.{answers_with_datasets}
-use Rattle.store.specs.Numbered.{IsNumbered, IsCarried, CarriesBlock}
+use Rattle.store.specs.Numbered.{CarriesBlock}
 
 map-take : {A B : Type 0} (f : A → B) (n : ℕ) (xs : List A) → map f (take n xs) ≡ take n (map f xs)
 map-take f zero [] = refl

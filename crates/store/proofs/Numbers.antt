@@ -1,8 +1,8 @@
 -- The numbers of a dataset are a dataset.
-use Rattle.std.proofs.Common.{◌≡◌, Bool, true, false, List, [], ◌∷◌, map, refl, sym, ap, ◌∙◌, subst}
-use Rattle.std.specs.Prelude.{◌||◌, ◌&&◌}
+use Rattle.std.proofs.Common.{◌≡◌, Bool, true, List, [], ◌∷◌, map, refl, sym, ap, ◌∙◌, subst}
+use Rattle.std.specs.Prelude.{◌||◌}
 use Rattle.std.specs.List.{list_all}
-use Rattle.std.specs.Ordering.{eq_by_cmp, is_eq}
+use Rattle.std.specs.Ordering.{is_eq}
 use Rattle.std.specs.declared.cmp.Ordering.{Ordering}
 use Rattle.std.specs.declared.cmp.Ordering.TheVariants.{Less, Equal, Greater}
 use Rattle.std.proofs.lemmas.Bool.{and_parts, and_from, false≢true}
@@ -16,7 +16,7 @@ use Rattle.datasets.specs.declared.id.Id.{Id}
 use Rattle.datasets.specs.declared.quad.Quad.{Quad}
 use Rattle.datasets.specs.Dataset.{Dataset, IsDataset, quad_order, names_of}
 use Rattle.datasets.specs.Id.{id_order, id_total, id_exact, quad_total, quad_exact}
-use Rattle.dict.specs.Dictionary.{IsDictionary, term_of, is_known, numbers, written}
+use Rattle.dict.specs.Dictionary.{IsDictionary, term_of, is_known}
 use Rattle.dict.proofs.Numbers.{is_renaming}
 use Rattle.meaning.specs.Run.{Request}
 use Rattle.meaning_laws.specs.Renaming.{renamed, renamed_quad, renamed_request, quad_known, dataset_known, request_known}
