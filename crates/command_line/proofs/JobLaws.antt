@@ -1,10 +1,8 @@
 -- From what `clap` says of a parse to the answer of a command line.
-use Rattle.std.proofs.Common.{◌≡◌, ◌≢◌, ◌⊎◌, ◌∙◌, ◌<◌, ◌≤◌, ℕ, true, List, [], ◌∷◌, Option, Some, None, rules, refl, sym, ap, subst, ◌^◌, inl, inr, arith, codes}
-use Rattle.std.specs.Prelude.{option_map, Result, Ok, Err, string_bytes, String, unwrap_or}
-use Rattle.std.specs.declared.alloc.Global.{Global}
-use Rattle.std.specs.Borrow.{Bor}
-use Rattle.std.specs.Str.Parse.{IsNumeral, ParsesUnsigned, ExplainsUnsignedError, HasUnsignedDigitsIfOk, digits_value, without_leading_plus}
-use Rattle.clap.specs.Words.{App, Row, Text, app_of, first_of, one_of, first_value, one_text, found_of, rows_of, kind_of, is_simple, is_simple_and_free, subcommand_of, subcommand_rows_of, fault_of, HasKind, IsAmong, Kinds, matches_of}
+use Rattle.std.proofs.Common.{◌≡◌, ◌⊎◌, ◌∙◌, ◌<◌, ◌≤◌, ℕ, true, List, [], ◌∷◌, Option, Some, None, rules, refl, sym, ap, subst, ◌^◌, inl, inr, arith, codes}
+use Rattle.std.specs.Prelude.{◌≢◌, option_map, Result, Ok, Err, string_bytes, unwrap_or}
+use Rattle.std.specs.Str.Parse.{ParsesUnsigned}
+use Rattle.clap.specs.Words.{App, Row, Text, first_of, one_of, first_value, one_text, found_of, rows_of, kind_of, is_simple, is_simple_and_free, subcommand_of, subcommand_rows_of, fault_of, HasKind, IsAmong, Kinds, matches_of}
 use Rattle.clap.specs.Matches.{ReadsOne}
 use Rattle.clap.specs.declared.error.Error.{Error}
 use Rattle.clap.specs.declared.error.kind.ErrorKind.{ErrorKind}
@@ -17,7 +15,7 @@ use Rattle.command_line.specs.declared.fault.LineFault.{LineFault}
 use Rattle.command_line.specs.declared.fault.LineFault.TheVariants.{Memory, Help, Wrong}
 use Rattle.command_line.specs.declared.job.Job.{Job}
 use Rattle.command_line.specs.declared.job.Job.TheVariants.{Run}
-use Rattle.command_line.specs.CommandLine.{program, IsNumber, IsWorkers, IsRun, IsFileAnswer, IsWorkersAnswer, IsRunAnswer, IsToldAs, IsJob, IsAnswer}
+use Rattle.command_line.specs.CommandLine.{program, IsWorkers, IsRun, IsFileAnswer, IsWorkersAnswer, IsRunAnswer, IsToldAs, IsAnswer}
 
 simple : is_simple program ≡ true
 unfolding clap_on_literals
@@ -74,6 +72,16 @@ workers_fail rows (Wrong m) a = no
     no : (j : Job) → IsRun rows j → ⊥
     no (Run b k o w) h = a w h.3
 
+not_help : (ks : Kinds) → ks ≡ [] → ks ≢ DisplayHelp ∷ []
+not_help ks e h = let bad : [] ≡ DisplayHelp ∷ [] = sym e ∙ h in cc
+
+only_help : (k : ErrorKind) (ks : Kinds) → ks ≡ DisplayHelp ∷ [] → IsAmong k ks → k ≡ DisplayHelp
+only_help k ks e h = one (subst (λ (x : Kinds). IsAmong k x) e h)
+  where
+    one : (k ≡ DisplayHelp) ⊎ ⊥ → k ≡ DisplayHelp
+    one (inl is) = is
+    one (inr none) = absurd none
+
 none_among : (k : ErrorKind) (ks : Kinds) → ks ≡ [] → IsAmong k ks → ⊥
 none_among k ks e h = subst (λ (x : Kinds). IsAmong k x) e h
 
@@ -91,10 +99,10 @@ parse_fails app is words e f kinds told = go f told
       | inl o ↦ let bad : OutOfMemory ≡ DisplayHelp = sym o ∙ t in cc
       | inr h ↦ subst (λ (k : ErrorKind). IsAmong k (fault_of program words)) t h
     ]
-    go (Wrong m) t = λ none j job. elim has [
-      | inl o ↦ t o
-      | inr h ↦ none_among (kind_of e) (fault_of program words) none h
-    ]
+    go (Wrong m) t = (
+      λ help. elim has [ inl o ↦ t.0 o | inr h ↦ t.1 (only_help (kind_of e) (fault_of program words) help h) ],
+      λ none j job. elim has [ inl o ↦ t.0 o | inr h ↦ none_among (kind_of e) (fault_of program words) none h ],
+    )
 
 named : (o : Option (Text × List Row)) (rows : List Row) → Some rows ≡ option_map (λ p. p.1) o → (name : Text) × (o ≡ Some (name, rows))
 named None rows e = let bad : Some rows ≡ None = e in cc
@@ -134,16 +142,20 @@ parse_enters app is words m rows r kinds matches found a = go r a
     go (Ok j) h = (free, (own.0, rows, own.1, h))
     go (Err Memory) h = search rules
     go (Err (Help t)) h = absurd h
-    go (Err (Wrong t)) h = λ none j job. h j (subst (λ (x : List Row). IsRun x j) (same_rows _ own.0 job.0 rows job.1 own.1 job.2) job.3)
+    go (Err (Wrong t)) h = (not_help (fault_of program words) free, λ none j job. h j (subst (λ (x : List Row). IsRun x j) (same_rows _ own.0 job.0 rows job.1 own.1 job.2) job.3))
 
 -- a parse that enters none
 pub parse_enters_none : (app : App) → app ≡ program → (words : List Text) (m : ArgMatches) (f : LineFault)
+    → (is_simple_and_free app ≡ true → fault_of app words ≡ [])
     → (is_simple app ≡ true → (rows_of (found_of m) ≡ matches_of app words) × (subcommand_rows_of m ≡ subcommand_of app words))
     → None ≡ option_map (λ p. p.1) (subcommand_rows_of m) → IsToldAs InvalidValue f → IsAnswer words (Err f)
-parse_enters_none app is words m f matches found told = go f told
+parse_enters_none app is words m f kinds matches found told = go f told
   where
     entered : subcommand_rows_of m ≡ subcommand_of program words
     entered = (matches (ap is_simple is ∙ simple)).1 ∙ ap (λ (x : App). subcommand_of x words) is
+
+    free : fault_of program words ≡ []
+    free = subst (λ (x : App). is_simple_and_free x ≡ true → fault_of x words ≡ []) is kinds simple_and_free
 
     nothing : subcommand_of program words ≡ None
     nothing = unnamed (subcommand_of program words) (found ∙ ap (option_map (λ p. p.1)) entered)
@@ -151,7 +163,7 @@ parse_enters_none app is words m f matches found told = go f told
     go : (f : LineFault) → IsToldAs InvalidValue f → IsAnswer words (Err f)
     go Memory t = search rules
     go (Help m) t = absurd (no_help t)
-    go (Wrong m) t = λ none j job. none_some (subcommand_of program words) (job.0, job.1) nothing job.2
+    go (Wrong m) t = (not_help (fault_of program words) free, λ none j job. none_some (subcommand_of program words) (job.0, job.1) nothing job.2)
 
 pub word_is : (f : Found) (id : Text) → first_value f id ≡ first_of id (rows_of f)
 word_is f id = first_value-rows f id

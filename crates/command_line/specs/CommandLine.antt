@@ -74,15 +74,15 @@ IsRunAnswer rows (Err (Wrong text)) = (j : Job) → IsRun rows j → ⊥
 abbrev pub IsToldAs : ErrorKind → LineFault → Type 0
 IsToldAs k Memory = ⊤
 IsToldAs k (Help text) = k ≡ DisplayHelp
-IsToldAs k (Wrong text) = k ≢ OutOfMemory
+IsToldAs k (Wrong text) = (k ≢ OutOfMemory) × (k ≢ DisplayHelp)
 
 -- the words, of which the first is the program's name, give this job
 abbrev pub IsJob : List Text → Job → Type 0
 IsJob words j = (name : Text) × (rows : List Row) × (subcommand_of program words ≡ Some (name, rows)) × IsRun rows j
 
--- a job where the words are free of faults and give it; help where they ask for it; else they have a fault or give no job
+-- a job where the words are free of faults and give it; help where they ask for it; else they have another fault or give no job
 abbrev pub IsAnswer : List Text → Result Job LineFault → Type 0
 IsAnswer words (Ok j) = (fault_of program words ≡ []) × IsJob words j
 IsAnswer words (Err Memory) = ⊤
 IsAnswer words (Err (Help text)) = IsAmong DisplayHelp (fault_of program words)
-IsAnswer words (Err (Wrong text)) = fault_of program words ≡ [] → (j : Job) → IsJob words j → ⊥
+IsAnswer words (Err (Wrong text)) = (fault_of program words ≢ DisplayHelp ∷ []) × (fault_of program words ≡ [] → (j : Job) → IsJob words j → ⊥)

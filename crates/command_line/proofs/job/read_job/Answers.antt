@@ -1,4 +1,3 @@
-use Rattle.std.proofs.Common.{rules, ◌≡◌}
 use Rattle.clap.specs.Words.{app_of}
 use Rattle.command_line.proofs.JobLaws.{parse_fails, parse_enters, parse_enters_none}
 use Rattle.command_line.proofs.job.read_job.Goals as goal
@@ -13,4 +12,4 @@ returns-in-Some c =
 
 pub returns : goal.returns
 returns c =
-    parse_enters_none (app_of c.in_ok-program.field-0) c.in_ok-program.ensures _ c.in-Ok.matches c.wrong.result c.in-Ok.ensures.matches c.in-None.ensures.rows c.wrong.ensures
+    parse_enters_none (app_of c.in_ok-program.field-0) c.in_ok-program.ensures _ c.in-Ok.matches c.wrong.result c.in-Ok.ensures.kinds c.in-Ok.ensures.matches c.in-None.ensures.rows c.wrong.ensures
