@@ -1,0 +1,117 @@
+//! Two insertions, request 1 of what request 0 inserts and of one quad more.
+ghost use Rattle.reads.specs.Reads.{IsDataset};
+
+use crate::run::{Turn, begin, check, commit, execute, take};
+use block_machine::Reply;
+use book::{Book, Request};
+use datasets::Id;
+use dict::Dict;
+use iris::Iri;
+use meaning::{Operation, QuadTemplate, Slot};
+use reads::View;
+use sets::Items;
+use std::alloc::{AllocError, Global};
+use terms::Term;
+
+#[tactic(auto, using(crate::proofs::Empty::empty_dataset))]
+fn nothing(alloc: Global) -> View
+    ensures { IsDataset result }
+{
+    View::from_parts(Vec::new(alloc), Vec::new(alloc))
+}
+
+// Four IRIs, whose numbers are 0 to 3.
+fn four(alloc: Global) -> Result<Dict, AllocError> {
+    let mut terms = Vec::new(alloc);
+    for text in ["http://e/a", "http://e/b", "http://e/c", "http://e/p"] {
+        if let Some(iri) = Iri::check(alloc, text)? {
+            terms.push(Term::Iri(iri))?;
+        }
+    }
+    Ok(Dict::freeze(terms))
+}
+
+// The triple of http://e/a, http://e/p and the term of this number.
+fn template(object: usize) -> QuadTemplate<Id> {
+    QuadTemplate {
+        subject: Slot::Term(Id::Known(0)),
+        predicate: Slot::Term(Id::Known(3)),
+        object: Slot::Term(Id::Known(object)),
+        graph: None,
+    }
+}
+
+fn insertion(alloc: Global, both: bool) -> Result<Request, AllocError> {
+    let mut quads = Items::new(alloc);
+    quads.push(template(1))?;
+    if both {
+        quads.push(template(2))?;
+    }
+    let mut operations = Items::new(alloc);
+    operations.push(Operation::InsertData(quads))?;
+    Ok(Ok(operations))
+}
+
+fn two(alloc: Global) -> Result<Vec<Request>, AllocError> {
+    let mut block = Vec::new(alloc);
+    block.push(insertion(alloc, false)?)?;
+    block.push(insertion(alloc, true)?)?;
+    Ok(block)
+}
+
+fn turn(worker: u32, place: usize, incarnation: u64) -> Turn {
+    Turn {
+        worker,
+        place,
+        incarnation,
+    }
+}
+
+// Request 1 runs before request 0 has published, and is checked after it.
+fn aborted(alloc: Global, book: &mut Book<'_>) -> Result<bool, AllocError> {
+    let late = turn(1, 1, 0);
+    let early = turn(0, 0, 0);
+    let mut right = matches!(&take(alloc, book, 1, 1)?, Reply::Taken(0));
+    right &= matches!(&execute(alloc, book, late)?, Reply::Published);
+    right &= matches!(&take(alloc, book, 0, 0)?, Reply::Taken(0));
+    right &= matches!(&execute(alloc, book, early)?, Reply::Published);
+    right &= matches!(&begin(alloc, book, late)?, Reply::Begun);
+    right &= matches!(&check(alloc, book, late)?, Reply::Aborted);
+    Ok(right)
+}
+
+// Both are run again and checked; request 1 is stamped before request 0 is committed.
+fn committed(alloc: Global, book: &mut Book<'_>) -> Result<bool, AllocError> {
+    let late = turn(2, 1, 1);
+    let early = turn(0, 0, 0);
+    let mut right = matches!(&take(alloc, book, 2, 1)?, Reply::Taken(1));
+    right &= matches!(&execute(alloc, book, late)?, Reply::Published);
+    right &= matches!(&begin(alloc, book, late)?, Reply::Begun);
+    right &= matches!(&check(alloc, book, late)?, Reply::Passed);
+    right &= matches!(&check(alloc, book, late)?, Reply::Passed);
+    right &= matches!(&commit(alloc, book, late)?, Reply::NotYet);
+    right &= matches!(&begin(alloc, book, early)?, Reply::Begun);
+    right &= matches!(&check(alloc, book, early)?, Reply::Passed);
+    right &= matches!(&commit(alloc, book, early)?, Reply::Committed);
+    right &= matches!(&commit(alloc, book, late)?, Reply::Committed);
+    Ok(right)
+}
+
+#[test]
+fn two_insertions(rt: HostRuntime) -> Result<(), AllocError> {
+    let alloc = rt.alloc();
+    let terms = four(alloc)?;
+    let base = nothing(alloc);
+    let block = two(alloc)?;
+    let mut book = Book::new(alloc, &terms, &base, &block)?;
+    assert!(rt; aborted(alloc, &mut book)?);
+    assert!(rt; committed(alloc, &mut book)?);
+    let outcome = book.outcome(alloc)?;
+    let one = meaning::Reply::Done {
+        added: 1,
+        removed: 0,
+    };
+    assert!(rt; outcome.replies.as_slice() == [one, one].as_slice());
+    assert!(rt; outcome.dataset.quads().len() == 2);
+    Ok(())
+}
