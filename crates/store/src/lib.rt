@@ -14,3 +14,6 @@ pub mod requests;
 pub use naming::named;
 pub use numbering::{Numbered, number};
 pub use requests::Request;
+
+#[cfg(test)]
+mod tests;
