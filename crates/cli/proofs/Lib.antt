@@ -1,0 +1,3 @@
+pub mod Composed
+pub mod Blocks
+pub mod Bytes

@@ -1,0 +1,57 @@
+-- What the program writes.
+use Rattle.std.specs.Prelude.{◌≡◌, ◌⊎◌, ℕ, List, length, ◌≤◌, Option, Ok, take}
+use Rattle.std.specs.Io.KnownBytes.{Appends, Keeps}
+use Rattle.datasets.specs.Dataset.{Dataset}
+use Rattle.terms.specs.declared.term.Term.{Term}
+use Rattle.datasets.specs.declared.id.Id.{Id}
+use Rattle.dict.specs.Dictionary.{written, numbers}
+use Rattle.meaning.specs.Run.{Request, run, run_of_first}
+use Rattle.meaning.specs.declared.reply.Reply.{Reply}
+use Rattle.nquads.specs.Canonical.{canonical}
+use Rattle.nquads.specs.Tag.{IsTagOf}
+use Rattle.command_line.specs.Replies.{reply_lines}
+use Rattle.cli.specs.Inputs.{IsBaseAnswer, IsBlockAnswer}
+
+-- the answer to a dataset and a block: the canonical text of the dataset after the sequential run, with the tag of the dataset before it,
+-- and the reply lines
+pub record IsAnswerTo (before : Dataset Term) (requests : List (Request Term)) (dataset replies : List ℕ) : Type 0 where
+  pub tag : ℕ
+  pub tagged : IsTagOf before tag
+  pub dataset_is : dataset ≡ canonical (run written requests before).0 tag
+  pub replies_are : replies ≡ reply_lines (run written requests before).1
+
+-- the output for the bytes of a base and of a block: the answer to the dataset that the base spells and the block's requests
+pub record IsOutput (base block dataset replies : List ℕ) : Type 0 where
+  pub before : Dataset Term
+  pub requests : List (Request Term)
+  pub base_is : IsBaseAnswer base (Ok before)
+  pub block_is : IsBlockAnswer block (Ok requests)
+  pub answer : IsAnswerTo before requests dataset replies
+
+-- a writer's bytes grew by a text
+abbrev pub Grew : Option (List ℕ) → Option (List ℕ) → List ℕ → Type 0
+Grew old new text = Appends old new text
+
+-- a writer's bytes grew by a beginning of a text
+abbrev pub GrewInPart : Option (List ℕ) → Option (List ℕ) → List ℕ → Type 0
+GrewInPart old new text = (n : ℕ) × Appends old new (take n text)
+
+-- one of two writers failed: of the first text a beginning was written and of the second nothing, or the first is whole and of the second a
+-- beginning was written
+abbrev pub IsPart : Option (List ℕ) → Option (List ℕ) → Option (List ℕ) → Option (List ℕ) → List ℕ → List ℕ → Type 0
+IsPart first_old first_new second_old second_new first second =
+    (GrewInPart first_old first_new first × Keeps second_old second_new) ⊎ (Grew first_old first_new first × GrewInPart second_old second_new second)
+
+-- both writers have the output of a base and a block
+abbrev pub Wrote : (base block : List ℕ) → Option (List ℕ) → Option (List ℕ) → Option (List ℕ) → Option (List ℕ) → Type 0
+Wrote base block dataset_old dataset_new replies_old replies_new =
+    (dataset replies : List ℕ) × IsOutput base block dataset replies × Grew dataset_old dataset_new dataset × Grew replies_old replies_new replies
+
+-- the writers have the output up to where one of them failed
+abbrev pub WroteInPart : (base block : List ℕ) → Option (List ℕ) → Option (List ℕ) → Option (List ℕ) → Option (List ℕ) → Type 0
+WroteInPart base block dataset_old dataset_new replies_old replies_new =
+    (dataset replies : List ℕ) × IsOutput base block dataset replies × IsPart dataset_old dataset_new replies_old replies_new dataset replies
+
+-- at numbers of terms, the dataset and the replies of the sequential run of the whole block
+abbrev pub IsWhole : List Term → Dataset Id → List (Request Id) → Dataset Id → List Reply → Type 0
+IsWhole terms base block dataset replies = (n : ℕ) × (length block ≤ n) × ((dataset, replies) ≡ run_of_first (numbers terms) n block base)

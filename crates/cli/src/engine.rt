@@ -1,0 +1,99 @@
+//! The engine of the command `run`.
+ghost use Rattle.std.specs.Prelude.{◌≡◌, ◌≢◌, ◌<◌, ◌≤◌, ◌-◌, ◌^◌, length, IfOk, IfErr, IfSome, OnOk, IsErrOf, string_bytes};
+ghost use Rattle.datasets.specs.Dataset.{IsDataset};
+ghost use Rattle.datasets.specs.Id.{id_order};
+ghost use Rattle.driver.specs.Same.{AreShort as AreShortNumbers};
+ghost use Rattle.cli.specs.Inputs.{AreShort, IsFaultOf};
+ghost use Rattle.cli.specs.Outputs.{IsAnswerTo, IsWhole, Wrote, WroteInPart};
+
+use crate::inputs::{read_base, read_block};
+use crate::outputs::{Texts, write_texts};
+use book::{Book, Outcome};
+use command_line::{Fault, File, replies_text};
+use driver::run_to_end;
+use nquads::{Watched, canonical_text, tag};
+use rules::Block;
+use std::alloc::{AllocError, Global};
+use std::io::{Read, Write};
+use std::sync::Wait;
+use store::{Numbered, named, number};
+use terms::DataSet;
+
+/// The texts of the answer to a base and a block.
+fn texts_of<T: Wait>(
+    rt: &T,
+    alloc: Global,
+    base: &DataSet,
+    block: &Block,
+    workers: u32,
+) -> Result<Texts, AllocError>
+    requires some { 0 < workers }
+    requires few { length block.now ≤ 4096 }
+    requires short { AreShort block.now }
+    ensures { IfOk result (λ texts. IsAnswerTo base.now block.now texts.dataset.items (string_bytes texts.replies)) }
+{
+    let _quads = base.quads();
+    let numbered = number(alloc, base, block)?;
+    let outcome = outcome_of(rt, alloc, &numbered, workers)?;
+    let answer = named(alloc, &numbered.terms, &outcome.dataset)?;
+    let tag = tag(alloc, base)?;
+    Ok(Texts {
+        dataset: canonical_text(alloc, &answer, tag)?,
+        replies: replies_text(alloc, outcome.replies.as_slice())?,
+    })
+}
+
+/// The outcome of the whole block at numbers of terms.
+fn outcome_of<T: Wait>(
+    rt: &T,
+    alloc: Global,
+    numbered: &Numbered,
+    workers: u32,
+) -> Result<Outcome, AllocError>
+    requires some { 0 < workers }
+    requires few { length numbered.now.block.items < 2 ^ 32 }
+    requires short { AreShortNumbers numbered.now.block.items }
+    requires dataset { IsDataset id_order numbered.now.base }
+    ensures { IfOk result (λ outcome. IsWhole numbered.now.terms numbered.now.base numbered.now.block.items outcome.dataset outcome.replies) }
+{
+    let block = numbered.block.as_slice();
+    let mut book = Book::new(alloc, &numbered.terms, &numbered.base, block)?;
+    run_to_end(rt, alloc, &mut book, workers)?;
+    book.outcome(alloc)
+}
+
+/// Reads a base and a block, runs the block, and writes the canonical text of the new dataset and one line a request. The base is read
+/// before the block, and all texts are made before a writer is touched; then the dataset and the replies are written in this order, each
+/// flushed, also where it is empty. Workers are from 1 to 64, and change nothing in the answer. A fault is the first that comes: of the
+/// base, of the block, want of memory, or of a writer.
+pub fn run_engine<T: Wait, B: Read, K: Read, D: Write, A: Write>(
+    rt: &T,
+    alloc: Global,
+    base: &mut Watched<B>,
+    block: &mut Watched<K>,
+    dataset: &mut Watched<D>,
+    replies: &mut Watched<A>,
+    workers: u32,
+) -> Result<(), Fault>
+    requires base { base.old.failures < 2 ^ 64 - 1 }
+    requires block { block.old.failures < 2 ^ 64 - 1 }
+    requires dataset { dataset.old.failures < 2 ^ 64 - 1 }
+    requires replies { replies.old.failures < 2 ^ 64 - 1 }
+    requires some { 0 < workers }
+    requires most { workers ≤ 64 }
+    // What was written is the output of what was read.
+    ensures answer { OnOk result (IfSome (B.remaining base.old.inner) (λ b. IfSome (K.remaining block.old.inner) (λ k. Wrote b k (D.contents dataset.old.inner) (D.contents dataset.new.inner) (A.contents replies.old.inner) (A.contents replies.new.inner)))) }
+    // After a failed write the texts before it are whole, and of its own a beginning was written.
+    ensures part { IsErrOf result (Fault.CannotWrite File.Answer) → IfSome (B.remaining base.old.inner) (λ b. IfSome (K.remaining block.old.inner) (λ k. WroteInPart b k (D.contents dataset.old.inner) (D.contents dataset.new.inner) (A.contents replies.old.inner) (A.contents replies.new.inner))) }
+    // Any other fault comes before a writer is touched.
+    ensures untouched { IfErr result (λ fault. fault ≢ Fault.CannotWrite File.Answer → (dataset.new ≡ dataset.old) × (replies.new ≡ replies.old)) }
+    // Each fault is told only where it is there.
+    ensures fault { IfErr result (λ fault. IfSome (B.remaining base.old.inner) (λ b. IfSome (K.remaining block.old.inner) (λ k. IsFaultOf b k fault))) }
+{
+    let read = read_base(alloc, base)?;
+    let requests = read_block(alloc, block)?;
+    match texts_of(rt, alloc, &read, &requests, workers) {
+        Ok(texts) => write_texts(&texts, dataset, replies),
+        Err(_) => Err(Fault::Memory),
+    }
+}

@@ -1,0 +1,86 @@
+//! The base and the block, as their readers give them.
+ghost use Rattle.std.specs.Prelude.{◌≡◌, ◌<◌, ◌≤◌, ◌-◌, ◌^◌, Ok, Err, IfSome, IfOk, length, List, ℕ};
+ghost use Rattle.nquads.specs.Checked.{IsFront};
+ghost use Rattle.rules.specs.Requests.{IsSplit};
+ghost use Rattle.cli.specs.Inputs.{IsBaseAnswer, IsBlockAnswer, AreShort, base_fault as the_base_fault, block_fault as the_block_fault, device_fault as the_device_fault};
+
+use command_line::{Fault, File};
+use nquads::{BaseFault, Watched, front_of};
+use rules::{Block, BlockFault, split};
+use std::alloc::Global;
+use std::io::Read;
+use terms::DataSet;
+
+/// The most bytes of a block.
+const MOST_BLOCK_BYTES: usize = 268_435_456;
+
+/// What the program tells of a base that was not read.
+fn base_fault(fault: BaseFault) -> Fault
+    ensures { result ≡ the_base_fault fault }
+{
+    match fault {
+        BaseFault::OutOfMemory => Fault::Memory,
+        BaseFault::BadLine(number) => Fault::BadLine(number),
+        BaseFault::TooLong => Fault::BaseTooLong,
+        BaseFault::Device => Fault::CannotRead(File::Base),
+    }
+}
+
+/// What the program tells of a block whose bytes did not come.
+fn device_fault(fault: BaseFault) -> Fault
+    ensures { result ≡ the_device_fault fault }
+{
+    match fault {
+        BaseFault::Device => Fault::CannotRead(File::Block),
+        _ => Fault::Memory,
+    }
+}
+
+/// What the program tells of a block that was not cut.
+fn block_fault(fault: BlockFault) -> Fault
+    ensures { result ≡ the_block_fault fault }
+{
+    match fault {
+        BlockFault::OutOfMemory => Fault::Memory,
+        BlockFault::TooLong => Fault::BlockTooLong,
+        BlockFault::TooManyRequests => Fault::TooManyRequests,
+        BlockFault::BadUtf8 => Fault::BadUtf8,
+    }
+}
+
+/// The dataset that a base spells.
+pub fn read_base<R: Read>(alloc: Global, reader: &mut Watched<R>) -> Result<DataSet, Fault>
+    requires { reader.old.failures < 2 ^ 64 - 1 }
+    ensures { IfSome (R.remaining reader.old.inner) (λ text. IsBaseAnswer text result) }
+{
+    match nquads::read(alloc, reader) {
+        Ok(dataset) => Ok(dataset),
+        Err(fault) => Err(base_fault(fault)),
+    }
+}
+
+/// The requests of a block's bytes.
+fn cut(alloc: Global, bytes: &[u8]) -> Result<Block, Fault>
+    ensures answer { (text : List ℕ) → IsFront (2 ^ 28) text bytes.now → IsBlockAnswer text result }
+    ensures few { IfOk result (λ block. length block ≤ 4096) }
+    ensures short { IfOk result AreShort }
+{
+    match split(alloc, bytes) {
+        Ok(block) => Ok(block),
+        Err(fault) => Err(block_fault(fault)),
+    }
+}
+
+/// The requests of the block that a reader gives.
+pub fn read_block<R: Read>(alloc: Global, reader: &mut Watched<R>) -> Result<Block, Fault>
+    requires { reader.old.failures < 2 ^ 64 - 1 }
+    ensures answer { IfSome (R.remaining reader.old.inner) (λ text. IsBlockAnswer text result) }
+    ensures few { IfOk result (λ block. length block ≤ 4096) }
+    ensures short { IfOk result AreShort }
+{
+    let bytes = match front_of(alloc, reader, MOST_BLOCK_BYTES) {
+        Ok(bytes) => bytes,
+        Err(fault) => return Err(device_fault(fault)),
+    };
+    cut(alloc, bytes.as_slice())
+}

@@ -1,0 +1,60 @@
+//! The texts of an answer, made before any writer is touched.
+ghost use Rattle.std.specs.Prelude.{◌≡◌, ◌<◌, ◌-◌, ◌^◌, ◌⊎◌, OnOk, OnErr, IfErr, string_bytes};
+ghost use Rattle.std.specs.Io.KnownBytes.{Keeps};
+ghost use Rattle.cli.specs.Outputs.{Grew, GrewInPart, IsPart};
+ghost use Rattle.command_line.specs.declared.fault.Fault.TheVariants.{CannotWrite};
+ghost use Rattle.command_line.specs.declared.fault.File.TheVariants.{Answer};
+
+use command_line::{Fault, File};
+use nquads::Watched;
+use std::io::Write;
+
+/// The canonical text of the new dataset, and the reply lines.
+#[derive(Drop)]
+pub struct Texts {
+    pub dataset: Vec<u8>,
+    pub replies: String,
+}
+
+/// Flushes a writer.
+fn flush<W: Write>(writer: &mut Watched<W>) -> Result<(), Fault>
+    requires { writer.old.failures < 2 ^ 64 - 1 }
+    ensures bytes { Keeps (W.contents writer.old.inner) (W.contents writer.new.inner) }
+    ensures fault { IfErr result (λ fault. fault ≡ CannotWrite Answer) }
+{
+    match writer.flush() {
+        Ok(()) => Ok(()),
+        Err(_) => Err(Fault::CannotWrite(File::Answer)),
+    }
+}
+
+/// Writes a text and flushes it.
+fn write_text<W: Write>(writer: &mut Watched<W>, text: &[u8]) -> Result<(), Fault>
+    requires { writer.old.failures < 2 ^ 64 - 1 }
+    ensures ok { OnOk result (Grew (W.contents writer.old.inner) (W.contents writer.new.inner) text.now) }
+    ensures part { OnErr result (GrewInPart (W.contents writer.old.inner) (W.contents writer.new.inner) text.now) }
+    ensures fault { IfErr result (λ fault. fault ≡ CannotWrite Answer) }
+{
+    match writer.write_all(text) {
+        Ok(()) => flush(writer),
+        Err(_) => Err(Fault::CannotWrite(File::Answer)),
+    }
+}
+
+/// Writes the dataset, then the replies, each flushed, also where it is empty.
+pub fn write_texts<D: Write, A: Write>(
+    texts: &Texts,
+    dataset: &mut Watched<D>,
+    replies: &mut Watched<A>,
+) -> Result<(), Fault>
+    requires dataset { dataset.old.failures < 2 ^ 64 - 1 }
+    requires replies { replies.old.failures < 2 ^ 64 - 1 }
+    ensures dataset { OnOk result (Grew (D.contents dataset.old.inner) (D.contents dataset.new.inner) texts.now.dataset.items) }
+    ensures replies { OnOk result (Grew (A.contents replies.old.inner) (A.contents replies.new.inner) (string_bytes texts.now.replies)) }
+    // After a failed write the texts before it are whole, and of its own a beginning was written.
+    ensures part { OnErr result (IsPart (D.contents dataset.old.inner) (D.contents dataset.new.inner) (A.contents replies.old.inner) (A.contents replies.new.inner) texts.now.dataset.items (string_bytes texts.now.replies)) }
+    ensures fault { IfErr result (λ fault. fault ≡ CannotWrite Answer) }
+{
+    write_text(dataset, texts.dataset.as_slice())?;
+    write_text(replies, texts.replies.as_bytes())
+}
