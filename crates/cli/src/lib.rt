@@ -9,7 +9,7 @@ pub mod files;
 pub mod inputs;
 pub mod outputs;
 
-pub use command_line::{Fault, File, Job, LineFault, read_job, told};
+pub use command_line::{Fault, File, Job, LineFault, Message, read_job, told};
 pub use engine::run_engine;
 pub use files::{InFile, OutFile};
 pub use nquads::Watched;

@@ -86,3 +86,7 @@ IsAnswer words (Ok j) = (fault_of program words ≡ []) × IsJob words j
 IsAnswer words (Err Memory) = ⊤
 IsAnswer words (Err (Help text)) = IsAmong DisplayHelp (fault_of program words)
 IsAnswer words (Err (Wrong text)) = (fault_of program words ≢ DisplayHelp ∷ []) × (fault_of program words ≡ [] → (j : Job) → IsJob words j → ⊥)
+
+-- the workers of a job are from 1 to 64
+abbrev pub HasWorkers : Job → Type 0
+HasWorkers (Run base block out workers) = (1 ≤ workers) × (workers ≤ 64)

@@ -1,17 +1,20 @@
 //! The program `sparql-block`: the command line, the files, and what is told.
 #![tactic(auto)]
 
-use cli::{Fault, InFile, Job, LineFault, OutFile, Watched, read_job, run_engine};
+ghost use Rattle.command_line.specs.CommandLine.{HasWorkers};
+
+use cli::{Fault, InFile, Job, LineFault, Message, OutFile, Watched, read_job, run_engine};
 use std::env;
 use std::io;
 use std::process::ExitCode;
 use std::rt::{Env, Files};
 use std::sync::Wait;
 
-/// The words of the command line. Where none come, the line is wrong or memory ran out.
+/// The words of the command line. Where they don't come as text, the line is wrong.
 fn words(rt: &(impl Env + AllocGlobal)) -> Result<Vec<String>, LineFault> {
     let Ok(args) = env::args(rt) else {
-        return Err(LineFault::Memory);
+        let text = String::from_str(rt.alloc(), "error: the arguments are no text")?;
+        return Err(LineFault::Wrong(Message::new(text)));
     };
     match args.collect(rt.alloc()) {
         Ok(words) => Ok(words),
@@ -20,7 +23,9 @@ fn words(rt: &(impl Env + AllocGlobal)) -> Result<Vec<String>, LineFault> {
 }
 
 /// Does a job.
-fn done<R: Wait + Files + Print + AllocGlobal>(rt: &R, job: &Job) -> Result<(), Fault> {
+fn done<R: Wait + Files + Print + AllocGlobal>(rt: &R, job: &Job) -> Result<(), Fault>
+    requires { HasWorkers job.now }
+{
     let Job::Run {
         base,
         block,
