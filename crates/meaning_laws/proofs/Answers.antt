@@ -92,8 +92,8 @@ module _ {K : Type 0} (V : Vocabulary K) (o : IsExactOrder V) where
         let cases : (list_any p kept || list_any p inserted) ≡ true = sym (list_any-append p kept inserted) ∙ some in
         has-union o.total g d.names (names_of inserted)
         ∙ either (list_any p kept) (list_any p inserted) (has V.order d.names g) (has V.order (names_of inserted) g) cases
-            (λ k. h.named g (has-names_of V.order g d.quads ∙ any-filter p (λ x. not (has (quad_order V.order) deleted x)) d.quads k))
-            (λ k. has-names_of V.order g inserted ∙ k);
+        (λ k. h.named g (has-names_of V.order g d.quads ∙ any-filter p (λ x. not (has (quad_order V.order) deleted x)) d.quads k))
+        (λ k. has-names_of V.order g inserted ∙ k);
   }
     where
       either : (a b c d : Bool) → (a || b) ≡ true → (a ≡ true → c ≡ true) → (b ≡ true → d ≡ true) → (c || d) ≡ true
@@ -139,7 +139,7 @@ module _ {K : Type 0} (V : Vocabulary K) where
   -- the first request is taken off the front
   goes_on_from : (i n : ℕ) (requests : List (Request K)) (request : Request K) (d : Dataset K) → slice_get requests n ≡ Some request
       → run_from V i (take (suc n) requests) d
-        ≡ with_next (run_from V i (take n requests) d) (answer_of V (i + n) request (run_from V i (take n requests) d).0)
+      ≡ with_next (run_from V i (take n requests) d) (answer_of V (i + n) request (run_from V i (take n requests) d).0)
   goes_on_from i n [] request d e = absurd (let none : None ≡ Some request = e in (cc))
   goes_on_from i zero (r ∷ rs) request d e =
       let same : r ≡ request = some-is r request e in

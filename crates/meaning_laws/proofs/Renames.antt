@@ -132,8 +132,8 @@ module _ {A B : Type 0} (R : A → A → Ordering) (S : B → B → Ordering) (f
       let a3 = and_parts (k a.object) (option_known k a.graph) a2.1 in
       let b3 = and_parts (k b.object) (option_known k b.graph) b2.1 in
       (λ i. ordering_then (o a.subject b.subject a1.0 b1.0 i)
-          (ordering_then (o a.predicate b.predicate a2.0 b2.0 i)
-          (ordering_then (o a.object b.object a3.0 b3.0 i) (option-order a.graph b.graph a3.1 b3.1 i))))
+      (ordering_then (o a.predicate b.predicate a2.0 b2.0 i)
+      (ordering_then (o a.object b.object a3.0 b3.0 i) (option-order a.graph b.graph a3.1 b3.1 i))))
 
   names-cons : (g : Option A) (ns : List A) → map f (cons_option g ns) ≡ cons_option (option_map f g) (map f ns)
   names-cons None ns = refl
@@ -253,14 +253,14 @@ module _ {A B : Type 0} (V : Vocabulary A) (W : Vocabulary B) (f : A → B) (k :
   instance-of node node' e known t h =
       let p = places t h in
       quad-of (term_at V node empty_mapping t.subject) (term_at V node empty_mapping t.predicate) (term_at V node empty_mapping t.object) (graph_at V node empty_mapping t.graph)
-          (term-known node known t.subject p.subject) (term-known node known t.predicate p.predicate) (term-known node known t.object p.object) (graph-is-known node known t.graph p.graph)
+      (term-known node known t.subject p.subject) (term-known node known t.predicate p.predicate) (term-known node known t.object p.object) (graph-is-known node known t.graph p.graph)
       ∙ (λ i. legal_quad W (term-at node node' e t.subject i) (term-at node node' e t.predicate i) (term-at node node' e t.object i) (graph-at node node' e t.graph i))
 
   instance-known : (node : ℕ → A) → ((l : ℕ) → k (node l) ≡ true) → (t : QuadTemplate A) → template_known k t ≡ true → found-known (instance_of V node empty_mapping t) ≡ true
   instance-known node known t h =
       let p = places t h in
       quad-of-known (term_at V node empty_mapping t.subject) (term_at V node empty_mapping t.predicate) (term_at V node empty_mapping t.object) (graph_at V node empty_mapping t.graph)
-          (term-known node known t.subject p.subject) (term-known node known t.predicate p.predicate) (term-known node known t.object p.object) (graph-is-known node known t.graph p.graph)
+      (term-known node known t.subject p.subject) (term-known node known t.predicate p.predicate) (term-known node known t.object p.object) (graph-is-known node known t.graph p.graph)
 
   map-cons : (g : Option (Quad A)) (qs : List (Quad A)) → map (renamed_quad f) (cons_option g qs) ≡ cons_option (option_map (renamed_quad f) g) (map (renamed_quad f) qs)
   map-cons None qs = refl
@@ -313,9 +313,9 @@ module _ {A B : Type 0} (V : Vocabulary A) (W : Vocabulary B) (f : A → B) (k :
       let qo = quads-order in
       let kept = all-filter (quad_known k) (λ x. not (has (quad_order V.order) [] x)) d.quads parts.0 in
       let quads = map-union (quad_order V.order) (quad_order W.order) (renamed_quad f) (quad_known k) qo (without (quad_order V.order) d.quads []) qs kept h'
-          ∙ ap (λ (xs : List (Quad B)). union (quad_order W.order) xs (map (renamed_quad f) qs)) (map-without (quad_order V.order) (quad_order W.order) (renamed_quad f) (quad_known k) qo d.quads [] parts.0 refl) in
+      ∙ ap (λ (xs : List (Quad B)). union (quad_order W.order) xs (map (renamed_quad f) qs)) (map-without (quad_order V.order) (quad_order W.order) (renamed_quad f) (quad_known k) qo d.quads [] parts.0 refl) in
       let names = map-union V.order W.order f k r.order d.names (names_of qs) parts.1 (all-names_of V.order W.order f k r.order qs h')
-          ∙ ap (union W.order (map f d.names)) (map-names_of V.order W.order f k r.order qs) in
+      ∙ ap (union W.order (map f d.names)) (map-names_of V.order W.order f k r.order qs) in
       (λ i. record { quads = quads i; names = names i })
 
   replaced-known : (d : Dataset A) (qs : List (Quad A)) → dataset_known k d ≡ true → list_all (quad_known k) qs ≡ true → dataset_known k (replaced V d [] qs) ≡ true
@@ -363,7 +363,7 @@ module _ {A B : Type 0} (V : Vocabulary A) (W : Vocabulary B) (f : A → B) (k :
   performed-map i n (op ∷ ops) d h h' =
       let parts = and_parts (operation_known k op) (list_all (operation_known k) ops) h in
       next-map n (effect_of V i n op d) (performed V i (n + 1) ops) (performed W i (n + 1) (map (renamed_operation f) ops)) (effect-known i n op d parts.0 h')
-          (λ e ke. performed-map i (n + 1) ops e parts.1 ke)
+      (λ e ke. performed-map i (n + 1) ops e parts.1 ke)
       ∙ ap (λ (e : Result (Dataset B) Cause). then_next W n e (performed W i (n + 1) (map (renamed_operation f) ops))) (effect-map i n op d parts.0 h')
 
   performed-known : (i n : ℕ) (ops : List (Operation A)) (d : Dataset A) → list_all (operation_known k) ops ≡ true → dataset_known k d ≡ true

@@ -28,7 +28,15 @@ fn answer_to<T: Wait>(rt: &T, alloc: Global, base: &[u8], block: &[u8], workers:
     let mut block = Watched::new(block);
     let mut dataset = Watched::new(Vec::new(alloc));
     let mut replies = Watched::new(Vec::new(alloc));
-    let outcome = run_engine(rt, alloc, &mut base, &mut block, &mut dataset, &mut replies, workers);
+    let outcome = run_engine(
+        rt,
+        alloc,
+        &mut base,
+        &mut block,
+        &mut dataset,
+        &mut replies,
+        workers,
+    );
     Answer {
         status: status_of(&outcome),
         dataset: dataset.inner,
@@ -50,7 +58,13 @@ const ROWS: [Row; 12] = [
         "0 ok +1 -0\n1 ok +1 -0\n",
     ),
     ("<http://e/a> <http://e/p>", "", 3, "", ""),
-    ("# one\n\n<http://e/a><http://e/p><http://e/b>.\nno\n", "", 3, "", ""),
+    (
+        "# one\n\n<http://e/a><http://e/p><http://e/b>.\nno\n",
+        "",
+        3,
+        "",
+        "",
+    ),
     (
         "<http://e/b> <http://e/p> <http://e/c> . # why\r\n<http://e/a><http://e/p><http://e/b>.",
         "",
@@ -89,7 +103,10 @@ fn rows(rt: HostRuntime) {
     for (base, block, status, dataset, replies) in &ROWS {
         for workers in [1, 2, 8, 64] {
             let answer = answer_to(&rt, rt.alloc(), base.as_bytes(), block.as_bytes(), workers);
-            assert!(rt; is_as_expected(&answer, *status, dataset, replies), "{block:?} with {workers} workers");
+            assert!(rt;
+                is_as_expected(&answer, *status, dataset, replies),
+                "{block:?} with {workers} workers"
+            );
         }
     }
 }

@@ -4,11 +4,10 @@
 ghost use Rattle.command_line.specs.CommandLine.{HasWorkers};
 
 use cli::{Fault, InFile, Job, LineFault, Message, OutFile, Watched, read_job, run_engine};
-use std::env;
-use std::io;
 use std::process::ExitCode;
 use std::rt::{Env, Files};
 use std::sync::Wait;
+use std::{env, io};
 
 /// The words of the command line. Where they don't come as text, the line is wrong.
 fn words(rt: &(impl Env + AllocGlobal)) -> Result<Vec<String>, LineFault> {

@@ -137,7 +137,7 @@ module _ {K : Type 0} (V : Vocabulary K) (o : IsExactOrder V) where
       let rest = inserted_from V i (n + 1) ops in
       has_quads i (n + 1) ops (replaced V d [] new) q
       ∙ ap (λ b. b || has Q rest q) (has-union (quad_total o.total) q (without Q d.quads []) new
-          ∙ ap (λ b. b || has Q new q) (has-without (quad_total o.total) (quad_exact V.order o.exact) q d.quads [] ∙ and_true (has Q d.quads q)))
+      ∙ ap (λ b. b || has Q new q) (has-without (quad_total o.total) (quad_exact V.order o.exact) q d.quads [] ∙ and_true (has Q d.quads q)))
       ∙ or_assoc (has Q d.quads q) (has Q new q) (has Q rest q)
       ∙ ap (λ b. has Q d.quads q || b) (sym (list_any-append (eq_by_cmp Q q) new rest))
 
@@ -200,15 +200,15 @@ module _ {K : Type 0} (V : Vocabulary K) (o : IsExactOrder V) where
       let sought = inserted_from V i 0 ops in
       let e = after_dataset i ops d h in
       let quads : (apply V.order c d).quads ≡ (after_all i 0 ops d).quads =
-          (λ t. union Q (without Q d.quads (new.absent t)) (new.present t))
-          ∙ same_set qt qe (union Q (without Q d.quads []) (set_of Q (without Q (set_of Q sought) d.quads))) (after_all i 0 ops d).quads
-              (sorted-set_of qt (without Q d.quads [] ++ set_of Q (without Q (set_of Q sought) d.quads))) e.quads
-              (λ q. has_after qt qe d.quads sought q ∙ sym (has_quads i 0 ops d q)) in
+      (λ t. union Q (without Q d.quads (new.absent t)) (new.present t))
+      ∙ same_set qt qe (union Q (without Q d.quads []) (set_of Q (without Q (set_of Q sought) d.quads))) (after_all i 0 ops d).quads
+      (sorted-set_of qt (without Q d.quads [] ++ set_of Q (without Q (set_of Q sought) d.quads))) e.quads
+      (λ q. has_after qt qe d.quads sought q ∙ sym (has_quads i 0 ops d q)) in
       let names : (apply V.order c d).names ≡ (after_all i 0 ops d).names =
-          (λ t. union V.order (without V.order d.names (new.gone t)) (new.there t))
-          ∙ same_set o.total o.exact (union V.order (without V.order d.names []) (set_of V.order (without V.order (set_of V.order (names_of sought)) d.names))) (after_all i 0 ops d).names
-              (sorted-set_of o.total (without V.order d.names [] ++ set_of V.order (without V.order (set_of V.order (names_of sought)) d.names))) e.names
-              (λ g. has_after o.total o.exact d.names (names_of sought) g ∙ sym (has_names i 0 ops d g)) in
+      (λ t. union V.order (without V.order d.names (new.gone t)) (new.there t))
+      ∙ same_set o.total o.exact (union V.order (without V.order d.names []) (set_of V.order (without V.order (set_of V.order (names_of sought)) d.names))) (after_all i 0 ops d).names
+      (sorted-set_of o.total (without V.order d.names [] ++ set_of V.order (without V.order (set_of V.order (names_of sought)) d.names))) e.names
+      (λ g. has_after o.total o.exact d.names (names_of sought) g ∙ sym (has_names i 0 ops d g)) in
       (λ t. record { quads = quads t; names = names t })
 
   added_is : (i : ℕ) (ops : List (Operation K)) (d : Dataset K) (c : Change K) → IsDataset V.order d → IsNew i ops d c → length c.present ≡ count_new V d (after_all i 0 ops d)
@@ -220,12 +220,12 @@ module _ {K : Type 0} (V : Vocabulary K) (o : IsExactOrder V) where
       let e = after_dataset i ops d h in
       ap length (new.present
       ∙ same_set qt qe (set_of Q (without Q (set_of Q sought) d.quads)) (without Q (after_all i 0 ops d).quads d.quads)
-          (sorted-set_of qt (without Q (set_of Q sought) d.quads))
-          (IsStrictlySortedBy-filter Q (λ x. not (has Q d.quads x)) (after_all i 0 ops d).quads e.quads)
-          (λ q. has_new qt qe d.quads sought q
-              ∙ sym (new_there (has Q d.quads q) (has Q sought q))
-              ∙ ap (λ b. b && not (has Q d.quads q)) (sym (has_quads i 0 ops d q))
-              ∙ sym (has-without qt qe q (after_all i 0 ops d).quads d.quads)))
+      (sorted-set_of qt (without Q (set_of Q sought) d.quads))
+      (IsStrictlySortedBy-filter Q (λ x. not (has Q d.quads x)) (after_all i 0 ops d).quads e.quads)
+      (λ q. has_new qt qe d.quads sought q
+      ∙ sym (new_there (has Q d.quads q) (has Q sought q))
+      ∙ ap (λ b. b && not (has Q d.quads q)) (sym (has_quads i 0 ops d q))
+      ∙ sym (has-without qt qe q (after_all i 0 ops d).quads d.quads)))
 
   removed_is : (i : ℕ) (ops : List (Operation K)) (d : Dataset K) → IsDataset V.order d → 0 ≡ count_new V (after_all i 0 ops d) d
   removed_is i ops d h =
@@ -235,8 +235,8 @@ module _ {K : Type 0} (V : Vocabulary K) (o : IsExactOrder V) where
       let e = (after_all i 0 ops d).quads in
       ap length (same_set qt qe [] (without Q d.quads e) (sorted-empty Q) (IsStrictlySortedBy-filter Q (λ x. not (has Q e x)) d.quads h.quads)
       (λ q. sym (none_gone (has Q d.quads q) (has Q (inserted_from V i 0 ops) q))
-          ∙ ap (λ b. has Q d.quads q && not b) (sym (has_quads i 0 ops d q))
-          ∙ sym (has-without qt qe q d.quads e)))
+      ∙ ap (λ b. has Q d.quads q && not b) (sym (has_quads i 0 ops d q))
+      ∙ sym (has-without qt qe q d.quads e)))
 
   answer_is : (i : ℕ) (ops : List (Operation K)) (d : Dataset K) (c : Change K) → IsDataset V.order d → IsNew i ops d c
       → (apply V.order c d, Done (length c.present) 0) ≡ answer_of V i (Ok ops) d

@@ -75,14 +75,20 @@ fn new_name(asked: &AskedName) -> Option<Id>
 fn new_quads(alloc: Global, asked: &[AskedQuad]) -> Result<Vec<Quad<Id>>, AllocError>
     ensures { IfOk result (λ quads. quads.items ≡ filter_map the_new_quad asked.now) }
 {
-    asked.iter().filter_map(|asked| new_quad(asked)).collect(alloc)
+    asked
+        .iter()
+        .filter_map(|asked| new_quad(asked))
+        .collect(alloc)
 }
 
 /// The names that were not there.
 fn new_names(alloc: Global, asked: &[AskedName]) -> Result<Vec<Id>, AllocError>
     ensures { IfOk result (λ names. names.items ≡ filter_map the_new_name asked.now) }
 {
-    asked.iter().filter_map(|asked| new_name(asked)).collect(alloc)
+    asked
+        .iter()
+        .filter_map(|asked| new_name(asked))
+        .collect(alloc)
 }
 
 /// What was asked, as notes.

@@ -38,12 +38,7 @@ fn is_legal(dict: &Dict, subject: Id, predicate: Id, graph: Option<Id>) -> bool
 }
 
 /// The quad of a template's quad, if it is fully bound and legal.
-fn instance_of(
-    dict: &Dict,
-    request: u32,
-    op: u32,
-    template: &QuadTemplate<Id>,
-) -> Option<Quad<Id>>
+fn instance_of(dict: &Dict, request: u32, op: u32, template: &QuadTemplate<Id>) -> Option<Quad<Id>>
     ensures { result ≡ the_instance_of (numbers dict.now) (λ l. id.Made request op l 0) empty_mapping template.now }
 {
     let subject = term_at(dict, request, op, template.subject)?;
