@@ -2,6 +2,8 @@ ghost use Rattle.std.specs.Prelude.{◌<◌, ◌≤◌};
 
 use cli::{Fault, Watched, run_engine};
 use std::alloc::{AllocError, Global};
+use std::io;
+use std::io::{Read, Write};
 use std::sync::Wait;
 use std::test::Fail;
 
@@ -135,4 +137,174 @@ fn many_requests(rt: HostRuntime) -> Result<(), Fail> {
     assert_eq!(rt; answer.status, 4);
     assert!(rt; answer.dataset.is_empty());
     Ok(())
+}
+
+/// A reader that gives one byte at a time, and fails at a read that is counted down to.
+#[derive(Drop)]
+struct Slow<'a> {
+    rest: &'a [u8],
+    good_reads: usize,
+}
+
+impl Read for Slow<'_> {
+    fn read(&mut self, buf: &mut [u8]) -> io::Result<usize> {
+        if self.good_reads == 0 {
+            return Err(io::Error::from(io::ErrorKind::Other));
+        }
+        self.good_reads -= 1;
+        match (self.rest, buf) {
+            ([first, rest @ ..], [place, ..]) => {
+                *place = *first;
+                self.rest = rest;
+                Ok(1)
+            }
+            _ => Ok(0),
+        }
+    }
+}
+
+/// A writer that takes one byte at a time, and fails at a write or a flush that is counted down to.
+#[derive(Drop)]
+struct Narrow {
+    text: Vec<u8>,
+    good_calls: usize,
+}
+
+impl Write for Narrow {
+    fn write(&mut self, buf: &[u8]) -> io::Result<usize> {
+        if self.good_calls == 0 {
+            return Err(io::Error::from(io::ErrorKind::Other));
+        }
+        self.good_calls -= 1;
+        match buf {
+            [first, ..] => {
+                self.text.push(*first)?;
+                Ok(1)
+            }
+            [] => Ok(0),
+        }
+    }
+
+    fn flush(&mut self) -> io::Result<()> {
+        if self.good_calls == 0 {
+            return Err(io::Error::from(io::ErrorKind::Other));
+        }
+        self.good_calls -= 1;
+        Ok(())
+    }
+}
+
+const BASE: &str = "<http://e/a> <http://e/p> <http://e/b> .\n";
+
+const BLOCK: &str = "INSERT DATA { <http://e/c> <http://e/p> <http://e/b> }";
+
+const DATASET: &str =
+    "<http://e/a> <http://e/p> <http://e/b> .\n<http://e/c> <http://e/p> <http://e/b> .\n";
+
+const REPLIES: &str = "0 ok +1 -0\n";
+
+/// How many calls of each of the four go well.
+#[derive(Clone, Copy)]
+struct Good {
+    base: usize,
+    block: usize,
+    dataset: usize,
+    replies: usize,
+}
+
+const ALL_GOOD: Good = Good {
+    base: 1000,
+    block: 1000,
+    dataset: 1000,
+    replies: 1000,
+};
+
+/// What the engine writes over slow readers and narrow writers, some of which fail.
+fn narrow_answer<T: Wait>(rt: &T, alloc: Global, good: Good) -> Answer {
+    let mut base = Watched::new(Slow {
+        rest: BASE.as_bytes(),
+        good_reads: good.base,
+    });
+    let mut block = Watched::new(Slow {
+        rest: BLOCK.as_bytes(),
+        good_reads: good.block,
+    });
+    let mut dataset = Watched::new(Narrow {
+        text: Vec::new(alloc),
+        good_calls: good.dataset,
+    });
+    let mut replies = Watched::new(Narrow {
+        text: Vec::new(alloc),
+        good_calls: good.replies,
+    });
+    let outcome = run_engine(
+        rt,
+        alloc,
+        &mut base,
+        &mut block,
+        &mut dataset,
+        &mut replies,
+        2,
+    );
+    Answer {
+        status: status_of(&outcome),
+        dataset: dataset.inner.text,
+        replies: replies.inner.text,
+    }
+}
+
+#[test]
+fn one_byte_at_a_time(rt: HostRuntime) {
+    let answer = narrow_answer(&rt, rt.alloc(), ALL_GOOD);
+    assert!(rt; is_as_expected(&answer, 0, DATASET, REPLIES));
+}
+
+#[test]
+fn each_read_fails_once(rt: HostRuntime) {
+    for reads in 0..=BASE.len() {
+        let good = Good {
+            base: reads,
+            ..ALL_GOOD
+        };
+        assert!(rt;
+            is_as_expected(&narrow_answer(&rt, rt.alloc(), good), 6, "", ""),
+            "base, {reads}"
+        );
+    }
+    for reads in 0..=BLOCK.len() {
+        let good = Good {
+            block: reads,
+            ..ALL_GOOD
+        };
+        assert!(rt;
+            is_as_expected(&narrow_answer(&rt, rt.alloc(), good), 6, "", ""),
+            "block, {reads}"
+        );
+    }
+}
+
+#[test]
+fn each_write_fails_once(rt: HostRuntime) {
+    for writes in 0..=DATASET.len() {
+        let good = Good {
+            dataset: writes,
+            ..ALL_GOOD
+        };
+        let answer = narrow_answer(&rt, rt.alloc(), good);
+        assert_eq!(rt; answer.status, 6);
+        assert_eq!(rt; answer.dataset.len(), writes);
+        assert!(rt; DATASET.as_bytes().starts_with(&answer.dataset));
+        assert!(rt; answer.replies.is_empty());
+    }
+    for writes in 0..=REPLIES.len() {
+        let good = Good {
+            replies: writes,
+            ..ALL_GOOD
+        };
+        let answer = narrow_answer(&rt, rt.alloc(), good);
+        assert_eq!(rt; answer.status, 6);
+        assert!(rt; answer.dataset.as_slice() == DATASET.as_bytes());
+        assert_eq!(rt; answer.replies.len(), writes);
+        assert!(rt; REPLIES.as_bytes().starts_with(&answer.replies));
+    }
 }
