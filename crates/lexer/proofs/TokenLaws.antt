@@ -33,14 +33,14 @@ run_longer p (x ∷ xs) rest all =
     let below = run_longer p xs rest h.1 in
     rw h.0 (omega (arith, below))
 
-all_weaker : (p q : ℕ → Bool) → ((b : ℕ) → p b ≡ true → q b ≡ true) → (xs : List ℕ) → list_all p xs ≡ true → list_all q xs ≡ true
+pub all_weaker : (p q : ℕ → Bool) → ((b : ℕ) → p b ≡ true → q b ≡ true) → (xs : List ℕ) → list_all p xs ≡ true → list_all q xs ≡ true
 all_weaker p q weaker [] all = refl
 all_weaker p q weaker (x ∷ xs) all = let h = both (p x) (list_all p xs) all in rw (weaker x h.0) (all_weaker p q weaker xs h.1)
 
 letter_name : (b : ℕ) → is_letter b ≡ true → is_name_byte b ≡ true
 letter_name b h = ap (λ t. ((t || is_digit b) || eqb b 95) || eqb b 45) h
 
-start_name : (b : ℕ) → is_local_start b ≡ true → is_name_byte b ≡ true
+pub start_name : (b : ℕ) → is_local_start b ≡ true → is_name_byte b ≡ true
 start_name b h = ap (λ t. t || eqb b 45) h
 
 -- ---- local parts
