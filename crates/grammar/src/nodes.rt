@@ -2,7 +2,7 @@
 ghost use Rattle.std.specs.Prelude.{◌≡◌};
 ghost use Rattle.grammar.specs.Reading.{Gives, name_at, verb_at, is_a, begins_name, begins_verb, object_link, skip_semicolons, property_link, triple_link};
 
-use lexer::{Piece, Sign, Stop, Token};
+use lexer::{LocalPart, Piece, Sign, Stop, Token};
 use syntax_trees::Node;
 
 /// The name at the front of the tokens, and what follows it.
@@ -19,7 +19,7 @@ pub fn name_at<'t, 'a>(tokens: &'t [Token<'a>]) -> Result<(Node<'a>, &'t [Token<
     }
 }
 
-fn named<'a>(prefix: &Piece<'a>, local: &Piece<'a>) -> Node<'a>
+fn named<'a>(prefix: &Piece<'a>, local: &LocalPart<'a>) -> Node<'a>
     ensures { result ≡ Node.Prefixed prefix.now local.now }
 {
     Node::Prefixed {

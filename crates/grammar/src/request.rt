@@ -5,7 +5,7 @@ ghost use Rattle.grammar.specs.Reading.{Gives, namespace_at, reference_at, decla
 
 use crate::block::{after_keyword, block_at};
 use crate::objects::kept;
-use lexer::{Piece, Sign, Stop, Token, tokens};
+use lexer::{IriText, Piece, Sign, Stop, Token, tokens};
 use sets::Items;
 use std::alloc::{AllocError, Global};
 use syntax_trees::{Operation, Step, Syntax};
@@ -42,7 +42,7 @@ fn namespace_at<'t, 'a>(tokens: &'t [Token<'a>]) -> Result<(Piece<'a>, &'t [Toke
 }
 
 /// The IRI at the front of the tokens, and what follows it.
-fn reference_at<'t, 'a>(tokens: &'t [Token<'a>]) -> Result<(Piece<'a>, &'t [Token<'a>]), Stop>
+fn reference_at<'t, 'a>(tokens: &'t [Token<'a>]) -> Result<(IriText<'a>, &'t [Token<'a>]), Stop>
     ensures { Gives (λ x. (x.0, x.1.now)) result (reference_at tokens.now) }
 {
     let [first, rest @ ..] = tokens else {

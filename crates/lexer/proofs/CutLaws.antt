@@ -15,7 +15,8 @@ use Rattle.iris.proofs.BracketLaws.{both, not_false, some_is}
 use Rattle.lexer.specs.declared.token.Token.{Token}
 use Rattle.lexer.specs.declared.token.Sign.{Sign}
 use Rattle.lexer.specs.declared.token.Sign.TheVariants as signs
-use Rattle.lexer.specs.Form.{IsPrefix, IsWord, IsToken, iri, name, word, sign, sign_byte}
+use Rattle.lexer.specs.Names.{IsPrefix, IsWord}
+use Rattle.lexer.specs.Form.{IsToken, iri, name, word, sign, sign_byte}
 use Rattle.lexer.specs.Cut.{is_space, is_inner, is_line_end, AtLineEnd, IsLongest, Cuts, end, space, comment, token}
 use Rattle.lexer.specs.Reading.{skip_from, token_at}
 use Rattle.lexer.proofs.TokenLaws.{token_found, longest_found, longest_again, none_begins, no_some}

@@ -1,5 +1,5 @@
 -- The parts of tokens: IRIs are IRIs, and an IRI with a local part after it is one.
-use Rattle.std.proofs.Common.{◌≡◌, ℕ, ◌<◌, Bool, true, false, cond, not, ◌&&◌, ◌||◌, eqb, leb, List, [], ◌∷◌, ◌++◌, refl, sym, ap, ◌∙◌, arith, IsUtf8, inl, inr}
+use Rattle.std.proofs.Common.{◌≡◌, ℕ, ◌<◌, true, false, cond, not, ◌&&◌, ◌||◌, eqb, leb, List, [], ◌∷◌, ◌++◌, refl, sym, ap, ◌∙◌, arith, IsUtf8, inl, inr}
 use Rattle.std.specs.List.{list_all, AllByRecursion}
 use Rattle.std.proofs.lemmas.Bool.{or_cases, and_parts, and_from, not-false, leb-true, eqb-true, agree_below_at}
 use Rattle.std.proofs.lemmas.Str.{IsUtf8-append, IsUtf8-from_ascii}
@@ -9,7 +9,8 @@ use Rattle.std.proofs.lemmas.List.Folds.{list_all-append}
 use Rattle.iris.specs.Iri.{is_letter, is_digit, is_scheme_byte, is_iri_byte, after_first, IsIri}
 use Rattle.lexer.specs.declared.token.Token.{Token}
 use Rattle.lexer.specs.declared.token.Token.TheVariants as token
-use Rattle.lexer.specs.Form.{is_name_byte, IsLocal, IsToken, iri, name, word, sign}
+use Rattle.lexer.specs.Names.{is_name_byte, IsLocal}
+use Rattle.lexer.specs.Form.{IsToken, iri, name, word, sign}
 use Rattle.lexer.specs.Cut.{Cuts, end, space, comment, token as token_cut}
 use Rattle.lexer.proofs.TokenLaws.{start_name, all_weaker}
 

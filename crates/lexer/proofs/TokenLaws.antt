@@ -14,7 +14,8 @@ use Rattle.lexer.specs.declared.token.Token.{Token}
 use Rattle.lexer.specs.declared.token.Token.TheVariants as token
 use Rattle.lexer.specs.declared.token.Sign.{Sign}
 use Rattle.lexer.specs.declared.token.Sign.TheVariants as signs
-use Rattle.lexer.specs.Form.{is_name_byte, is_local_start, IsPrefix, IsLocal, IsWord, sign_byte, IsToken, iri, name, word, sign}
+use Rattle.lexer.specs.Names.{is_name_byte, is_local_start, IsPrefix, IsLocal, IsWord}
+use Rattle.lexer.specs.Form.{sign_byte, IsToken, iri, name, word, sign}
 use Rattle.lexer.specs.Cut.{IsLongest}
 use Rattle.lexer.specs.Reading.{local_at, name_after, name_or_word, sign_of, token_at}
 
@@ -56,6 +57,9 @@ local_found (b ∷ bs) =
       | true ↦ λ e. (run-rest is_name_byte (b ∷ bs), subst IsLocal (sym (ap (λ t. cond t (b ∷ run_of is_name_byte bs) []) (start_name b e))) (e, all-run is_name_byte bs))
       | false ↦ λ e. (refl, tt)
     ] refl
+
+pub local_is : (text l : List ℕ) → l ≡ (local_at text).0 → IsLocal l
+local_is text l e = subst IsLocal (sym e) (local_found text).1
 
 local_longer : (l rest : List ℕ) → IsLocal l → length l ≤ length (local_at (l ++ rest)).0
 unfolding local_at

@@ -1,33 +1,11 @@
--- The forms of tokens. (SPARQL 1.1 Query, 19.8, productions 139 IRIREF and 140, 141 of prefixed names, in
--- this profile: ASCII letters, digits, `_` and `-`.)
-use Rattle.std.specs.Prelude.{ℕ, ◌≡◌, ◌==◌, ◌||◌, Bool, true, List, [], ◌∷◌, ◌++◌}
-use Rattle.std.specs.List.{list_all}
-use Rattle.iris.specs.Iri.{is_letter, is_digit, IsIri}
+-- The forms of tokens. (SPARQL 1.1 Query, 19.8, production 139 IRIREF, and prefixed names, words and signs.)
+use Rattle.std.specs.Prelude.{ℕ, List, [], ◌∷◌, ◌++◌}
+use Rattle.iris.specs.Iri.{IsIri}
 use Rattle.lexer.specs.declared.token.Token.{Token}
 use Rattle.lexer.specs.declared.token.Token.TheVariants as token
 use Rattle.lexer.specs.declared.token.Sign.{Sign}
 use Rattle.lexer.specs.declared.token.Sign.TheVariants as signs
-
--- a letter, a digit, `_` or `-`
-abbrev pub is_name_byte : ℕ → Bool
-is_name_byte b = is_letter b || is_digit b || (b == 95) || (b == 45)
-
-abbrev pub is_local_start : ℕ → Bool
-is_local_start b = is_letter b || is_digit b || (b == 95)
-
--- where there are any, a letter is first
-abbrev pub IsPrefix : List ℕ → Type 0
-IsPrefix [] = Unit {0}
-IsPrefix (b ∷ bs) = (is_letter b ≡ true) × (list_all is_name_byte bs ≡ true)
-
--- where there are any, a `-` isn't first
-abbrev pub IsLocal : List ℕ → Type 0
-IsLocal [] = Unit {0}
-IsLocal (b ∷ bs) = (is_local_start b ≡ true) × (list_all is_name_byte bs ≡ true)
-
-abbrev pub IsWord : List ℕ → Type 0
-IsWord [] = ⊥
-IsWord (b ∷ bs) = (is_letter b ≡ true) × (list_all is_letter bs ≡ true)
+use Rattle.lexer.specs.Names.{IsPrefix, IsLocal, IsWord}
 
 -- { } . ; ,
 abbrev pub sign_byte : Sign → ℕ

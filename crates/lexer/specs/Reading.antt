@@ -8,7 +8,7 @@ use Rattle.lexer.specs.declared.token.Token.{Token}
 use Rattle.lexer.specs.declared.token.Token.TheVariants as token
 use Rattle.lexer.specs.declared.token.Sign.{Sign}
 use Rattle.lexer.specs.declared.token.Sign.TheVariants as signs
-use Rattle.lexer.specs.Form.{is_name_byte, is_local_start}
+use Rattle.lexer.specs.Names.{is_name_byte, is_local_start}
 use Rattle.lexer.specs.Cut.{is_space, is_inner}
 
 -- what follows white space and comments, inside a comment or not

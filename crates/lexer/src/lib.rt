@@ -5,10 +5,12 @@
 
 mod cut;
 pub mod laws;
+mod pieces;
 mod scan;
 mod stop;
 mod token;
 
 pub use cut::tokens;
+pub use pieces::{IriText, LocalPart, Piece};
 pub use stop::Stop;
-pub use token::{Piece, Sign, Token};
+pub use token::{Sign, Token};

@@ -3,11 +3,12 @@ ghost use Rattle.std.specs.Prelude.{◌≡◌, ◌≤◌, ◌∷◌, length, Mat
 ghost use Rattle.std.specs.List.{prefix_len};
 ghost use Rattle.iris.specs.Iri.{is_letter};
 ghost use Rattle.iris.specs.Runs.{run_of, rest_of};
-ghost use Rattle.lexer.specs.Form.{is_name_byte, is_local_start};
+ghost use Rattle.lexer.specs.Names.{is_name_byte, is_local_start};
 ghost use Rattle.lexer.specs.Cut.{is_inner, is_space};
 ghost use Rattle.lexer.specs.Reading.{skip_from, local_at, name_after, name_or_word, sign_of, token_at};
 
-use crate::token::{Piece, Sign, Token};
+use crate::pieces::{IriText, LocalPart, Piece};
+use crate::token::{Sign, Token};
 use iris::front_iri;
 
 fn is_name_byte(b: u8) -> bool
@@ -96,7 +97,7 @@ fn name_after<'a>(prefix: &'a [u8], text: &'a [u8]) -> Option<(Token<'a>, &'a [u
     let (local, rest) = local_at(text);
     let name = Token::Name {
         prefix: Piece::new(prefix),
-        local: Piece::new(local),
+        local: LocalPart::new(local),
     };
     Some((name, rest))
 }
@@ -142,7 +143,7 @@ pub fn token_at(text: &[u8]) -> Option<(Token<'_>, &[u8])>
         b':' => name_after(&[], text),
         b'<' => {
             let (iri, after) = front_iri(text)?;
-            Some((Token::Iri(Piece::new(iri)), after))
+            Some((Token::Iri(IriText::new(iri)), after))
         }
         b => Some((Token::Sign(sign_of(b)?), after)),
     }

@@ -1,14 +1,10 @@
 -- What a request is refused for, and its translation where it is refused for nothing.
 use Rattle.std.proofs.Common.{◌≡◌, ℕ, suc, ◌<◌, ◌^◌, Bool, true, false, ◌||◌, List, [], ◌∷◌, ◌++◌, length, map, Option, Some, None, Result, Ok, Err, refl, sym, ap, ◌∙◌, subst, arith, eqb, cond, inl, inr}
 use Rattle.std.proofs.lemmas.Bool.{cases_order}
-use Rattle.std.specs.Prelude.{◌&&◌, nat_lt, IfOk, unwrap_or}
-use Rattle.std.specs.Option.{option_map, option_and_then}
+use Rattle.std.specs.Prelude.{nat_lt, IfOk, unwrap_or}
+use Rattle.std.specs.Option.{option_map}
 use Rattle.std.specs.List.{list_any, flat_map}
-use Rattle.std.specs.Str.{is_utf8}
 use Rattle.std.specs.declared.alloc.AllocError.{AllocError}
-use Rattle.iris.specs.Iri.{is_iri}
-use Rattle.iris.specs.Bracketed.{iri_of as iri_from}
-use Rattle.iris.proofs.BracketLaws.{guard_some}
 use Rattle.terms.specs.declared.term.Term.{Term}
 use Rattle.terms.specs.declared.term.Term.TheVariants as term
 use Rattle.meaning.specs.declared.update.Operation.{Operation}
@@ -25,13 +21,12 @@ use Rattle.grammar.proofs.Requests.{one_reading}
 use Rattle.rules.specs.declared.names.Declaration.{Declaration}
 use Rattle.rules.specs.Names.{iri_of}
 use Rattle.rules.specs.Translation.{Triple, triples_of, quad_of, term_of, translated_after, translated}
-use Rattle.rules.specs.Refusal.{place_of, text_faults, iri_faults, node_faults, triple_faults, name_faults, is_syntax, is_prefix, has_fault, Holds, no_reading, fault, IsRefusal, IsChecked, IsVerdict, IsAccepted}
+use Rattle.rules.specs.Refusal.{place_of, iri_faults, node_faults, triple_faults, name_faults, is_prefix, has_fault, Holds, no_reading, fault, IsRefusal, IsChecked, IsVerdict, IsAccepted}
 use Rattle.rules.specs.Reading.{term_at, quads_from, quads_at, operations_after}
 
--- neither kind that a name is refused for
-record IsFree (faults : List Refusal) : Type 0 where
-  no_syntax : list_any is_syntax faults ≡ false
-  no_prefix : list_any is_prefix faults ≡ false
+-- no name is refused for its prefix
+abbrev IsFree : List Refusal → Type 0
+IsFree faults = list_any is_prefix faults ≡ false
 
 or_false : (a b : Bool) → (a || b) ≡ false → (a ≡ false) × (b ≡ false)
 or_false true b e = absurd cc
@@ -45,27 +40,13 @@ any_apart p (x ∷ xs) ys e =
     (ap (λ b. b || list_any p xs) h.0 ∙ t.0, t.1)
 
 apart : (xs ys : List Refusal) → IsFree (xs ++ ys) → IsFree xs × IsFree ys
-apart xs ys free =
-    let s = any_apart is_syntax xs ys free.no_syntax in
-    let p = any_apart is_prefix xs ys free.no_prefix in
-    (record { no_syntax = s.0; no_prefix = p.0 }, record { no_syntax = s.1; no_prefix = p.1 })
+apart xs ys free = any_apart is_prefix xs ys free
 
 -- ---- terms and quads
 
-iri_same : (text iri : List ℕ) → iri_from text ≡ Some iri → text ≡ iri
-unfolding iri_from
-iri_same text iri e = (guard_some (is_utf8 text && is_iri text) text iri e).1
-
-text_made : (text : List ℕ) → IsFree (text_faults (iri_from text)) → option_map term.Iri (iri_from text) ≡ Some (term.Iri text)
-text_made text free =
-    elim (iri_from text) as (λ o. iri_from text ≡ o → IsFree (text_faults o) → option_map term.Iri o ≡ Some (term.Iri text)) [
-      | None ↦ λ e free. let wrong = free.no_syntax in absurd cc
-      | Some iri ↦ λ e free. ap (λ (t : List ℕ). let o : Option Term = Some (term.Iri t) in o) (sym (iri_same text iri e))
-    ] refl free
-
-iri_made : (o : Option (List ℕ)) → IsFree (iri_faults o) → option_map term.Iri (option_and_then iri_from o) ≡ Some (term.Iri (unwrap_or o []))
-iri_made None free = let wrong = free.no_prefix in absurd cc
-iri_made (Some text) free = text_made text free
+iri_made : (o : Option (List ℕ)) → IsFree (iri_faults o) → option_map term.Iri o ≡ Some (term.Iri (unwrap_or o []))
+iri_made None free = absurd cc
+iri_made (Some iri) free = refl
 
 term_made : (ds : List Declaration) (n : Node) → IsFree (node_faults ds n) → term_at ds n ≡ Some (term_of ds n)
 term_made ds n free = iri_made (iri_of ds n) free
@@ -101,31 +82,31 @@ over_same s operations is b over = ap (λ n. nat_lt (2 ^ 20) s.length || nat_lt 
 
 -- ---- the verdict
 
-below_limit : (s : Syntax) → list_any is_syntax (name_faults [] s.steps) ≡ false → list_any is_prefix (name_faults [] s.steps) ≡ false → (j : Refusal) → place_of j < 5 → has_fault j s ≡ false
-below_limit s no_syntax no_prefix refusal.Syntax lt = no_syntax
-below_limit s no_syntax no_prefix refusal.Prefix lt = no_prefix
-below_limit s no_syntax no_prefix refusal.VariableInData lt = refl
-below_limit s no_syntax no_prefix refusal.BlankInDelete lt = refl
-below_limit s no_syntax no_prefix refusal.LabelReused lt = refl
-below_limit s no_syntax no_prefix refusal.Limit lt = absurd (omega arith)
+below_limit : (s : Syntax) → list_any is_prefix (name_faults [] s.steps) ≡ false → (j : Refusal) → place_of j < 5 → has_fault j s ≡ false
+below_limit s no_prefix refusal.Syntax lt = refl
+below_limit s no_prefix refusal.Prefix lt = no_prefix
+below_limit s no_prefix refusal.VariableInData lt = refl
+below_limit s no_prefix refusal.BlankInDelete lt = refl
+below_limit s no_prefix refusal.LabelReused lt = refl
+below_limit s no_prefix refusal.Limit lt = absurd (omega arith)
 
 no_fault : (s : Syntax) → ((j : Refusal) → place_of j < 5 → has_fault j s ≡ false) → has_fault refusal.Limit s ≡ false → (k : Refusal) → has_fault k s ≡ false
-no_fault s below limit refusal.Syntax = below refusal.Syntax (omega arith)
+no_fault s below limit refusal.Syntax = refl
 no_fault s below limit refusal.Prefix = below refusal.Prefix (omega arith)
 no_fault s below limit refusal.VariableInData = refl
 no_fault s below limit refusal.BlankInDelete = refl
 no_fault s below limit refusal.LabelReused = refl
 no_fault s below limit refusal.Limit = limit
 
-pub is_limit : (s : Syntax) (operations : List (Operation Term)) → operations ≡ operations_after [] s.steps → list_any is_syntax (name_faults [] s.steps) ≡ false → list_any is_prefix (name_faults [] s.steps) ≡ false
+pub is_limit : (s : Syntax) (operations : List (Operation Term)) → operations ≡ operations_after [] s.steps → list_any is_prefix (name_faults [] s.steps) ≡ false
     → (nat_lt (2 ^ 20) s.length || nat_lt 256 (length operations)) ≡ true → IsVerdict s (Err refusal.Limit)
-is_limit s operations is no_syntax no_prefix over = (over_same s operations is true over, below_limit s no_syntax no_prefix)
+is_limit s operations is no_prefix over = (over_same s operations is true over, below_limit s no_prefix)
 
-pub is_accepted : (s : Syntax) (operations : List (Operation Term)) → operations ≡ operations_after [] s.steps → list_any is_syntax (name_faults [] s.steps) ≡ false → list_any is_prefix (name_faults [] s.steps) ≡ false
+pub is_accepted : (s : Syntax) (operations : List (Operation Term)) → operations ≡ operations_after [] s.steps → list_any is_prefix (name_faults [] s.steps) ≡ false
     → (nat_lt (2 ^ 20) s.length || nat_lt 256 (length operations)) ≡ false → IsVerdict s (Ok operations)
-is_accepted s operations is no_syntax no_prefix over = (
-  no_fault s (below_limit s no_syntax no_prefix) (over_same s operations is false over),
-  is ∙ operations_made [] s.steps (record { no_syntax = no_syntax; no_prefix = no_prefix }),
+is_accepted s operations is no_prefix over = (
+  no_fault s (below_limit s no_prefix) (over_same s operations is false over),
+  is ∙ operations_made [] s.steps no_prefix,
 )
 
 -- ---- of a text

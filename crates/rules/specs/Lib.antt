@@ -1,5 +1,6 @@
 pub mod Names
 pub mod Translation
+pub mod Named
 pub mod Refusal
 pub mod Reading
 pub mod Requests

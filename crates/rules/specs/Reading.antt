@@ -1,8 +1,7 @@
--- The translation, as the code makes it: a triple of which some name has no term gives no quad.
+-- The translation, as the code makes it: a triple of which some name's prefix isn't declared gives no quad.
 use Rattle.std.specs.Prelude.{List, [], ◌∷◌, ◌++◌, Option, Some, None}
-use Rattle.std.specs.Option.{option_map, option_and_then}
+use Rattle.std.specs.Option.{option_map}
 use Rattle.std.specs.List.{flat_map}
-use Rattle.iris.specs.Bracketed.{iri_of as iri_from}
 use Rattle.terms.specs.declared.term.Term.{Term}
 use Rattle.terms.specs.declared.term.Term.TheVariants as term
 use Rattle.meaning.specs.declared.update.Slot.TheVariants as slot
@@ -18,7 +17,7 @@ use Rattle.rules.specs.Names.{iri_of}
 use Rattle.rules.specs.Translation.{Triple, triples_of}
 
 abbrev pub term_at : List Declaration → Node → Option Term
-term_at ds n = option_map term.Iri (option_and_then iri_from (iri_of ds n))
+term_at ds n = option_map term.Iri (iri_of ds n)
 
 abbrev pub quads_from : Option Term → Option Term → Option Term → List (QuadTemplate Term)
 quads_from (Some s) (Some v) (Some o) = record { subject = slot.Term s; predicate = slot.Term v; object = slot.Term o; graph = None } ∷ []

@@ -1,7 +1,6 @@
 -- Why a request is refused: the first of the kinds that holds anywhere in it.
 use Rattle.std.specs.Prelude.{ℕ, ◌≡◌, ◌==◌, ◌||◌, ◌<◌, ◌^◌, Bool, true, false, List, [], ◌∷◌, ◌++◌, length, Option, Some, None, nat_lt, Result, Ok, Err}
 use Rattle.std.specs.List.{list_any, flat_map}
-use Rattle.iris.specs.Bracketed.{iri_of as iri_from}
 use Rattle.terms.specs.declared.term.Term.{Term}
 use Rattle.meaning.specs.declared.update.Operation.{Operation}
 use Rattle.meaning.specs.declared.reply.Refusal.{Refusal}
@@ -24,16 +23,11 @@ place_of refusal.BlankInDelete = 3
 place_of refusal.LabelReused = 4
 place_of refusal.Limit = 5
 
--- a text that is no IRI is a fault of syntax
-abbrev pub text_faults : Option (List ℕ) → List Refusal
-text_faults None = refusal.Syntax ∷ []
-text_faults (Some iri) = []
-
+-- what a name is refused for: its prefix isn't declared before it
 abbrev pub iri_faults : Option (List ℕ) → List Refusal
 iri_faults None = refusal.Prefix ∷ []
-iri_faults (Some text) = text_faults (iri_from text)
+iri_faults (Some iri) = []
 
--- what a name is refused for: its prefix isn't declared before it, or it names no IRI
 abbrev pub node_faults : List Declaration → Node → List Refusal
 node_faults ds n = iri_faults (iri_of ds n)
 
@@ -46,15 +40,12 @@ name_faults ds [] = []
 name_faults ds (step.Declare prefix iri ∷ steps) = name_faults (ds ++ record { prefix = prefix; iri = iri } ∷ []) steps
 name_faults ds (step.Do x ∷ steps) = flat_map (triple_faults ds) (triples_of x) ++ name_faults ds steps
 
-abbrev pub is_syntax : Refusal → Bool
-is_syntax f = place_of f == 0
-
 abbrev pub is_prefix : Refusal → Bool
 is_prefix f = place_of f == 1
 
 -- what a reading is refused for; of its limits, 2^20 bytes and 256 operations
 abbrev pub has_fault : Refusal → Syntax → Bool
-has_fault refusal.Syntax s = list_any is_syntax (name_faults [] s.steps)
+has_fault refusal.Syntax s = false
 has_fault refusal.Prefix s = list_any is_prefix (name_faults [] s.steps)
 has_fault refusal.VariableInData s = false
 has_fault refusal.BlankInDelete s = false

@@ -1,7 +1,7 @@
 //! Requests and their refusals.
 ghost use Rattle.std.specs.Prelude.{◌≡◌, ◌^◌, ◌||◌, nat_lt, IfOk};
 ghost use Rattle.std.specs.List.{list_any};
-ghost use Rattle.rules.specs.Refusal.{is_syntax, is_prefix, IsVerdict, IsChecked};
+ghost use Rattle.rules.specs.Refusal.{is_prefix, IsVerdict, IsChecked};
 
 use crate::translation::translate;
 use grammar::parse;
@@ -23,22 +23,10 @@ const MOST_BYTES: usize = 1 << 20;
 /// How many operations a request has at most.
 const MOST_OPERATIONS: usize = 256;
 
-fn is_syntax(fault: Refusal) -> bool
-    ensures { result ≡ is_syntax fault }
-{
-    matches!(fault, Refusal::Syntax)
-}
-
 fn is_prefix(fault: Refusal) -> bool
     ensures { result ≡ is_prefix fault }
 {
     matches!(fault, Refusal::Prefix)
-}
-
-fn has_syntax(faults: &[Refusal]) -> bool
-    ensures { result ≡ list_any is_syntax faults.now }
-{
-    faults.iter().any(|fault| is_syntax(*fault))
 }
 
 fn has_prefix(faults: &[Refusal]) -> bool
@@ -54,15 +42,12 @@ fn is_over(bytes: usize, operations: usize) -> bool
     bytes > MOST_BYTES || operations > MOST_OPERATIONS
 }
 
-/// The request that a reading is (SPARQL 1.1 Update, 19.8, and the limits of this program): its refusal is the first of `Syntax`,
-/// `Prefix` and `Limit` that holds anywhere in it. An error comes only where a growth was refused.
+/// The request that a reading is (SPARQL 1.1 Update, 19.8, and the limits of this program): its refusal is the first of `Prefix`
+/// and `Limit` that holds anywhere in it. An error comes only where a growth was refused.
 pub fn check(alloc: Global, syntax: Syntax<'_>) -> Result<Checked, AllocError>
     ensures { IfOk result (IsVerdict syntax.entry) }
 {
     let translation = translate(alloc, syntax.steps.as_slice())?;
-    if has_syntax(translation.faults.as_slice()) {
-        return Ok(Err(Refusal::Syntax));
-    }
     if has_prefix(translation.faults.as_slice()) {
         return Ok(Err(Refusal::Prefix));
     }

@@ -5,7 +5,7 @@ ghost use Rattle.rules.specs.Translation.{triples_of_property, triples_of_subjec
 ghost use Rattle.rules.specs.Refusal.{node_faults, triple_faults, name_faults};
 ghost use Rattle.rules.specs.Reading.{term_at, quads_from, quads_at, operation_at, operations_after};
 
-use crate::names::{Declaration, iri_from, iri_of};
+use crate::names::{Declaration, iri_of};
 use meaning::{Operation, QuadTemplate, Refusal, Slot};
 use sets::Items;
 use std::alloc::{AllocError, Global};
@@ -32,14 +32,10 @@ impl Found {
         ensures quads { OnOk result (self.new.quads ≡ self.old.quads) }
         ensures faults { OnOk result (self.new.faults ≡ self.old.faults ++ node_faults declared.now node.now) }
     {
-        let Some(text) = iri_of(alloc, declared, node)? else {
-            self.faults.push(Refusal::Prefix)?;
-            return Ok(None);
-        };
-        match iri_from(alloc, text.as_slice())? {
+        match iri_of(alloc, declared, node)? {
             Some(iri) => Ok(Some(Term::Iri(iri))),
             None => {
-                self.faults.push(Refusal::Syntax)?;
+                self.faults.push(Refusal::Prefix)?;
                 Ok(None)
             }
         }

@@ -1,13 +1,16 @@
 //! The trees.
 
-use lexer::Piece;
+use lexer::{IriText, LocalPart, Piece};
 use sets::Items;
 
 /// An IRI, a prefixed name, or `a` (SPARQL 1.1 Query, 19.8, productions 78 and 136).
 #[derive(Drop)]
 pub enum Node<'a> {
-    Iri(Piece<'a>),
-    Prefixed { prefix: Piece<'a>, local: Piece<'a> },
+    Iri(IriText<'a>),
+    Prefixed {
+        prefix: Piece<'a>,
+        local: LocalPart<'a>,
+    },
     Type,
 }
 
@@ -34,7 +37,7 @@ pub enum Operation<'a> {
 /// A part of a request: a declaration of a prefix, or an operation.
 #[derive(Drop)]
 pub enum Step<'a> {
-    Declare { prefix: Piece<'a>, iri: Piece<'a> },
+    Declare { prefix: Piece<'a>, iri: IriText<'a> },
     Do(Operation<'a>),
 }
 
