@@ -43,7 +43,8 @@ name_faults ds (step.Do x ∷ steps) = flat_map (triple_faults ds) (triples_of x
 abbrev pub is_prefix : Refusal → Bool
 is_prefix f = place_of f == 1
 
--- what a reading is refused for; of its limits, 2^20 bytes and 256 operations
+-- what a reading is refused for: never for its syntax, since the name of a declared prefix is always an IRI (Named); and its limits are
+-- 2^20 bytes and 256 operations
 abbrev pub has_fault : Refusal → Syntax → Bool
 has_fault refusal.Syntax s = false
 has_fault refusal.Prefix s = list_any is_prefix (name_faults [] s.steps)

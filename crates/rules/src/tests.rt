@@ -3,6 +3,9 @@
 use crate::{BlockFault, Checked, checked, split};
 use meaning::Refusal;
 use std::alloc::{AllocError, Global};
+use terms::Term;
+
+const RDF_TYPE: &str = "http://www.w3.org/1999/02/22-rdf-syntax-ns#type";
 
 /// How many operations a text has, or why it is refused.
 fn answer(alloc: Global, text: &str) -> Result<Result<usize, Refusal>, AllocError> {
@@ -62,9 +65,12 @@ fn blocks(rt: HostRuntime) -> Result<(), BlockFault> {
     }
     let block = split(
         alloc,
-        b"INSERT DATA { <a:b> a <a:c> }\n----\nINSERT DATA { ",
+        b"PREFIX e: <http://e/> INSERT DATA { e:b a <a:c> }\n----\nINSERT DATA { ",
     )?;
-    assert!(rt; block.terms(alloc)?.len() == 3);
+    let terms = block.terms(alloc)?;
+    assert!(rt; terms.len() == 3);
+    assert!(rt; matches!(&terms[0], Term::Iri(iri) if iri.as_str() == "http://e/b"));
+    assert!(rt; matches!(&terms[1], Term::Iri(iri) if iri.as_str() == RDF_TYPE));
     assert!(rt; matches!(split(alloc, &[255]), Err(BlockFault::BadUtf8)));
     Ok(())
 }
