@@ -7,5 +7,5 @@
 pub mod bracketed;
 pub mod iri;
 
-pub use bracketed::front_iri;
+pub use bracketed::{front_iri, is_utf8};
 pub use iri::{Iri, is_iri};

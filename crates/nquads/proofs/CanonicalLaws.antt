@@ -13,7 +13,7 @@ use Rattle.terms.specs.TermLaws.{text_total, text_exact, term_total, term_exact}
 use Rattle.terms.proofs.DataSetLaws.{quads_total, quads_exact, any-set_of, names_of-set_of}
 use Rattle.nquads.specs.Canonical.{quad_text, graph_line, is_empty_graph, lines_of, ended, canonical}
 
-any-map : {A B : Type 0} (p : B → Bool) (f : A → B) (xs : List A) → list_any p (map f xs) ≡ list_any (λ x. p (f x)) xs
+pub any-map : {A B : Type 0} (p : B → Bool) (f : A → B) (xs : List A) → list_any p (map f xs) ≡ list_any (λ x. p (f x)) xs
 any-map p f [] = refl
 any-map p f (x ∷ xs) = ap (λ b. p (f x) || b) (any-map p f xs)
 

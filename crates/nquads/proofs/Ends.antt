@@ -33,5 +33,3 @@ line_length text = sym (length-append (run_of is_inner text) (rest_of is_inner t
 pub ruleset first_lines = (lines_first, line_length)
 
 pub ruleset drops = (drop-prefix)
-
-pub ruleset cuts = (take-prefix, drop-prefix)

@@ -1,5 +1,5 @@
 -- The tag in the labels of made nodes.
-use Rattle.std.specs.Prelude.{ℕ, ◌≡◌, ◌≤◌, ◌||◌, Bool, true, false, List, ◌++◌, codes, nat_eq}
+use Rattle.std.specs.Prelude.{ℕ, ◌≡◌, ◌≤◌, ◌||◌, Bool, false, List, ◌++◌, codes, nat_eq}
 use Rattle.std.specs.List.{starts_with, list_any}
 use Rattle.std.specs.Fmt.{decimal}
 use Rattle.datasets.specs.declared.quad.Quad.{Quad}

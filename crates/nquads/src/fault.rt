@@ -1,3 +1,4 @@
+//! Why a base was not read.
 ghost use Rattle.std.specs.Prelude.{◌≡◌};
 ghost use Rattle.nquads.specs.declared.fault.BaseFault.TheVariants.{OutOfMemory, Device};
 

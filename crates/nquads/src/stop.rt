@@ -1,3 +1,4 @@
+//! What a line says, and why it was not read.
 ghost use Rattle.std.specs.Prelude.{◌≡◌};
 ghost use Rattle.nquads.specs.declared.stop.Stop.TheVariants.{Memory};
 

@@ -1,0 +1,3 @@
+pub mod SetLists
+pub mod LineTexts
+pub mod PlainLaws

@@ -1,0 +1,5 @@
+use Rattle.nquads_laws.proofs.PlainLaws.{again}
+use Rattle.nquads_laws.proofs.read_and_written_again.Goals as goal
+
+pub returns : goal.returns
+returns c = again

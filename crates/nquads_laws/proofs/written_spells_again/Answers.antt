@@ -1,0 +1,5 @@
+use Rattle.nquads_laws.proofs.PlainLaws.{plain_spelled}
+use Rattle.nquads_laws.proofs.written_spells_again.Goals as goal
+
+pub returns : goal.returns
+returns c = plain_spelled

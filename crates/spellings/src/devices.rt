@@ -1,0 +1,184 @@
+//! Readers and writers that are slow, or fail.
+ghost use Rattle.std.specs.Prelude.{◌≡◌, IfOk};
+
+use crate::made::two_graphs;
+use nquads::{BaseFault, Failed, Watched, WriteFault, canonical_text, read, read_bytes, write};
+use std::alloc::{AllocError, Global};
+use std::io;
+use std::io::{Read, Write};
+use std::test::Fail;
+use terms::DataSet;
+
+/// A reader that gives one byte at a time, and fails at a read that is counted down to.
+#[derive(Drop)]
+struct Slow<'a> {
+    rest: &'a [u8],
+    good_reads: usize,
+}
+
+impl Read for Slow<'_> {
+    fn read(&mut self, buf: &mut [u8]) -> io::Result<usize> {
+        if self.good_reads == 0 {
+            return Err(io::Error::from(io::ErrorKind::Other));
+        }
+        self.good_reads -= 1;
+        match (self.rest, buf) {
+            ([first, rest @ ..], [place, ..]) => {
+                *place = *first;
+                self.rest = rest;
+                Ok(1)
+            }
+            _ => Ok(0),
+        }
+    }
+}
+
+/// A writer that takes one byte at a time, and fails at a write or a flush that is counted down to.
+#[derive(Drop)]
+struct Narrow {
+    text: Vec<u8>,
+    good_calls: usize,
+}
+
+impl Write for Narrow {
+    fn write(&mut self, buf: &[u8]) -> io::Result<usize> {
+        if self.good_calls == 0 {
+            return Err(io::Error::from(io::ErrorKind::Other));
+        }
+        self.good_calls -= 1;
+        match buf {
+            [first, ..] => {
+                self.text.push(*first)?;
+                Ok(1)
+            }
+            [] => Ok(0),
+        }
+    }
+
+    fn flush(&mut self) -> io::Result<()> {
+        if self.good_calls == 0 {
+            return Err(io::Error::from(io::ErrorKind::Other));
+        }
+        self.good_calls -= 1;
+        Ok(())
+    }
+}
+
+/// A writer that has room for all that the tests write, so that it asks for no memory later.
+fn with_room(alloc: Global, good_calls: usize) -> Result<Watched<Narrow>, AllocError>
+    ensures { IfOk result (λ writer. writer.failures ≡ 0) }
+{
+    let mut text = Vec::new(alloc);
+    text.reserve(128)?;
+    Ok(Watched::new(Narrow { text, good_calls }))
+}
+
+const TEXT: &[u8] = b"<x:b> <x:p> <x:c> .\r\n# no more\r<x:a> <x:p> <x:c> .";
+
+#[test]
+fn slow_or_at_once(rt: HostRuntime) -> Result<(), Fail> {
+    let whole = read_bytes(rt.alloc(), TEXT)?;
+    let wanted = canonical_text(rt.alloc(), &whole, 1)?;
+    let at_once = read(rt.alloc(), &mut Watched::new(TEXT))?;
+    assert!(rt; canonical_text(rt.alloc(), &at_once, 1)?.as_slice() == wanted.as_slice());
+    let mut slow = Watched::new(Slow {
+        rest: TEXT,
+        good_reads: 1000,
+    });
+    let slowly = read(rt.alloc(), &mut slow)?;
+    assert_eq!(rt; slow.failures, 0);
+    assert!(rt; canonical_text(rt.alloc(), &slowly, 1)?.as_slice() == wanted.as_slice());
+    Ok(())
+}
+
+/// Whether the reader failed. An `Err` where memory ran out.
+fn read_failed(outcome: Result<DataSet, BaseFault>) -> Result<bool, BaseFault> {
+    match outcome {
+        Err(BaseFault::OutOfMemory) => Err(BaseFault::OutOfMemory),
+        Err(BaseFault::Device) => Ok(true),
+        _ => Ok(false),
+    }
+}
+
+#[test]
+fn each_read_fails_once(rt: HostRuntime) -> Result<(), Fail> {
+    for good_reads in 0..=TEXT.len() {
+        let mut reader = Watched::new(Slow {
+            rest: TEXT,
+            good_reads,
+        });
+        let outcome = read(rt.alloc(), &mut reader);
+        assert!(rt; read_failed(outcome)?, "{good_reads}");
+        assert_eq!(rt; reader.failures, 1);
+    }
+    Ok(())
+}
+
+/// Whether the writer failed. An `Err` where memory ran out.
+fn write_failed(outcome: Result<(), WriteFault>) -> Result<bool, WriteFault> {
+    match outcome {
+        Err(WriteFault::OutOfMemory) => Err(WriteFault::OutOfMemory),
+        Err(WriteFault::Device) => Ok(true),
+        Ok(()) => Ok(false),
+    }
+}
+
+#[test]
+fn each_write_fails_once(rt: HostRuntime) -> Result<(), Fail> {
+    let dataset = two_graphs(rt.alloc())?;
+    let text = canonical_text(rt.alloc(), &dataset, 1)?;
+    for good_calls in 0..text.len() {
+        let mut writer = with_room(rt.alloc(), good_calls)?;
+        let outcome = write(rt.alloc(), &mut writer, &dataset, 1);
+        assert!(rt; write_failed(outcome)?, "{good_calls}");
+        assert_eq!(rt; writer.failures, 1);
+        assert_eq!(rt; writer.inner.text.len(), good_calls);
+        assert!(rt; text.starts_with(&writer.inner.text), "{good_calls}");
+    }
+    Ok(())
+}
+
+#[test]
+fn single_reads(rt: HostRuntime) {
+    let mut reader = Watched::new(Slow {
+        rest: b"ab",
+        good_reads: 2,
+    });
+    let mut buffer = [0u8; 4];
+    assert!(rt; matches!(reader.read(&mut buffer), Ok(1)));
+    assert_eq!(rt; reader.failures, 0);
+    assert_eq!(rt; buffer[0], b'a');
+    assert!(rt; matches!(reader.read(&mut buffer), Ok(1)));
+    assert_eq!(rt; reader.failures, 0);
+    assert_eq!(rt; buffer[0], b'b');
+    assert!(rt; matches!(reader.read(&mut buffer), Err(Failed)));
+    assert_eq!(rt; reader.failures, 1);
+}
+
+#[test]
+fn single_writes(rt: HostRuntime) -> Result<(), Fail> {
+    let mut writer = with_room(rt.alloc(), 2)?;
+    assert!(rt; matches!(writer.write(b"ab"), Ok(1)));
+    assert_eq!(rt; writer.failures, 0);
+    assert!(rt; matches!(writer.write(b""), Ok(0)));
+    assert_eq!(rt; writer.failures, 0);
+    assert!(rt; writer.write(b"b").is_err());
+    assert_eq!(rt; writer.failures, 1);
+    assert!(rt; writer.inner.text.as_slice() == b"a".as_slice());
+    Ok(())
+}
+
+#[test]
+fn whole_writes(rt: HostRuntime) -> Result<(), Fail> {
+    let mut writer = with_room(rt.alloc(), 3)?;
+    assert!(rt; writer.write_all(b"bc").is_ok());
+    assert_eq!(rt; writer.failures, 0);
+    assert!(rt; writer.flush().is_ok());
+    assert_eq!(rt; writer.failures, 0);
+    assert!(rt; writer.write_all(b"d").is_err());
+    assert_eq!(rt; writer.failures, 1);
+    assert!(rt; writer.flush().is_err());
+    assert_eq!(rt; writer.failures, 2);
+    assert!(rt; writer.inner.text.as_slice() == b"bc".as_slice());
+    Ok(())
+}

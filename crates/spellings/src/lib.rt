@@ -1,0 +1,14 @@
+//! Worked examples of lists, IRIs, terms and datasets, of N-Quads texts and the datasets that they spell, and of readers and writers that are
+//! slow or fail.
+#![tactic(auto)]
+
+#[cfg(test)]
+mod datasets_of_terms;
+#[cfg(test)]
+mod devices;
+#[cfg(test)]
+mod lists;
+#[cfg(test)]
+mod made;
+#[cfg(test)]
+mod texts;

@@ -1,0 +1,132 @@
+//! N-Quads texts: what they spell, and what is written.
+use crate::made::{is_quad, two_graphs};
+use nquads::{BaseFault, Watched, canonical_text, front_of, read, read_bytes, tag, write};
+use std::test::Fail;
+use terms::DataSet;
+
+/// Texts, and the canonical text of what each spells.
+const TEXTS: [(&str, &str); 8] = [
+    ("", ""),
+    ("\n\r\n\r\t # nothing", ""),
+    ("<x:a><x:b><x:c>.", "<x:a> <x:b> <x:c> .\n"),
+    (
+        "\t<x:a> \t<x:b>\t<x:c> . # why\r<x:a> <x:b> <x:c> .\r\n",
+        "<x:a> <x:b> <x:c> .\n",
+    ),
+    (
+        "<x:b> <x:p> <x:c> .\n<x:a> <x:p> <x:c> .\n",
+        "<x:a> <x:p> <x:c> .\n<x:b> <x:p> <x:c> .\n",
+    ),
+    (
+        "<x:a> <x:p> <x:c> .\n<x:a!> <x:p> <x:c> .\n",
+        "<x:a!> <x:p> <x:c> .\n<x:a> <x:p> <x:c> .\n",
+    ),
+    ("<x:é> <x:p> <x:日本> .", "<x:é> <x:p> <x:日本> .\n"),
+    (
+        "#@graphs are other comments\n<x:a> <x:b> <x:c> .#@graph ",
+        "<x:a> <x:b> <x:c> .\n",
+    ),
+];
+
+#[test]
+fn read_and_written(rt: HostRuntime) -> Result<(), Fail> {
+    for (text, written) in &TEXTS {
+        let dataset = read_bytes(rt.alloc(), text.as_bytes())?;
+        let canonical = canonical_text(rt.alloc(), &dataset, 1)?;
+        assert!(rt; canonical.as_slice() == written.as_bytes(), "{text:?}");
+        let again = read_bytes(rt.alloc(), &canonical)?;
+        let twice = canonical_text(rt.alloc(), &again, 1)?;
+        assert!(rt; twice.as_slice() == written.as_bytes(), "{text:?}");
+        assert_eq!(rt; tag(rt.alloc(), &dataset)?, 1);
+    }
+    Ok(())
+}
+
+#[test]
+fn one_quad(rt: HostRuntime) -> Result<(), Fail> {
+    let dataset = read_bytes(rt.alloc(), b"<x:a> <x:b> <x:c> .")?;
+    assert!(rt; matches!(dataset.quads(), [only] if is_quad(only, ["x:a", "x:b", "x:c"], None)));
+    assert!(rt; dataset.names().is_empty());
+    Ok(())
+}
+
+/// Texts, and the number of the first bad line of each.
+const BAD: [(&[u8], usize); 12] = [
+    (b"x", 1),
+    (b"\n<x:a> <x:b> <x:c>", 2),
+    (b"\r\n\r<x:a> <x:b> .\r\r", 3),
+    (b"<x:a> <x:b> <x:c> .\n<x:a> <x:b> <x:c> . <x:d>\nx", 2),
+    (b"<x:a> <x:b> <x:c> .\n<a> <x:b> <x:c> .", 2),
+    (b"# \xff", 1),
+    (b"<x:\xff> <x:b> <x:c> .", 1),
+    (b"<x:\\u0061> <x:b> <x:c> .", 1),
+    (b"<x:a> <x:b> \"c\" .", 1),
+    (b"_:a <x:b> <x:c> .", 1),
+    (b"<x:a> <x:b> <x:c> <x:g> .", 1),
+    (b"#@graph <x:g>", 1),
+];
+
+/// Whether the line of this number is the first bad one. An `Err` where memory ran out.
+fn is_bad_at(outcome: Result<DataSet, BaseFault>, number: usize) -> Result<bool, BaseFault> {
+    match outcome {
+        Err(BaseFault::OutOfMemory) => Err(BaseFault::OutOfMemory),
+        Err(BaseFault::BadLine(at)) => Ok(at == number),
+        _ => Ok(false),
+    }
+}
+
+#[test]
+fn bad_lines(rt: HostRuntime) -> Result<(), Fail> {
+    for (text, number) in &BAD {
+        let outcome = read_bytes(rt.alloc(), text);
+        assert!(rt; is_bad_at(outcome, *number)?, "{text:?}");
+        let mut reader = Watched::new(*text);
+        let outcome = read(rt.alloc(), &mut reader);
+        assert!(rt; is_bad_at(outcome, *number)?, "{text:?}");
+        assert_eq!(rt; reader.failures, 0);
+    }
+    Ok(())
+}
+
+const TWO_GRAPHS: &[u8] = b"#@graph <x:e>\n<x:a> <x:p> <x:c> <x:g> .\n<x:b> <x:p> <x:c> .\n";
+
+#[test]
+fn graphs_written(rt: HostRuntime) -> Result<(), Fail> {
+    let dataset = two_graphs(rt.alloc())?;
+    assert!(rt; canonical_text(rt.alloc(), &dataset, 1)?.as_slice() == TWO_GRAPHS);
+    let mut writer = Watched::new(Vec::new(rt.alloc()));
+    write(rt.alloc(), &mut writer, &dataset, 1)?;
+    assert!(rt; writer.inner.as_slice() == TWO_GRAPHS);
+    assert_eq!(rt; writer.failures, 0);
+    Ok(())
+}
+
+#[test]
+fn fronts(rt: HostRuntime) -> Result<(), Fail> {
+    let text = b"0123456789".as_slice();
+    for limit in [10, 11, 4096] {
+        let mut reader = Watched::new(text);
+        assert!(rt; front_of(rt.alloc(), &mut reader, limit)?.as_slice() == text);
+    }
+    for limit in [0, 1, 9] {
+        let mut reader = Watched::new(text);
+        let front = front_of(rt.alloc(), &mut reader, limit)?;
+        assert!(rt; front.len() > limit && text.starts_with(&front), "{limit}");
+    }
+    Ok(())
+}
+
+#[test]
+fn messages(rt: HostRuntime) -> Result<(), Fail> {
+    let faults = [
+        (BaseFault::OutOfMemory, "out of memory"),
+        (BaseFault::BadLine(3), "bad line 3"),
+        (BaseFault::TooLong, "too long"),
+        (BaseFault::Device, "cannot read"),
+    ];
+    for (fault, message) in &faults {
+        let text = fault.to_string(rt.alloc())?;
+        assert!(rt; text.as_str() == *message, "{message}");
+    }
+    Ok(())
+}
