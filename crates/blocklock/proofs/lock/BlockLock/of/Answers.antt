@@ -1,4 +1,4 @@
-use Rattle.std.proofs.Common.{rules, ◌≡◌, Some, [], ◌∷◌, ap, sym, subst, ◌∙◌}
+use Rattle.std.proofs.Common.{rules, ◌≡◌, Some, [], ◌∷◌, ap, sym, subst}
 use Rattle.atomic_table.specs.Table.{opening}
 use Rattle.blocklock.specs.Rule.{Kept, first_view}
 use Rattle.blocklock.proofs.Keeps.{starts}

@@ -1,5 +1,5 @@
 use Rattle.std.proofs.Common.{rules, sym, subst, arith}
-use Rattle.blocklock.specs.Passes.{PassView, MayGive}
+use Rattle.blocklock.specs.Passes.{MayGive}
 use Rattle.blocklock.proofs.Keeps.{gives_book, may_give}
 use Rattle.blocklock.proofs.lock.Held.give.Goals as goal
 
