@@ -5,5 +5,9 @@
 #![tactic(auto)]
 
 mod kept;
+mod refused;
+mod shared_block;
 
 pub use kept::{Kept, Pass, Subject};
+pub use refused::Refused;
+pub use shared_block::SharedBlock;
