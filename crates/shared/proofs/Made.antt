@@ -1,5 +1,5 @@
 -- A pass that took the book and gave it back with one more entry.
-use Rattle.std.proofs.Common.{◌≡◌, ℕ, ◌+◌, true, false, List, [], ◌∷◌, ◌++◌, length, length-append, refl, sym, ap, subst, ◌∙◌, arith, Option, Some, None, Result, Ok, Err, IfOk, OnErr}
+use Rattle.std.proofs.Common.{◌≡◌, ℕ, false, List, [], ◌∷◌, ◌++◌, length, length-append, refl, sym, ap, subst, ◌∙◌, arith, Some, Result, Ok, Err, IfOk, OnErr}
 use Rattle.block_machine.specs.declared.state.Entry.{Entry}
 use Rattle.block_machine.specs.declared.state.Event.{Event}
 use Rattle.block_machine.specs.declared.state.Event.TheVariants.{Publish}
@@ -7,8 +7,8 @@ use Rattle.block_machine.specs.declared.state.Reply.{Reply}
 use Rattle.block_machine.specs.Machine.{IsAllowed}
 use Rattle.block_machine.specs.Serial.{IsHistory}
 use Rattle.book.specs.Run.{Run, state_of, setting_of, IsSoundEvent}
-use Rattle.blocklock.specs.History.{History, of_worker}
-use Rattle.blocklock.specs.Passes.{PassView, Takes, Includes, Watches}
+use Rattle.blocklock.specs.History.{of_worker}
+use Rattle.blocklock.specs.Passes.{Takes, Watches}
 use Rattle.blocklock.proofs.Journals.{of_worker-append}
 use Rattle.shared.specs.declared.kept.Subject.{Subject}
 use Rattle.shared.specs.Calls.{Viewed, owner, history_of, run_of, entry, Answers, Made, Has}

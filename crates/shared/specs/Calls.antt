@@ -1,5 +1,5 @@
 -- What a call on a shared book says of the pass that made it.
-use Rattle.std.specs.Prelude.{◌≡◌, ℕ, true, List, [], ◌∷◌, ◌++◌, Option, Some, Result, Ok, Err, slice_get}
+use Rattle.std.specs.Prelude.{◌≡◌, ℕ, true, List, [], ◌∷◌, ◌++◌, Some, Result, Ok, Err, slice_get}
 use Rattle.datasets.specs.declared.id.Id.{Id}
 use Rattle.dict.specs.Dictionary.{numbers}
 use Rattle.meaning.specs.Run.{Request, answer_of}

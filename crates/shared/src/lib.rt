@@ -7,6 +7,8 @@
 mod kept;
 mod refused;
 mod shared_block;
+mod trying;
+mod waiting;
 
 pub use kept::{Kept, Pass, Subject};
 pub use refused::Refused;

@@ -74,7 +74,12 @@ impl<'a> SharedBlock<'a> {
     }
 
     // Makes one event, and never waits.
-    fn try_make(&self, alloc: Global, pass: &mut Pass<'a>, event: Event) -> Result<Reply, Refused>
+    pub(crate) fn try_make(
+        &self,
+        alloc: Global,
+        pass: &mut Pass<'a>,
+        event: Event,
+    ) -> Result<Reply, Refused>
         requires own { pass.old.table ≡ self.now }
         requires sound { IsSoundEvent (run_of pass.old.subject pass.old.seen) event }
         ensures { Tried pass.old pass.new event result }
@@ -89,7 +94,7 @@ impl<'a> SharedBlock<'a> {
     }
 
     // Makes one event, once the book is there.
-    fn make_waiting<R: Wait>(
+    pub(crate) fn make_waiting<R: Wait>(
         &self,
         rt: &R,
         alloc: Global,
@@ -102,5 +107,25 @@ impl<'a> SharedBlock<'a> {
     {
         let held = self.lock.hold(rt, pass);
         make(alloc, held, pass, event)
+    }
+
+    /// How many requests are committed in what the pass has then seen.
+    pub fn front<R: Wait>(&self, rt: &R, pass: &mut Pass<'a>) -> usize
+        requires { pass.old.table ≡ self.now }
+        ensures front { result ≡ (state_of (run_of pass.new.subject pass.new.seen)).front }
+        ensures pass { Watches owner pass.old pass.new }
+    {
+        self.lock.front(rt, pass)
+    }
+
+    /// Ends the sharing. The book's journal begins with what each pass has seen, and has no other entries of its worker.
+    pub fn close<R: Wait>(self, rt: &R, passes: Vec<Pass<'a>>) -> Book<'a>
+        requires some { 0 < vec_len passes }
+        requires passes { All (IsIdleAt self) passes.items }
+        ensures { All (λ p. Includes owner p (history_of result)) passes.entry.items }
+    {
+        let SharedBlock { lock } = self;
+        let Kept { book } = lock.close(rt, passes);
+        book
     }
 }
