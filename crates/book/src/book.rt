@@ -2,7 +2,8 @@
 ghost use Rattle.std.specs.Prelude.{◌≡◌, [], ◌∷◌, ◌++◌, IfOk, OnErr};
 ghost use Rattle.reads.specs.Reads.{IsDataset};
 ghost use Rattle.block_machine.specs.Machine.{IsAllowed};
-ghost use Rattle.book.specs.Run.{state_of, front_run, kept, IsSoundEvent};
+ghost use Rattle.block_machine.specs.Serial.{IsHistory};
+ghost use Rattle.book.specs.Run.{state_of, setting_of, front_run, kept, IsSoundEvent};
 
 use crate::Request;
 use crate::copies::{copy_of_event, kept_event};
@@ -132,9 +133,10 @@ impl<'a> Book<'a> {
         })
     }
 
-    /// Every event that was answered, in order.
+    /// Every event that was answered, in order: each is lawful where those before it lead.
     pub fn journal(&self) -> &[Entry]
-        ensures { result.now ≡ self.now.history }
+        ensures journal { result.now ≡ self.now.history }
+        ensures lawful { IsHistory (setting_of self.now) self.now.history }
     {
         self.journal.as_slice()
     }

@@ -1,0 +1,44 @@
+-- What taking in all passes says of each.
+use Rattle.std.proofs.Common.{◌≡◌, ℕ, zero, suc, false, cond, List, [], ◌∷◌, ◌++◌, map, All, Option, None, sym, ap, subst, ◌∙◌, arith, append_assoc}
+use Rattle.std.proofs.lemmas.List.{map-append}
+use Rattle.atomic_table.specs.Table.{Me}
+use Rattle.blocklock.specs.History.{History}
+use Rattle.blocklock.specs.declared.view.View.{View}
+use Rattle.blocklock.specs.declared.view.Told.{Told}
+use Rattle.blocklock.specs.Rule.{AllCovered, joined}
+use Rattle.blocklock.specs.Passes.{PassView, Includes, Takes, IsSeatOf, told_of}
+use Rattle.blocklock.proofs.Journals.{all_from}
+
+module _ {S E : Type 0} where
+  pub no_slots : {T : Type 0} (worker : ℕ) (me : Me (Option T) (View S E)) → IsSeatOf worker me → me.0.holds ≡ false → me.1 ≡ []
+  no_slots worker me seat idle = seat.slots ∙ ap (λ b. cond b ((0, None) ∷ []) []) idle
+
+  -- the seat's view, once it has taken in one more
+  pub taken_in : (start old new w : View S E) → old ≡ record start { told = old.told } → new ≡ joined old w → new ≡ record start { told = new.told }
+  taken_in start old new w was is =
+      is ∙ ((λ k. record (was k) { told = (joined old w).told }) ∙ (λ k. record start { told = sym (ap (λ (v : View S E). v.told) is) k }))
+
+  -- what is still to be taken in and what was is all that there is
+  pub told_more : (before passes all : List (PassView S E)) (p : PassView S E) (old new w : View S E) → passes ≡ before ++ p ∷ [] → new ≡ joined old w
+      → p.worker ≡ w.from → p.subject ≡ w.subject → p.seen ≡ w.seen → map told_of passes ++ old.told ≡ map told_of all → map told_of before ++ new.told ≡ map told_of all
+  told_more before passes all p old new w last is worker subject seen was =
+      let one : told_of p ∷ old.told ≡ new.told = (λ k. record { worker = worker k; subject = subject k; seen = seen k } ∷ old.told) ∙ sym (ap (λ (v : View S E). v.told) is) in
+      ap (λ l. map told_of before ++ l) (sym one)
+      ∙ (sym (append_assoc (map told_of before) (told_of p ∷ []) old.told)
+      ∙ (ap (λ l. l ++ old.told) (sym (ap (map told_of) last ∙ map-append told_of before (p ∷ []))) ∙ was))
+
+module _ {S E : Type 0} (worker_of : E → ℕ) where
+  pub all_included : (book : History S E) (ps : List (PassView S E)) → AllCovered worker_of book.subject book.journal (map told_of ps) → All (λ p. Includes worker_of p book) ps
+  all_included book [] c k d less = absurd (omega arith)
+  all_included book (p ∷ ps) c zero d less = record { subject = sym c.0.same_subject; begins = c.0.begins; mine = c.0.own }
+  all_included book (p ∷ ps) c (suc k) d less = all_included book ps c.1 k d (omega arith)
+
+  -- The last pass took the book and then took in the others
+  pub all_closed : (book : History S E) (last took : PassView S E) (others all : List (PassView S E)) (v : View S E) → Takes worker_of last book took → took.subject ≡ v.subject → took.seen ≡ v.seen → v.told ≡ map told_of others
+      → AllCovered worker_of v.subject v.seen v.told → all ≡ others ++ last ∷ [] → All (λ p. Includes worker_of p book) all
+  all_closed book last took others all v takes same_subject seen told covered is =
+      let now = takes.sees in
+      let subject : v.subject ≡ book.subject = sym same_subject ∙ (ap (λ (p : PassView S E). p.subject) now ∙ sym takes.includes.subject) in
+      let journal : v.seen ≡ book.journal = sym seen ∙ ap (λ (p : PassView S E). p.seen) now in
+      let at : AllCovered worker_of book.subject book.journal (map told_of others) = subst (λ (t : S × List E × List (Told S E)). AllCovered worker_of t.0 t.1 t.2) (λ i. (subject i, journal i, told i)) covered in
+      all_from (λ p. Includes worker_of p book) others all last is (all_included book others at) takes.includes

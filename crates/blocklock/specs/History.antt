@@ -1,0 +1,19 @@
+-- What a lock knows of a book: what it is about, and its journal.
+use Rattle.std.specs.Prelude.{◌≡◌, ℕ, eqb, if◌then◌else◌, List, [], ◌∷◌, ◌++◌}
+
+pub record History (S E : Type 0) : Type 0 where
+  pub subject : S
+  pub journal : List E
+
+-- the entries of one worker
+abbrev pub of_worker : {E : Type 0} → (E → ℕ) → ℕ → List E → List E
+of_worker worker_of w [] = []
+of_worker worker_of w (e ∷ es) = if eqb (worker_of e) w then e ∷ of_worker worker_of w es else of_worker worker_of w es
+
+-- the longer journal goes on from the shorter one
+abbrev pub BeginsWith : {E : Type 0} → List E → List E → Type 0
+BeginsWith {E} longer shorter = (more : List E) × (longer ≡ shorter ++ more)
+
+-- the later journal goes on from the earlier one by entries of one worker
+abbrev pub GoesOn : {E : Type 0} → (E → ℕ) → ℕ → List E → List E → Type 0
+GoesOn {E} worker_of worker earlier later = (more : List E) × (later ≡ earlier ++ more) × (of_worker worker_of worker more ≡ more)

@@ -1,0 +1,93 @@
+-- A pass that took the book and gave it back with one more entry.
+use Rattle.std.proofs.Common.{◌≡◌, ℕ, false, List, [], ◌∷◌, ◌++◌, length, length-append, refl, sym, ap, subst, ◌∙◌, arith, Some, Result, Ok, Err, IfOk, OnErr}
+use Rattle.block_machine.specs.declared.state.Entry.{Entry}
+use Rattle.block_machine.specs.declared.state.Event.{Event}
+use Rattle.block_machine.specs.declared.state.Event.TheVariants.{Publish}
+use Rattle.block_machine.specs.declared.state.Reply.{Reply}
+use Rattle.block_machine.specs.Machine.{IsAllowed}
+use Rattle.block_machine.specs.Serial.{IsHistory}
+use Rattle.book.specs.Run.{Run, state_of, setting_of, IsSoundEvent}
+use Rattle.blocklock.specs.History.{of_worker}
+use Rattle.blocklock.specs.Passes.{Takes, Watches}
+use Rattle.blocklock.proofs.Journals.{of_worker-append}
+use Rattle.shared.specs.declared.kept.Subject.{Subject}
+use Rattle.shared.specs.Calls.{Viewed, owner, history_of, run_of, entry, Answers, Made, Has}
+
+-- the earlier journal's entries of the worker are all of the later one's, so what lies between has none
+none_between : (w : ℕ) (before between : List Entry) → of_worker owner w (before ++ between) ≡ of_worker owner w before → of_worker owner w between ≡ []
+none_between w before between e = empty (of_worker owner w before) (of_worker owner w between) (sym (of_worker-append owner w before between) ∙ e)
+  where
+    nothing : (ys : List Entry) → length ys ≡ 0 → ys ≡ []
+    nothing [] e = refl
+    nothing (y ∷ ys) e = absurd (omega arith)
+
+    empty : (xs ys : List Entry) → xs ++ ys ≡ xs → ys ≡ []
+    empty xs ys e = nothing ys (omega (arith, ap length e, length-append xs ys))
+
+module _ (old mid : Viewed) (book : Run) (takes : Takes owner old (history_of book) mid) where
+  worker : mid.worker ≡ old.worker
+  worker = ap (λ (p : Viewed). p.worker) takes.sees
+
+  subject : mid.subject ≡ old.subject
+  subject = ap (λ (p : Viewed). p.subject) takes.sees
+
+  seen : mid.seen ≡ old.seen ++ takes.includes.begins.0
+  seen = ap (λ (p : Viewed). p.seen) takes.sees ∙ takes.includes.begins.1
+
+  -- the pass that took a book has it
+  pub has : Has mid book
+  has = record {
+    holds = ap (λ (p : Viewed). p.holds) takes.sees;
+    subject = takes.includes.subject ∙ sym subject;
+    journal = ap (λ (p : Viewed). p.seen) takes.sees;
+  }
+
+  -- what is sound for the subject is sound for the book
+  pub sound_there : (event : Event) → IsSoundEvent (run_of old.subject old.seen) event → IsSoundEvent book event
+  sound_there event sound = subst (λ (s : Subject). IsSoundEvent (run_of s book.history) event) (sym takes.includes.subject) (any_journal old.subject old.seen book.history event sound)
+    where
+      any_journal : (s : Subject) (a b : List Entry) (e : Event) → IsSoundEvent (run_of s a) e → IsSoundEvent (run_of s b) e
+      any_journal s a b (Publish i n (Some finished)) h = h
+      any_journal s a b e h = tt
+
+  pub answers : (new : Viewed) (event : Event) (reply : Reply) → new ≡ record mid { seen = mid.seen ++ entry mid.worker event reply ∷ []; holds = false }
+      → IsAllowed mid.subject.base (state_of (run_of mid.subject mid.seen)) mid.worker event reply → IsHistory (setting_of (run_of mid.subject new.seen)) new.seen
+      → Answers old new event reply
+  answers new event reply gave allowed lawful =
+      record {
+        sees = λ i. record {
+          table = (ap (λ (p : Viewed). p.table) gave ∙ ap (λ (p : Viewed). p.table) takes.sees) i;
+          worker = (ap (λ (p : Viewed). p.worker) gave ∙ worker) i;
+          subject = (ap (λ (p : Viewed). p.subject) gave ∙ subject) i;
+          seen = new.seen;
+          holds = (ap (λ (p : Viewed). p.holds) gave ∙ sym takes.was_free) i;
+        };
+        between = takes.includes.begins.0;
+        ends = ap (λ (p : Viewed). p.seen) gave ∙ (λ i. seen i ++ entry (worker i) event reply ∷ []);
+        none_else = none_between old.worker old.seen takes.includes.begins.0 (ap (of_worker owner old.worker) (sym takes.includes.begins.1) ∙ takes.includes.mine);
+        allowed = subst (λ (t : ℕ × Subject × List Entry). IsAllowed t.1.base (state_of (run_of t.1 t.2)) t.0 event reply) (λ i. (worker i, subject i, seen i)) allowed;
+        lawful = subst (λ (s : Subject). IsHistory (setting_of (run_of s new.seen)) new.seen) subject lawful;
+      }
+
+  -- a growth was refused
+  pub watches : (new : Viewed) → new ≡ record mid { holds = false } → Watches owner old new
+  watches new gave =
+      let now : new.seen ≡ book.history = ap (λ (p : Viewed). p.seen) gave ∙ ap (λ (p : Viewed). p.seen) takes.sees in
+      let by : new.worker ≡ old.worker = ap (λ (p : Viewed). p.worker) gave ∙ worker in
+      record {
+        sees = λ i. record {
+          table = (ap (λ (p : Viewed). p.table) gave ∙ ap (λ (p : Viewed). p.table) takes.sees) i;
+          worker = by i;
+          subject = (ap (λ (p : Viewed). p.subject) gave ∙ subject) i;
+          seen = new.seen;
+          holds = (ap (λ (p : Viewed). p.holds) gave ∙ sym takes.was_free) i;
+        };
+        begins = (takes.includes.begins.0, now ∙ takes.includes.begins.1);
+        mine = (λ i. of_worker owner (by i) (now i)) ∙ takes.includes.mine;
+      }
+
+  pub made : {X : Type 0} (new : Viewed) (event : Event) (r : Result Reply X) → IfOk r (λ reply. new ≡ record mid { seen = mid.seen ++ entry mid.worker event reply ∷ []; holds = false })
+      → IfOk r (λ reply. IsAllowed mid.subject.base (state_of (run_of mid.subject mid.seen)) mid.worker event reply) → IsHistory (setting_of (run_of mid.subject new.seen)) new.seen
+      → OnErr r (new ≡ record mid { holds = false }) → Made old new event r
+  made new event (Ok reply) gave allowed lawful err = answers new event reply gave allowed lawful
+  made new event (Err e) gave allowed lawful err = watches new err

@@ -1,0 +1,131 @@
+//! The calls.
+ghost use Rattle.std.specs.Prelude.{◌≡◌, ◌<◌, ◌≤◌, ◌∷◌, ◌++◌, ℕ, [], false, Some, slice_get, vec_len, All, IfOk, OnErr};
+ghost use Rattle.reads.specs.Reads.{IsDataset};
+ghost use Rattle.block_machine.specs.Machine.{IsAllowed};
+ghost use Rattle.block_machine.specs.Serial.{IsHistory};
+ghost use Rattle.book.specs.Run.{state_of, setting_of, IsSoundEvent};
+ghost use Rattle.blocklock.specs.Passes.{IsIdleAt, Includes, Watches, fresh_pass};
+ghost use Rattle.shared.specs.Calls.{owner, history_of, run_of, entry, IsSoundAt, Made, Tried, Has};
+
+use crate::kept::{Kept, Pass};
+use crate::refused::Refused;
+use block_machine::{Event, Reply};
+use blocklock::{BlockLock, Busy, Held};
+use book::{Book, Request};
+use datasets::Read;
+use dict::{Dict, Id};
+use reads::{Finished, View};
+use std::alloc::{AllocError, Global};
+use std::marker::Model;
+use std::sync::Wait;
+
+/// A book that threads share. To a contract it is the name of its lock's table.
+#[derive(Drop)]
+pub struct SharedBlock<'a> {
+    lock: BlockLock<Kept<'a>>,
+}
+
+impl<'a> Model for SharedBlock<'a> {
+    ghost use Rattle.atomic_table.specs.Seated.{TableId};
+
+    ghost Value = { TableId };
+
+    ghost view = { λ s. s.lock };
+}
+
+// Makes one event on the book that the pass holds, and gives the book back.
+fn make<'a>(
+    alloc: Global,
+    mut held: Held<'_, Kept<'a>>,
+    pass: &mut Pass<'a>,
+    event: Event,
+) -> Result<Reply, AllocError>
+    requires own { pass.old.table ≡ held.lock.now }
+    requires has { Has pass.old held.book.value.book }
+    requires sound { IsSoundEvent held.book.value.book event }
+    ensures ok { IfOk result (λ reply. pass.new ≡ record pass.old { seen = pass.old.seen ++ entry pass.old.worker event reply ∷ []; holds = false }) }
+    ensures allowed { IfOk result (λ reply. IsAllowed pass.old.subject.base (state_of (run_of pass.old.subject pass.old.seen)) pass.old.worker event reply) }
+    ensures lawful { IsHistory (setting_of (run_of pass.old.subject pass.new.seen)) pass.new.seen }
+    ensures err { OnErr result (pass.new ≡ record pass.old { holds = false }) }
+{
+    let reply = held.book.book.step_owned(alloc, pass.worker(), event);
+    let _journal = held.book.book.journal();
+    held.give(pass);
+    reply
+}
+
+impl<'a> SharedBlock<'a> {
+    /// The shared book of a base and a block before any event, with a pass for each worker, from worker 0 on.
+    pub fn new(
+        alloc: Global,
+        terms: &'a Dict,
+        base: &'a View,
+        block: &'a [Request],
+        seats: u32,
+    ) -> Result<(SharedBlock<'a>, Vec<Pass<'a>>), AllocError>
+        requires dataset { IsDataset base.now }
+        requires seats { (0 < seats) × (seats ≤ 64) }
+        ensures count { IfOk result (λ r. vec_len r.1 ≡ seats) }
+        ensures passes { IfOk result (λ r. (k : ℕ) → k < seats → slice_get r.1.items k ≡ Some (fresh_pass r.0 (history_of (record { terms = terms.now; base = base.now; block = block.now; history = [] })) k)) }
+    {
+        let book = Book::new(alloc, terms, base, block)?;
+        let (lock, passes) = BlockLock::new(alloc, Kept { book }, seats)?;
+        Ok((SharedBlock { lock }, passes))
+    }
+
+    // Makes one event, and never waits.
+    pub(crate) fn try_make(
+        &self,
+        alloc: Global,
+        pass: &mut Pass<'a>,
+        event: Event,
+    ) -> Result<Reply, Refused>
+        requires own { pass.old.table ≡ self.now }
+        requires sound { IsSoundEvent (run_of pass.old.subject pass.old.seen) event }
+        ensures { Tried pass.old pass.new event result }
+    {
+        match self.lock.try_hold(pass) {
+            Ok(held) => match make(alloc, held, pass, event) {
+                Ok(reply) => Ok(reply),
+                Err(AllocError) => Err(Refused::OutOfMemory),
+            },
+            Err(Busy) => Err(Refused::Busy),
+        }
+    }
+
+    // Makes one event, once the book is there.
+    pub(crate) fn make_waiting<R: Wait>(
+        &self,
+        rt: &R,
+        alloc: Global,
+        pass: &mut Pass<'a>,
+        event: Event,
+    ) -> Result<Reply, AllocError>
+        requires own { pass.old.table ≡ self.now }
+        requires sound { IsSoundEvent (run_of pass.old.subject pass.old.seen) event }
+        ensures { Made pass.old pass.new event result }
+    {
+        let held = self.lock.hold(rt, pass);
+        make(alloc, held, pass, event)
+    }
+
+    /// How many requests are committed in what the pass has then seen.
+    pub fn front<R: Wait>(&self, rt: &R, pass: &mut Pass<'a>) -> usize
+        requires { pass.old.table ≡ self.now }
+        ensures front { result ≡ (state_of (run_of pass.new.subject pass.new.seen)).front }
+        ensures pass { Watches owner pass.old pass.new }
+    {
+        self.lock.front(rt, pass)
+    }
+
+    /// Ends the sharing. The book's journal begins with what each pass has seen, and has no other entries of its worker.
+    pub fn close<R: Wait>(self, rt: &R, passes: Vec<Pass<'a>>) -> Book<'a>
+        requires some { 0 < vec_len passes }
+        requires passes { All (IsIdleAt self) passes.items }
+        ensures { All (λ p. Includes owner p (history_of result)) passes.entry.items }
+    {
+        let SharedBlock { lock } = self;
+        let Kept { book } = lock.close(rt, passes);
+        book
+    }
+}

@@ -1,0 +1,138 @@
+//! The calls that wait until the book is there. The places and incarnations are as in `block_machine::Event`.
+ghost use Rattle.std.specs.Prelude.{◌≡◌, Some};
+ghost use Rattle.shared.specs.Calls.{IsSoundAt, Made};
+
+use crate::kept::Pass;
+use crate::shared_block::SharedBlock;
+use block_machine::{Event, Reply};
+use datasets::Read;
+use dict::Id;
+use reads::Finished;
+use std::alloc::{AllocError, Global};
+use std::sync::Wait;
+
+impl<'a> SharedBlock<'a> {
+    /// Takes a request, to execute its next incarnation.
+    pub fn take<R: Wait>(
+        &self,
+        rt: &R,
+        alloc: Global,
+        pass: &mut Pass<'a>,
+        i: usize,
+    ) -> Result<Reply, AllocError>
+        requires { pass.old.table ≡ self.now }
+        ensures { Made pass.old pass.new (Event.Take i) result }
+    {
+        self.make_waiting(rt, alloc, pass, Event::Take(i))
+    }
+
+    /// Asks what a read says where incarnation `n` of the request runs.
+    pub fn read<R: Wait>(
+        &self,
+        rt: &R,
+        alloc: Global,
+        pass: &mut Pass<'a>,
+        i: usize,
+        n: u64,
+        read: &Read<Id>,
+    ) -> Result<Reply, AllocError>
+        requires { pass.old.table ≡ self.now }
+        ensures { Made pass.old pass.new (Event.Read i n read.now) result }
+    {
+        self.make_waiting(rt, alloc, pass, Event::Read(i, n, *read))
+    }
+
+    /// Publishes a finished run of incarnation `n` of a request. The journal has a copy of it, which is made before the lock is taken.
+    pub fn publish<R: Wait>(
+        &self,
+        rt: &R,
+        alloc: Global,
+        pass: &mut Pass<'a>,
+        i: usize,
+        n: u64,
+        finished: &Finished,
+    ) -> Result<Reply, AllocError>
+        requires own { pass.old.table ≡ self.now }
+        requires sound { IsSoundAt pass.old.subject i finished.now }
+        ensures { Made pass.old pass.new (Event.Publish i n (Some finished.now)) result }
+    {
+        let copy = finished.copied(alloc)?;
+        self.make_waiting(rt, alloc, pass, Event::Publish(i, n, Some(copy)))
+    }
+
+    /// The same of a run that the caller gives away, with no copy.
+    pub fn publish_owned<R: Wait>(
+        &self,
+        rt: &R,
+        alloc: Global,
+        pass: &mut Pass<'a>,
+        i: usize,
+        n: u64,
+        finished: Finished,
+    ) -> Result<Reply, AllocError>
+        requires own { pass.old.table ≡ self.now }
+        requires sound { IsSoundAt pass.old.subject i finished }
+        ensures { Made pass.old pass.new (Event.Publish i n (Some finished)) result }
+    {
+        self.make_waiting(rt, alloc, pass, Event::Publish(i, n, Some(finished)))
+    }
+
+    /// Begins a pass of checks of incarnation `n` of a request.
+    pub fn begin<R: Wait>(
+        &self,
+        rt: &R,
+        alloc: Global,
+        pass: &mut Pass<'a>,
+        i: usize,
+        n: u64,
+    ) -> Result<Reply, AllocError>
+        requires { pass.old.table ≡ self.now }
+        ensures { Made pass.old pass.new (Event.Begin i n) result }
+    {
+        self.make_waiting(rt, alloc, pass, Event::Begin(i, n))
+    }
+
+    /// Checks the next note of the pass.
+    pub fn check<R: Wait>(
+        &self,
+        rt: &R,
+        alloc: Global,
+        pass: &mut Pass<'a>,
+        i: usize,
+        n: u64,
+    ) -> Result<Reply, AllocError>
+        requires { pass.old.table ≡ self.now }
+        ensures { Made pass.old pass.new (Event.Check i n) result }
+    {
+        self.make_waiting(rt, alloc, pass, Event::Check(i, n))
+    }
+
+    /// Commits a request.
+    pub fn commit<R: Wait>(
+        &self,
+        rt: &R,
+        alloc: Global,
+        pass: &mut Pass<'a>,
+        i: usize,
+    ) -> Result<Reply, AllocError>
+        requires { pass.old.table ≡ self.now }
+        ensures { Made pass.old pass.new (Event.Commit i) result }
+    {
+        self.make_waiting(rt, alloc, pass, Event::Commit(i))
+    }
+
+    /// Leaves a request whose incarnation `n` the worker executes.
+    pub fn give_up<R: Wait>(
+        &self,
+        rt: &R,
+        alloc: Global,
+        pass: &mut Pass<'a>,
+        i: usize,
+        n: u64,
+    ) -> Result<Reply, AllocError>
+        requires { pass.old.table ≡ self.now }
+        ensures { Made pass.old pass.new (Event.GiveUp i n) result }
+    {
+        self.make_waiting(rt, alloc, pass, Event::GiveUp(i, n))
+    }
+}
