@@ -1,10 +1,12 @@
 //! Files that are opened or made when they are first used.
+ghost use Rattle.std.specs.Prelude.{◌≡◌};
 
 use std::io::{Read, Write};
+use std::marker::Model;
 use std::rt::Files;
 use std::{fs, io};
 
-/// A file that is opened at the first read.
+/// A file that is opened at the first read. Contracts see its path.
 #[derive(Drop)]
 pub struct InFile<'a, R: Files> {
     files: &'a R,
@@ -12,9 +14,19 @@ pub struct InFile<'a, R: Files> {
     file: Option<R::File>,
 }
 
+impl<'a, R: Files> Model for InFile<'a, R> {
+    ghost use Rattle.std.specs.Prelude.{List, ℕ};
+
+    ghost Value = { List ℕ };
+
+    ghost view = { λ f. f.path.now };
+}
+
 impl<'a, R: Files> InFile<'a, R> {
     /// The file of this path, not opened yet.
-    pub fn new(files: &'a R, path: &'a str) -> InFile<'a, R> {
+    pub fn new(files: &'a R, path: &'a str) -> InFile<'a, R>
+        ensures { result ≡ path.now }
+    {
         InFile {
             files,
             path,
@@ -40,7 +52,7 @@ impl<R: Files> Read for InFile<'_, R> {
     }
 }
 
-/// A file that is made at the first write or flush.
+/// A file that is made at the first write or flush. Contracts see its path.
 #[derive(Drop)]
 pub struct OutFile<'a, R: Files> {
     files: &'a R,
@@ -48,9 +60,19 @@ pub struct OutFile<'a, R: Files> {
     file: Option<R::File>,
 }
 
+impl<'a, R: Files> Model for OutFile<'a, R> {
+    ghost use Rattle.std.specs.Prelude.{List, ℕ};
+
+    ghost Value = { List ℕ };
+
+    ghost view = { λ f. f.path.now };
+}
+
 impl<'a, R: Files> OutFile<'a, R> {
     /// The file of this path, not made yet.
-    pub fn new(files: &'a R, path: &'a str) -> OutFile<'a, R> {
+    pub fn new(files: &'a R, path: &'a str) -> OutFile<'a, R>
+        ensures { result ≡ path.now }
+    {
         OutFile {
             files,
             path,

@@ -11,9 +11,13 @@ use std::{env, io};
 
 /// The words of the command line. Where they don't come as text, the line is wrong.
 fn words(rt: &(impl Env + AllocGlobal)) -> Result<Vec<String>, LineFault> {
-    let Ok(args) = env::args(rt) else {
-        let text = String::from_str(rt.alloc(), "error: the arguments are no text")?;
-        return Err(LineFault::Wrong(Message::new(text)));
+    let args = match env::args(rt) {
+        Ok(args) => args,
+        Err(error) if error.kind() == io::ErrorKind::OutOfMemory => return Err(LineFault::Memory),
+        Err(_) => {
+            let text = String::from_str(rt.alloc(), "error: the arguments are no text")?;
+            return Err(LineFault::Wrong(Message::new(text)));
+        }
     };
     match args.collect(rt.alloc()) {
         Ok(words) => Ok(words),
