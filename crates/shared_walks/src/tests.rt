@@ -1,0 +1,228 @@
+//! The walks.
+ghost use Rattle.std.specs.Prelude.{◌≡◌, ◌+◌, ◌<◌, ◌≤◌, vec_len, All, IfOk};
+ghost use Rattle.reads.specs.Reads.{IsDataset};
+ghost use Rattle.blocklock.specs.Passes.{IsIdleAt};
+ghost use Rattle.shared_walks.specs.Duty.{IsPassFor};
+
+use crate::alone::publish;
+use crate::blocks::{four, insertions, nothing, one_empty};
+use crate::lines::Line;
+use crate::together::{Pair, has_told};
+use crate::worker::Worker;
+use block_machine::Reply;
+use book::{Book, Request};
+use dict::Dict;
+use reads::View;
+use shared::{Pass, Refused, SharedBlock};
+use std::alloc::{AllocError, Global};
+use std::sync::Wait;
+use std::thread::{Threads, join};
+
+// A shared book with this many passes.
+fn opened<'a>(
+    alloc: Global,
+    terms: &'a Dict,
+    base: &'a View,
+    block: &'a [Request],
+    seats: u32,
+) -> Result<(SharedBlock<'a>, Vec<Pass<'a>>), AllocError>
+    requires dataset { IsDataset base.now }
+    requires seats { (0 < seats) × (seats ≤ 64) }
+    ensures count { IfOk result (λ r. vec_len r.1 ≡ seats) }
+    ensures each { IfOk result (λ r. All (IsPassFor (record { table = r.0; terms = terms.now; block = block.now })) r.1.items) }
+{
+    let (shared, passes) = SharedBlock::new(alloc, terms, base, block, seats)?;
+    Ok((shared, passes))
+}
+
+// The last of the passes.
+fn last<'a>(
+    shared: &SharedBlock<'a>,
+    terms: &'a Dict,
+    block: &'a [Request],
+    passes: &mut Vec<Pass<'a>>,
+) -> Pass<'a>
+    requires some { 0 < vec_len passes.old }
+    requires each { All (IsPassFor (record { table = shared.now; terms = terms.now; block = block.now })) passes.old.items }
+    ensures pass { IsPassFor (record { table = shared.now; terms = terms.now; block = block.now }) result }
+    ensures rest { All (IsPassFor (record { table = shared.now; terms = terms.now; block = block.now })) passes.new.items }
+    ensures count { vec_len passes.new + 1 ≡ vec_len passes.old }
+{
+    passes.pop().unwrap()
+}
+
+// A shared book with two passes.
+fn pair<'a>(
+    alloc: Global,
+    terms: &'a Dict,
+    base: &'a View,
+    block: &'a [Request],
+) -> Result<(SharedBlock<'a>, Pass<'a>, Pass<'a>), AllocError>
+    requires { IsDataset base.now }
+    ensures first { IfOk result (λ r. IsPassFor (record { table = r.0; terms = terms.now; block = block.now }) r.1) }
+    ensures second { IfOk result (λ r. IsPassFor (record { table = r.0; terms = terms.now; block = block.now }) r.2) }
+{
+    let (shared, mut passes) = opened(alloc, terms, base, block, 2)?;
+    let second = last(&shared, terms, block, &mut passes);
+    let first = last(&shared, terms, block, &mut passes);
+    Ok((shared, first, second))
+}
+
+// One worker commits the one empty request.
+fn commits<'a>(
+    alloc: Global,
+    shared: &SharedBlock<'a>,
+    terms: &'a Dict,
+    block: &'a [Request],
+    pass: &mut Pass<'a>,
+) -> Result<bool, Refused>
+    requires { IsPassFor (record { table = shared.now; terms = terms.now; block = block.now }) pass.old }
+{
+    let mut right = matches!(&shared.try_take(alloc, pass, 0)?, Reply::Taken(0));
+    right &= matches!(
+        &publish(alloc, shared, terms, block, pass, 0)?,
+        Reply::Published
+    );
+    right &= matches!(&shared.try_begin(alloc, pass, 0, 0)?, Reply::Begun);
+    right &= matches!(&shared.try_commit(alloc, pass, 0)?, Reply::Committed);
+    Ok(right)
+}
+
+#[test]
+fn front_counts_others(rt: HostRuntime) -> Result<(), AllocError> {
+    let alloc = rt.alloc();
+    let terms = four(alloc)?;
+    let base = nothing(alloc);
+    let block = one_empty(alloc)?;
+    let (shared, mut first, mut second) = pair(alloc, &terms, &base, &block)?;
+    assert!(rt;
+        matches!(
+            commits(alloc, &shared, &terms, &block, &mut second),
+            Ok(true)
+        )
+    );
+    assert!(rt; shared.front(&rt, &mut first) == 1);
+    Ok(())
+}
+
+// The seven events by one worker: request 0 to its commit, and request 1 is taken and given up.
+fn all_seven<'a>(
+    alloc: Global,
+    shared: &SharedBlock<'a>,
+    terms: &'a Dict,
+    block: &'a [Request],
+    pass: &mut Pass<'a>,
+) -> Result<bool, Refused>
+    requires { IsPassFor (record { table = shared.now; terms = terms.now; block = block.now }) pass.old }
+{
+    let mut right = matches!(&shared.try_take(alloc, pass, 0)?, Reply::Taken(0));
+    right &= matches!(
+        &publish(alloc, shared, terms, block, pass, 0)?,
+        Reply::Published
+    );
+    right &= matches!(&shared.try_begin(alloc, pass, 0, 0)?, Reply::Begun);
+    right &= matches!(&shared.try_check(alloc, pass, 0, 0)?, Reply::Passed);
+    right &= matches!(&shared.try_commit(alloc, pass, 0)?, Reply::Committed);
+    right &= matches!(&shared.try_take(alloc, pass, 1)?, Reply::Taken(0));
+    right &= matches!(&shared.try_give_up(alloc, pass, 1, 0)?, Reply::Given);
+    Ok(right)
+}
+
+#[test]
+fn calls_succeed(rt: HostRuntime) -> Result<(), AllocError> {
+    let alloc = rt.alloc();
+    let terms = four(alloc)?;
+    let base = nothing(alloc);
+    let block = insertions(alloc, 2)?;
+    let (shared, mut first, _second) = pair(alloc, &terms, &base, &block)?;
+    assert!(rt;
+        matches!(
+            all_seven(alloc, &shared, &terms, &block, &mut first),
+            Ok(true)
+        )
+    );
+    Ok(())
+}
+
+// Ends the sharing of four passes.
+fn closed<'a, R: Wait>(
+    rt: &R,
+    alloc: Global,
+    shared: SharedBlock<'a>,
+    passes: (Pass<'a>, Pass<'a>, Pass<'a>, Pass<'a>),
+) -> Result<Book<'a>, AllocError>
+    requires { IsIdleAt shared passes.0 × IsIdleAt shared passes.1 × IsIdleAt shared passes.2 × IsIdleAt shared passes.3 }
+{
+    let mut all = Vec::with_capacity(alloc, 4)?;
+    all.push_reserved(passes.0);
+    all.push_reserved(passes.1);
+    all.push_reserved(passes.2);
+    all.push_reserved(passes.3);
+    Ok(shared.close(rt, all))
+}
+
+// A shared book with four passes.
+fn four_passes<'a>(
+    alloc: Global,
+    terms: &'a Dict,
+    base: &'a View,
+    block: &'a [Request],
+) -> Result<(SharedBlock<'a>, (Pass<'a>, Pass<'a>), (Pass<'a>, Pass<'a>)), AllocError>
+    requires { IsDataset base.now }
+    ensures first { IfOk result (λ r. IsPassFor (record { table = r.0; terms = terms.now; block = block.now }) r.1.0) }
+    ensures second { IfOk result (λ r. IsPassFor (record { table = r.0; terms = terms.now; block = block.now }) r.1.1) }
+    ensures third { IfOk result (λ r. IsPassFor (record { table = r.0; terms = terms.now; block = block.now }) r.2.0) }
+    ensures fourth { IfOk result (λ r. IsPassFor (record { table = r.0; terms = terms.now; block = block.now }) r.2.1) }
+{
+    let (shared, mut passes) = opened(alloc, terms, base, block, 4)?;
+    let fourth = last(&shared, terms, block, &mut passes);
+    let third = last(&shared, terms, block, &mut passes);
+    let second = last(&shared, terms, block, &mut passes);
+    let first = last(&shared, terms, block, &mut passes);
+    Ok((shared, (first, second), (third, fourth)))
+}
+
+// Runs the block by four threads. It answers the closed book, and what each worker was answered.
+fn run_four<'a, R: Threads + Wait + Sync>(
+    rt: &R,
+    alloc: Global,
+    terms: &'a Dict,
+    base: &'a View,
+    block: &'a [Request],
+) -> Result<(Book<'a>, [Vec<Line>; 4]), AllocError>
+    requires { IsDataset base.now }
+{
+    let (shared, (a, b), (c, d)) = four_passes(alloc, terms, base, block)?;
+    let all = &shared;
+    let low = Pair {
+        first: Worker::new(rt, alloc, all, terms, block, a),
+        second: Worker::new(rt, alloc, all, terms, block, b),
+    };
+    let high = Pair {
+        first: Worker::new(rt, alloc, all, terms, block, c),
+        second: Worker::new(rt, alloc, all, terms, block, d),
+    };
+    let (low, high) = join(rt, move || low.work(), move || high.work());
+    let ((a, of_a), (b, of_b)) = low?;
+    let ((c, of_c), (d, of_d)) = high?;
+    let book = closed(rt, alloc, shared, (a, b, c, d))?;
+    Ok((book, [of_a, of_b, of_c, of_d]))
+}
+
+#[test]
+fn four_threads(rt: HostRuntime) -> Result<(), AllocError> {
+    let alloc = rt.alloc();
+    let terms = four(alloc)?;
+    let base = nothing(alloc);
+    let block = insertions(alloc, 64)?;
+    let (book, told) = run_four(&rt, alloc, &terms, &base, &block)?;
+    let [a, b, c, d] = &told;
+    assert!(rt; has_told(&book, 0, a) && has_told(&book, 1, b));
+    assert!(rt; has_told(&book, 2, c) && has_told(&book, 3, d));
+    let entries = a.len() as u128 + b.len() as u128 + c.len() as u128 + d.len() as u128;
+    assert!(rt; book.journal().len() as u128 == entries);
+    let outcome = book.outcome(alloc)?;
+    assert!(rt; outcome.replies.len() == 64);
+    assert!(rt; outcome.dataset.quads().len() == 2);
+    Ok(())
+}

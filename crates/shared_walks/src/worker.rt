@@ -1,0 +1,309 @@
+//! One worker's calls, with a line for each that was answered.
+ghost use Rattle.std.specs.Prelude.{◌≡◌, ◌<◌, map, IfOk, IfSome};
+ghost use Rattle.update.specs.Notes.{quad_of};
+ghost use Rattle.blocklock.specs.Passes.{IsIdleAt};
+ghost use Rattle.shared_walks.specs.Duty.{IsPassFor};
+
+use crate::blocks::is_short;
+use crate::lines::{Kind, Line, told_by};
+use block_machine::Reply;
+use book::Request;
+use datasets::{Quad, Read};
+use dict::{Dict, Id};
+use reads::Answered;
+use shared::{Pass, SharedBlock};
+use std::alloc::{AllocError, Global};
+use std::marker::Model;
+use std::sync::Wait;
+use std::thread::yield_now;
+use update::{AskedQuad, finish, scan_for, sought_by};
+
+/// A pass, and what its worker was answered.
+pub type Worked<'a> = (Pass<'a>, Vec<Line>);
+
+/// A worker of a shared book.
+#[derive(Drop)]
+pub struct Worker<'s, 'a, R: Wait> {
+    rt: &'s R,
+    alloc: Global,
+    shared: &'s SharedBlock<'a>,
+    terms: &'a Dict,
+    block: &'a [Request],
+    pass: Pass<'a>,
+    lines: Vec<Line>,
+}
+
+impl<'s, 'a, R: Wait> Model for Worker<'s, 'a, R> {
+    ghost use Rattle.shared_walks.specs.Duty.{Duty, IsPassFor};
+
+    ghost Value = { Duty };
+
+    ghost view = { λ w. record { table = w.shared.now; terms = w.terms.now; block = w.block.now } };
+
+    ghost invariant = { λ w. IsPassFor (record { table = w.shared.now; terms = w.terms.now; block = w.block.now }) w.pass };
+}
+
+// Which incarnation of which request is run.
+#[derive(Clone, Copy)]
+struct Turn {
+    place: usize,
+    incarnation: u64,
+}
+
+impl<'s, 'a, R: Wait> Worker<'s, 'a, R> {
+    /// The worker of a pass.
+    pub fn new(
+        rt: &'s R,
+        alloc: Global,
+        shared: &'s SharedBlock<'a>,
+        terms: &'a Dict,
+        block: &'a [Request],
+        pass: Pass<'a>,
+    ) -> Self
+        requires { IsPassFor (record { table = shared.now; terms = terms.now; block = block.now }) pass }
+        ensures { result.table ≡ shared.now }
+    {
+        Worker {
+            rt,
+            alloc,
+            shared,
+            terms,
+            block,
+            pass,
+            lines: Vec::new(alloc),
+        }
+    }
+
+    /// The runtime.
+    pub fn runtime(&self) -> &'s R {
+        self.rt
+    }
+
+    fn note(&mut self, kind: Kind, turn: Turn, reply: &Reply) -> Result<(), AllocError>
+        ensures { self.new ≡ self.old }
+    {
+        self.lines.push(Line {
+            kind,
+            place: turn.place,
+            incarnation: turn.incarnation,
+            told: told_by(reply),
+        })?;
+        Ok(())
+    }
+
+    // What the book says, or nothing where it does not answer.
+    fn read(&mut self, turn: Turn, read: Read<Id>) -> Result<Option<Answered>, AllocError>
+        ensures { self.new ≡ self.old }
+    {
+        let Turn { place, incarnation } = turn;
+        let reply = self.shared.read(
+            self.rt,
+            self.alloc,
+            &mut self.pass,
+            place,
+            incarnation,
+            &read,
+        )?;
+        self.note(Kind::Read, turn, &reply)?;
+        match reply {
+            Reply::Answered(answer) => Ok(Some(answer)),
+            _ => Ok(None),
+        }
+    }
+
+    // What the book says of each quad, or nothing where it does not answer.
+    fn ask(
+        &mut self,
+        turn: Turn,
+        quads: Vec<Quad<Id>>,
+    ) -> Result<Option<Vec<AskedQuad>>, AllocError>
+        ensures same { self.new ≡ self.old }
+        ensures asked { IfOk result (λ found. IfSome found (λ asked. map quad_of asked.items ≡ quads.items)) }
+    {
+        let mut asked = Vec::new(self.alloc);
+        for quad in quads {
+            match self.read(turn, scan_for(quad))? {
+                Some(answer) => asked.push(AskedQuad { quad, answer })?,
+                None => return Ok(None),
+            }
+        }
+        Ok(Some(asked))
+    }
+
+    // Publishes the request's run, or gives the request up. It answers how many reads are to be checked.
+    fn execute(&mut self, turn: Turn) -> Result<Option<usize>, AllocError>
+        ensures { self.new ≡ self.old }
+    {
+        let terms = self.terms;
+        let block = self.block;
+        let Some(request) = block.get(turn.place) else {
+            return Ok(None);
+        };
+        if turn.place >= 1000 || !is_short(request) {
+            return Ok(None);
+        }
+        let place = turn.place as u32;
+        let sought = sought_by(self.alloc, terms, place, request)?;
+        if !sought.names.is_empty() {
+            return Ok(None);
+        }
+        let Some(quads) = self.ask(turn, sought.quads)? else {
+            self.give_up(turn)?;
+            return Ok(None);
+        };
+        let names = Vec::new(self.alloc);
+        let run = finish(self.alloc, terms, place, request, quads, names)?;
+        let reads = run.transcript.len();
+        let reply = self.shared.publish(
+            self.rt,
+            self.alloc,
+            &mut self.pass,
+            turn.place,
+            turn.incarnation,
+            &run,
+        )?;
+        self.note(Kind::Publish, turn, &reply)?;
+        Ok(Some(reads))
+    }
+
+    fn give_up(&mut self, turn: Turn) -> Result<(), AllocError>
+        ensures { self.new ≡ self.old }
+    {
+        let reply = self.shared.give_up(
+            self.rt,
+            self.alloc,
+            &mut self.pass,
+            turn.place,
+            turn.incarnation,
+        )?;
+        self.note(Kind::GiveUp, turn, &reply)
+    }
+
+    fn begin(&mut self, turn: Turn) -> Result<(), AllocError>
+        ensures { self.new ≡ self.old }
+    {
+        let Turn { place, incarnation } = turn;
+        let reply = self
+            .shared
+            .begin(self.rt, self.alloc, &mut self.pass, place, incarnation)?;
+        self.note(Kind::Begin, turn, &reply)
+    }
+
+    fn check(&mut self, turn: Turn) -> Result<bool, AllocError>
+        ensures { self.new ≡ self.old }
+    {
+        let Turn { place, incarnation } = turn;
+        let reply = self
+            .shared
+            .check(self.rt, self.alloc, &mut self.pass, place, incarnation)?;
+        self.note(Kind::Check, turn, &reply)?;
+        Ok(matches!(&reply, Reply::Passed))
+    }
+
+    // Begins a pass of checks and makes them. It answers whether they passed.
+    fn is_current(&mut self, turn: Turn, reads: usize) -> Result<bool, AllocError>
+        ensures { self.new ≡ self.old }
+    {
+        self.begin(turn)?;
+        for _ in 0..reads {
+            if !self.check(turn)? {
+                return Ok(false);
+            }
+        }
+        Ok(true)
+    }
+
+    fn commit(&mut self, place: usize) -> Result<bool, AllocError>
+        ensures { self.new ≡ self.old }
+    {
+        let reply = self
+            .shared
+            .commit(self.rt, self.alloc, &mut self.pass, place)?;
+        let turn = Turn {
+            place,
+            incarnation: 0,
+        };
+        self.note(Kind::Commit, turn, &reply)?;
+        Ok(matches!(&reply, Reply::Committed))
+    }
+
+    // Whether all lower requests are committed.
+    fn is_next(&mut self, place: usize) -> bool
+        ensures { self.new ≡ self.old }
+    {
+        self.shared.front(self.rt, &mut self.pass) >= place
+    }
+
+    // Waits until all lower requests are committed.
+    fn wait_for(&mut self, place: usize)
+        ensures { self.new ≡ self.old }
+    {
+        let rt = self.rt;
+        for _ in rt.forever() {
+            if self.is_next(place) {
+                return;
+            }
+            yield_now();
+        }
+    }
+
+    // One incarnation of the request. It answers whether it is committed.
+    fn attempt(&mut self, turn: Turn) -> Result<bool, AllocError>
+        ensures { self.new ≡ self.old }
+    {
+        let Some(reads) = self.execute(turn)? else {
+            return Ok(false);
+        };
+        if self.is_current(turn, reads)? && self.commit(turn.place)? {
+            return Ok(true);
+        }
+        self.wait_for(turn.place);
+        Ok(self.is_current(turn, reads)? && self.commit(turn.place)?)
+    }
+
+    fn take(&mut self, place: usize) -> Result<Option<Turn>, AllocError>
+        ensures { self.new ≡ self.old }
+    {
+        let reply = self
+            .shared
+            .take(self.rt, self.alloc, &mut self.pass, place)?;
+        let incarnation = 0;
+        self.note(Kind::Take, Turn { place, incarnation }, &reply)?;
+        match reply {
+            Reply::Taken(incarnation) => Ok(Some(Turn { place, incarnation })),
+            _ => Ok(None),
+        }
+    }
+
+    // Runs the request until it is committed.
+    fn run(&mut self, place: usize) -> Result<(), AllocError>
+        ensures { self.new ≡ self.old }
+    {
+        let rt = self.rt;
+        for _ in rt.forever() {
+            if let Some(turn) = self.take(place)? {
+                if self.attempt(turn)? {
+                    return Ok(());
+                }
+            }
+            yield_now();
+        }
+        Ok(())
+    }
+
+    /// Runs each request whose place is the worker's number modulo that of the workers, and tells what the worker was answered.
+    pub fn work(mut self, workers: usize) -> Result<Worked<'a>, AllocError>
+        requires { 0 < workers }
+        ensures { IfOk result (λ r. IsIdleAt self.entry.table r.0) }
+    {
+        let mine = self.pass.worker() as usize;
+        let requests = self.block.len();
+        for place in 0..requests {
+            if place % workers == mine {
+                self.run(place)?;
+            }
+        }
+        let Worker { pass, lines, .. } = self;
+        Ok((pass, lines))
+    }
+}
