@@ -1,6 +1,6 @@
 //! Laws of the machine, over every history.
-ghost use Rattle.std.specs.Prelude.{ℕ, List, Some};
-ghost use Rattle.block_machine.specs.Machine.{fresh, state_after, NamesAnswer, NextNamesAnswer, NoteReply, ListVerdict, verdict_reply};
+ghost use Rattle.std.specs.Prelude.{◌≤◌, ◌++◌, ℕ, List, Some};
+ghost use Rattle.block_machine.specs.Machine.{State, fresh, state_after, NamesAnswer, NextNamesAnswer, NoteReply, ListVerdict, verdict_reply};
 ghost use Rattle.block_machine.specs.Serial.{Setting, IsSetting, IsHistory, FrontIsSerial};
 ghost use Rattle.block_machine.specs.declared.state.Entry.{Entry};
 ghost use Rattle.block_machine.specs.declared.state.Noted.{Noted};
@@ -21,4 +21,9 @@ pub fn names_after()
 /// Where a note's list names its answer, the verdict by the lists alone gives a reply that the machine may give.
 pub fn lists_are_enough()
     ensures { (base : View) (slots : List Slot) (i : ℕ) (note : Noted) (verdict : Verdict) → NamesAnswer base slots i note → ListVerdict slots i note.read note.touching verdict → NoteReply base slots i (Some note) (verdict_reply verdict) }
+{}
+
+/// A longer history has no lower front: no event takes a commit back.
+pub fn front_never_falls()
+    ensures { (s : State) (history more : List Entry) → (state_after s history).front ≤ (state_after s (history ++ more)).front }
 {}

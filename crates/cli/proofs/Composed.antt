@@ -9,10 +9,9 @@ use Rattle.dict.specs.Dictionary.{term_of, is_known, written, numbers}
 use Rattle.meaning.specs.Run.{Request, run, run_of_first}
 use Rattle.meaning.specs.declared.reply.Reply.{Reply}
 use Rattle.meaning_laws.specs.Renaming.{renamed, renamed_request, renamed_operation, dataset_known}
-use Rattle.store.specs.Numbered.{IsNumbered, IsCarried}
-use Rattle.store.proofs.Carried.{carried as carries_block}
+use Rattle.store.specs.Numbered.{IsNumbered, IsCarried, CarriesBlock}
 use Rattle.update.specs.Asked.{IsShort}
-use Rattle.driver.specs.Same.{AreShort as AreShortNumbers}
+use Rattle.driver.specs.Duty.{AreShort as AreShortNumbers}
 use Rattle.cli.specs.Inputs.{AreShort}
 use Rattle.cli.specs.Outputs.{IsWhole}
 
@@ -42,7 +41,7 @@ module _ (d : Dataset Term) (block : List (Request Term)) (terms : List Term) (b
   pub same_length : length requests ≡ length block
   same_length = sym (length-map (renamed_request (term_of terms)) requests) ∙ ap length numbered.block_is
 
-  module _ (dataset : IsDataset term_order d) (after : Dataset Id) (replies : List Reply) (whole : IsWhole terms base requests after replies) where
+  module _ (carries_block : CarriesBlock) (dataset : IsDataset term_order d) (after : Dataset Id) (replies : List Reply) (whole : IsWhole terms base requests after replies) where
     carried : IsCarried d block terms base requests whole.0
     carried = carries_block d block terms base requests whole.0 numbered dataset
 

@@ -2,13 +2,13 @@
 ghost use Rattle.std.specs.Prelude.{◌≡◌, ◌≢◌, ◌<◌, ◌≤◌, ◌-◌, ◌^◌, length, IfOk, IfErr, IfSome, OnOk, IsErrOf, string_bytes};
 ghost use Rattle.datasets.specs.Dataset.{IsDataset};
 ghost use Rattle.datasets.specs.Id.{id_order};
-ghost use Rattle.driver.specs.Same.{AreShort as AreShortNumbers};
+ghost use Rattle.driver.specs.Duty.{AreShort as AreShortNumbers};
 ghost use Rattle.cli.specs.Inputs.{AreShort, IsFaultOf};
 ghost use Rattle.cli.specs.Outputs.{IsAnswerTo, IsWhole, Wrote, WroteInPart};
 
 use crate::inputs::{read_base, read_block};
 use crate::outputs::{Texts, write_texts};
-use book::{Book, Outcome};
+use book::Outcome;
 use command_line::{Fault, File, replies_text};
 use driver::run_to_end;
 use nquads::{Watched, canonical_text, tag};
@@ -16,6 +16,7 @@ use rules::Block;
 use std::alloc::{AllocError, Global};
 use std::io::{Read, Write};
 use std::sync::Wait;
+use store::laws::carries_block;
 use store::{Numbered, named, number};
 use terms::DataSet;
 
@@ -28,10 +29,12 @@ fn texts_of<T: Wait>(
     workers: u32,
 ) -> Result<Texts, AllocError>
     requires some { 0 < workers }
+    requires most { workers ≤ 64 }
     requires few { length block.now ≤ 4096 }
     requires short { AreShort block.now }
     ensures { IfOk result (λ texts. IsAnswerTo base.now block.now texts.dataset.items (string_bytes texts.replies)) }
 {
+    carries_block();
     let _quads = base.quads();
     let numbered = number(alloc, base, block)?;
     let outcome = outcome_of(rt, alloc, &numbered, workers)?;
@@ -51,14 +54,14 @@ fn outcome_of<T: Wait>(
     workers: u32,
 ) -> Result<Outcome, AllocError>
     requires some { 0 < workers }
+    requires most { workers ≤ 64 }
     requires few { length numbered.now.block.items < 2 ^ 32 }
     requires short { AreShortNumbers numbered.now.block.items }
     requires dataset { IsDataset id_order numbered.now.base }
     ensures { IfOk result (λ outcome. IsWhole numbered.now.terms numbered.now.base numbered.now.block.items outcome.dataset outcome.replies) }
 {
-    let block = numbered.block.as_slice();
-    let mut book = Book::new(alloc, &numbered.terms, &numbered.base, block)?;
-    run_to_end(rt, alloc, &mut book, workers)?;
+    let Numbered { terms, base, block } = numbered;
+    let book = run_to_end(rt, alloc, terms, base, block.as_slice(), workers)?;
     book.outcome(alloc)
 }
 

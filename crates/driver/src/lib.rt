@@ -1,6 +1,6 @@
-//! The driver: runs a block to its end by events of a book, on one thread. Request i belongs to worker i modulo their number.
+//! The driver: runs a block to its end by events of a shared book, on one thread. Request i belongs to worker i modulo their number.
 //!
-//! Stands on `book` and `update`. Used above: where it returns, all requests are committed and the book is of the same base and block.
+//! Stands on `shared` and `update`. Used above: where it returns, all requests are committed and the book is of the same base and block.
 #![tactic(auto)]
 
 pub mod attempt;

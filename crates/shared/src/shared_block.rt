@@ -9,6 +9,7 @@ ghost use Rattle.shared.specs.Calls.{owner, history_of, run_of, entry, IsSoundAt
 
 use crate::kept::{Kept, Pass};
 use crate::refused::Refused;
+use block_machine::laws::front_never_falls;
 use block_machine::{Event, Reply};
 use blocklock::{BlockLock, Busy, Held};
 use book::{Book, Request};
@@ -118,14 +119,17 @@ impl<'a> SharedBlock<'a> {
         self.lock.front(rt, pass)
     }
 
-    /// Ends the sharing. The book's journal begins with what each pass has seen, and has no other entries of its worker.
+    /// Ends the sharing. The book's journal begins with what each pass has seen, and has no other entries of its worker; no commit that
+    /// a pass knew of is taken back.
     pub fn close<R: Wait>(self, rt: &R, passes: Vec<Pass<'a>>) -> Book<'a>
         requires some { 0 < vec_len passes }
         requires passes { All (IsIdleAt self) passes.items }
-        ensures { All (λ p. Includes owner p (history_of result)) passes.entry.items }
+        ensures includes { All (λ p. Includes owner p (history_of result)) passes.entry.items }
+        ensures fronts { All (λ p. (state_of (run_of p.subject p.seen)).front ≤ (state_of result).front) passes.entry.items }
     {
         let SharedBlock { lock } = self;
         let Kept { book } = lock.close(rt, passes);
+        front_never_falls();
         book
     }
 }
