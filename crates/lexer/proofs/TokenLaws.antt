@@ -5,7 +5,7 @@ use Rattle.std.specs.Option.{option_map}
 use Rattle.std.specs.List.{list_all}
 use Rattle.std.proofs.lemmas.Bool.{eqb-true, and_parts}
 use Rattle.std.proofs.lemmas.List.{take_at, drop_at}
-use Rattle.std.proofs.lemmas.Option.{same_Some, cond_some}
+use Rattle.std.proofs.lemmas.Option.{same_Some, none-some, cond_some}
 use Rattle.iris.specs.Iri.{is_letter, is_digit}
 use Rattle.iris.specs.Runs.{run_of, rest_of, IsRun, RunsAreLongest}
 use Rattle.iris.specs.Bracketed.{iri_at, IrisAreRead}
@@ -142,9 +142,6 @@ sign_at signs.Comma r = refl
 
 sign_reached : (s : Sign) (r : List ℕ) → Reached (sign_byte s ∷ []) r (token.Sign s)
 sign_reached s r = record { t = token.Sign s; rest = r; found = sign_at s r; front = sign_byte s ∷ []; cut = refl; is = sign s; longer = omega arith; same = λ e. refl }
-
-pub no_some : {A : Type 0} (x : A) → None ≡ Some x → ⊥
-no_some x e = absurd cc
 
 -- ---- by the laws of runs, and of IRIs in angle brackets
 
@@ -334,4 +331,4 @@ module _ (runs : RunsAreLongest) where
     pub none_begins : (text front rest : List ℕ) (t : Token) → token_at text ≡ None → text ≡ front ++ rest → IsToken front t → ⊥
     none_begins text front rest t e cut is =
         let x = reached rest is in
-        no_some (x.t, x.rest) (sym e ∙ ap token_at cut ∙ x.found)
+        none-some (x.t, x.rest) (sym e ∙ ap token_at cut ∙ x.found)
