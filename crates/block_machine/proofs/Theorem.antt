@@ -5,7 +5,7 @@ use Rattle.std.proofs.lemmas.Bool.{cases_eq, and_parts}
 use Rattle.std.proofs.lemmas.List.{get_or-replicate}
 use Rattle.std.proofs.Math.ListN.{length-replicate}
 use Rattle.reads.specs.Reads.{View, Delta, says, applied, IsDataset}
-use Rattle.reads.proofs.Equal.{delta_eq-true}
+use Rattle.reads.specs.Same.{delta_eq}
 use Rattle.block_machine.specs.declared.state.Status.{Status}
 use Rattle.block_machine.specs.declared.state.Status.TheVariants.{Ready, Executing, Executed, Committed as HasCommitted}
 use Rattle.block_machine.specs.declared.state.Noted.{Noted}
@@ -19,7 +19,7 @@ use Rattle.block_machine.specs.declared.state.Reply.TheVariants.{Taken, Answered
 use Rattle.block_machine.specs.declared.state.Entry.{Entry}
 use Rattle.block_machine.specs.Machine.{State, fresh_slot, fresh, slot_at, status_of, view_at, is_current, is_closed, is_executed, is_stamped, can_commit, commit_reply, execution_refusal, executed_refusal, Unless, TakeReply, NoteReply, CheckReply, IsAllowed, keeps_delta, taken, begun, passed, aborted, committed, after, state_after, transcript_of}
 use Rattle.reads.specs.Runs.{Agrees, IsSoundFor}
-use Rattle.block_machine.specs.Serial.{Setting, IsSetting, dataset_after, replies_after, IsSound, IsSoundEntry, IsLawful, LawfulFrom, IsHistory, replies_to, FrontIsSerial}
+use Rattle.block_machine.specs.Serial.{Setting, IsSetting, dataset_after, replies_after, IsSound, IsSoundEntry, IsLawful, LawfulFrom, IsHistory, state_of, replies_to, FrontIsSerial}
 use Rattle.block_machine.proofs.Slots.{set_same, set_other, status_within, view_below, replies_below, is_current-Clear, Known, known_more, known_agrees}
 use Rattle.block_machine.proofs.Invariant.{is_done, Holds, Ran, PassHolds, StampHolds, SlotHolds, InOrder, Invariant, Steady, slot_steady, each_replaced, replaced}
 
@@ -110,7 +110,11 @@ bare_holds m slots clock i x not_done no_pass no_stamp le =
       changed = le;
     }
 
-module _ (m : Setting) (s : State) (inv : Invariant m s) where
+-- what the law of equal deltas says
+abbrev pub DeltasAreOne : Type 0
+DeltasAreOne = (a b : Delta) → delta_eq a b ≡ true → a ≡ b
+
+module _ (exact : DeltasAreOne) (m : Setting) (s : State) (inv : Invariant m s) where
   -- an execution goes on, or ends with no publication
   execution_kept : (i n w : ℕ) (x : Slot) → status_of s.slots i ≡ Some (Executing n w) → x.delta ≡ (slot_at s.slots i).delta → x.changed ≡ (slot_at s.slots i).changed → x.pass ≡ (slot_at s.slots i).pass → x.stamp ≡ (slot_at s.slots i).stamp → is_done x.status ≡ false → is_closed (Some x.status) ≡ false → Invariant m (record { slots = slice_set s.slots i x; clock = s.clock; front = s.front })
   execution_kept i n w x st delta changed pass stamp not_done is_open =
@@ -172,7 +176,7 @@ module _ (m : Setting) (s : State) (inv : Invariant m s) where
       go : (c : Bool) → keeps_delta y f ≡ c → Invariant m (record { slots = slice_set s.slots i (new c); clock = if c then s.clock else s.clock + 1; front = s.front })
       go true e =
           replaced m s i (new true) s.clock inv at.0 was_open refl (omega arith)
-          (inl (sym (delta_eq-true y.delta f.delta e), omega arith)) (own true s.clock (inv.each i at.0).changed)
+          (inl (sym (exact y.delta f.delta e), omega arith)) (own true s.clock (inv.each i at.0).changed)
       go false e =
           replaced m s i (new false) (s.clock + 1) inv at.0 was_open refl (omega arith)
           (inr (omega arith)) (own false (s.clock + 1) (omega arith))
@@ -449,24 +453,20 @@ fresh_holds m =
     at : (j : ℕ) → j < length (replicate m.size fresh_slot) → slot_at (replicate m.size fresh_slot) j ≡ fresh_slot
     at j lt = get_or-replicate m.size j fresh_slot fresh_slot (let l = length-replicate m.size fresh_slot in omega (arith, l))
 
-pub history_holds : (m : Setting) → IsSetting m → (s : State) (history : List Entry) → Invariant m s → LawfulFrom m s history → Invariant m (state_after s history)
+pub history_holds : DeltasAreOne → (m : Setting) → IsSetting m → (s : State) (history : List Entry) → Invariant m s → LawfulFrom m s history → Invariant m (state_after s history)
 unfolding state_after
-history_holds m ok s [] inv lawful = inv
-history_holds m ok s (e ∷ es) inv lawful =
-    history_holds m ok (after s e.worker e.event e.reply) es (keeps m s inv ok e.worker e.event e.reply lawful.0.0 lawful.0.1) lawful.1
+history_holds exact m ok s [] inv lawful = inv
+history_holds exact m ok s (e ∷ es) inv lawful =
+    history_holds exact m ok (after s e.worker e.event e.reply) es (keeps exact m s inv ok e.worker e.event e.reply lawful.0.0 lawful.0.1) lawful.1
 
 -- After every history the invariant holds.
-pub invariant_after : (m : Setting) → IsSetting m → (history : List Entry) → IsHistory m history → Invariant m (state_after (fresh m.size) history)
+pub invariant_after : DeltasAreOne → (m : Setting) → IsSetting m → (history : List Entry) → IsHistory m history → Invariant m (state_of m history)
 unfolding IsHistory
-invariant_after m ok history lawful = history_holds m ok (fresh m.size) history (fresh_holds m) lawful
-
--- After every history the front is that many requests, one after another.
-pub front_is_serial : (m : Setting) (history : List Entry) → IsSetting m → IsHistory m history → FrontIsSerial m (state_after (fresh m.size) history)
-front_is_serial m history ok lawful = (invariant_after m ok history lawful).serial
+invariant_after exact m ok history lawful = history_holds exact m ok (fresh m.size) history (fresh_holds m) lawful
 
 -- A HISTORY WITH ONE MORE ENTRY
 
-pub state_after-push : (s : State) (es : List Entry) (e : Entry) → state_after s (es ++ e ∷ []) ≡ after (state_after s es) e.worker e.event e.reply
+state_after-push : (s : State) (es : List Entry) (e : Entry) → state_after s (es ++ e ∷ []) ≡ after (state_after s es) e.worker e.event e.reply
 unfolding state_after
 state_after-push s [] e = refl
 state_after-push s (x ∷ es) e = state_after-push (after s x.worker x.event x.reply) es e
@@ -476,10 +476,6 @@ unfolding state_after
 lawful-push m s [] e h l = (l, tt)
 lawful-push m s (x ∷ es) e h l = (h.0, lawful-push m (after s x.worker x.event x.reply) es e h.1 l)
 
-pub IsHistory-push : (m : Setting) (es : List Entry) (e : Entry) → IsHistory m es → IsLawful m (state_after (fresh m.size) es) e → IsHistory m (es ++ e ∷ [])
+pub one_more : (m : Setting) (es : List Entry) (e : Entry) → IsHistory m es → IsLawful m (state_of m es) e → IsHistory m (es ++ e ∷ []) × (state_of m (es ++ e ∷ []) ≡ after (state_of m es) e.worker e.event e.reply)
 unfolding IsHistory
-IsHistory-push m es e h l = lawful-push m (fresh m.size) es e h l
-
-pub IsHistory-empty : (m : Setting) → IsHistory m []
-unfolding IsHistory
-IsHistory-empty m = tt
+one_more m es e h l = (lawful-push m (fresh m.size) es e h l, state_after-push (fresh m.size) es e)

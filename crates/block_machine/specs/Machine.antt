@@ -1,7 +1,7 @@
 -- The machine: what each event may be answered, and what it changes.
 use Rattle.std.specs.Prelude.{◌≡◌, ◌≢◌, ℕ, zero, suc, ◌+◌, ◌^◌, ◌<◌, Bool, true, false, ◌&&◌, ◌==◌, if◌then◌else◌, nat_le, List, [], ◌∷◌, ◌++◌, length, map, replicate, Option, Some, None, option_map, slice_get, slice_set, slice_index_or}
 use Rattle.reads.specs.Reads.{View, Read, says, applied, covers, no_change}
-use Rattle.reads.specs.Same.{delta_eq, read_eq, answer_eq}
+use Rattle.reads.specs.Same.{delta_eq}
 use Rattle.reads.specs.declared.note.Note.{Note}
 use Rattle.block_machine.specs.declared.state.Status.{Status}
 use Rattle.block_machine.specs.declared.state.Status.TheVariants.{Ready, Executing, Executed, Committed as HasCommitted}
@@ -78,12 +78,6 @@ note_of n = record { read = n.read; answer = n.answer }
 abbrev pub transcript_of : List Noted → List Note
 transcript_of notes = map note_of notes
 
--- the test for that
-abbrev pub transcript_eq : List Note → List Noted → Bool
-transcript_eq [] [] = true
-transcript_eq (e ∷ es) (n ∷ ns) = read_eq e.read n.read && (answer_eq e.answer n.answer && transcript_eq es ns)
-transcript_eq _ _ = false
-
 -- a read as request i notes it now
 abbrev pub note_now : View → List Slot → ℕ → Read → Noted
 note_now base slots i read = record { read = read; answer = says read (view_at base slots i); touching = touching slots i read }
@@ -103,10 +97,6 @@ incarnation_of (HasCommitted n) = n
 pub record HasRoom (s : State) : Type 0 where
   pub clock : s.clock + 1 < 2 ^ 64
   pub slots : (i : ℕ) (status : Status) → status_of s.slots i ≡ Some status → incarnation_of status + 1 < 2 ^ 64
-
--- the same request and incarnation
-abbrev pub pair_eq : ℕ × ℕ → ℕ × ℕ → Bool
-pair_eq x y = (x.0 == y.0) && (x.1 == y.1)
 
 -- a reply that is no answer to a read
 abbrev pub IsPlain : Reply → Type 0

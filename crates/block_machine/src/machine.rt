@@ -2,7 +2,7 @@
 ghost use Rattle.std.specs.Prelude.{◌≡◌, ◌<◌, ◌≤◌, ◌+◌, ◌^◌, ◌↔◌, ℕ, length, map, IsTrue, IfOk, OnOk, OnErr, option_copied};
 ghost use Rattle.reads.specs.Reads.{View as Base};
 ghost use Rattle.block_machine.specs.Serial.{replies_to};
-ghost use Rattle.block_machine.specs.Machine.{fresh, view_at, slot_at, note_now, transcript_eq, can_commit, transcript_of, CheckVerdict, NextNamesAnswer, status_of, HasNext, IsReady, IsPlain, IsAllowed, after};
+ghost use Rattle.block_machine.specs.Machine.{fresh, view_at, slot_at, note_now, note_of, can_commit, transcript_of, CheckVerdict, NextNamesAnswer, status_of, HasNext, IsReady, IsPlain, IsAllowed, after};
 
 use crate::state::{Event, Noted, Reply, Slot, Status};
 use crate::validate::{self, Verdict};
@@ -363,17 +363,20 @@ fn has_transcript(slot: &Slot, finished: &Finished) -> bool
 
 // Whether these are the noted reads with their answers.
 fn is_transcript(notes: &[Noted], transcript: &[Note]) -> bool
-    ensures { result ≡ transcript_eq transcript.now notes.now }
+    ensures { IsTrue result ↔ (transcript.now ≡ transcript_of notes.now) }
 {
     match transcript {
         [] => notes.is_empty(),
         [entry, rest @ ..] => match notes {
             [] => false,
-            [note, others @ ..] => {
-                same_reads(&entry.read, &note.read)
-                    && entry.answer.is_same(&note.answer)
-                    && is_transcript(others, rest)
-            }
+            [note, others @ ..] => { is_entry(note, entry) && is_transcript(others, rest) }
         },
     }
+}
+
+// Whether this is the noted read with its answer.
+fn is_entry(note: &Noted, entry: &Note) -> bool
+    ensures { IsTrue result ↔ (entry.now ≡ note_of note.now) }
+{
+    same_reads(&entry.read, &note.read) && entry.answer.is_same(&note.answer)
 }

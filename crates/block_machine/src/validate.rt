@@ -1,7 +1,6 @@
 //! The check of one note: whether its read would be answered as before.
 ghost use Rattle.std.specs.Prelude.{◌≡◌, ◌≤◌, ◌↔◌, length, IsTrue, IfOk, Some};
-ghost use Rattle.reads.specs.Same.{list_eq};
-ghost use Rattle.block_machine.specs.Machine.{NoteReply, NoteVerdict, ListVerdict, NamesAnswer, pair_eq, verdict_reply};
+ghost use Rattle.block_machine.specs.Machine.{NoteReply, NoteVerdict, ListVerdict, NamesAnswer, verdict_reply};
 
 use crate::state::{Noted, Slot};
 use crate::version_overlay::{answer_before, blocker, touching};
@@ -66,20 +65,21 @@ pub fn check_list(
     }
 }
 
+// Whether two touching lists are the same.
 fn is_same_list(a: &[(usize, u64)], b: &[(usize, u64)]) -> bool
     ensures { IsTrue result ↔ (a.now ≡ b.now) }
-{
-    same_lists(a, b)
-}
-
-fn same_lists(a: &[(usize, u64)], b: &[(usize, u64)]) -> bool
-    ensures { result ≡ list_eq pair_eq a.now b.now }
 {
     match a {
         [] => b.is_empty(),
         [x, xs @ ..] => match b {
             [] => false,
-            [y, ys @ ..] => x.0 == y.0 && x.1 == y.1 && same_lists(xs, ys),
+            [y, ys @ ..] => is_same_pair(x, y) && is_same_list(xs, ys),
         },
     }
+}
+
+fn is_same_pair(x: &(usize, u64), y: &(usize, u64)) -> bool
+    ensures { IsTrue result ↔ (x.now ≡ y.now) }
+{
+    x.0 == y.0 && x.1 == y.1
 }

@@ -1,11 +1,9 @@
 -- Journals that go on from one another, and lists of views.
-use Rattle.std.proofs.Common.{◌≡◌, ◌≢◌, ℕ, zero, suc, ◌+◌, ◌<◌, eqb, ne_eqb, cond, Bool, true, false, List, [], ◌∷◌, ◌++◌, length, set, refl, sym, ap, subst, ◌∙◌, ◌⊎◌, inl, inr, ⊎_elim, arith, length-append, append_assoc, append-nil}
+use Rattle.std.proofs.Common.{◌≡◌, ◌≢◌, ℕ, zero, suc, ◌+◌, ◌<◌, eqb, ne_eqb, cond, Bool, true, false, List, [], ◌∷◌, ◌++◌, length, set, refl, sym, ap, subst, ◌∙◌, ◌⊎◌, inl, inr, ⊎_elim, arith, append_assoc, append-nil}
 use Rattle.std.proofs.lemmas.Bool.{eqb-true}
-use Rattle.std.proofs.Common.{All, Some, get_or}
+use Rattle.std.proofs.Common.{All, Some}
 use Rattle.std.specs.Prelude.{slice_get}
 use Rattle.std.proofs.lemmas.List.Elements.{All-push}
-use Rattle.std.proofs.Math.ListN.{get_or-append}
-use Rattle.std.proofs.Math.Seq.{get_or-append_seam}
 use mathlib.Core.Logic.{dite}
 use native.Mathlib.Decide.{ℕ_discrete}
 use mathlib.Core.Option.{some, some-injective, some-ne-none}
@@ -13,12 +11,6 @@ use lib.ListN.{get_elem?}
 use Rattle.blocklock.specs.History.{of_worker, BeginsWith}
 
 module _ {E : Type 0} (worker_of : E → ℕ) where
-  pub of_worker-append : (w : ℕ) (xs ys : List E) → of_worker worker_of w (xs ++ ys) ≡ of_worker worker_of w xs ++ of_worker worker_of w ys
-  of_worker-append w [] ys = refl
-  of_worker-append w (x ∷ xs) ys =
-      elim (eqb (worker_of x) w) as (λ b. cond b (x ∷ of_worker worker_of w (xs ++ ys)) (of_worker worker_of w (xs ++ ys)) ≡ cond b (x ∷ of_worker worker_of w xs) (of_worker worker_of w xs) ++ of_worker worker_of w ys)
-      [ true ↦ ap (λ l. x ∷ l) (of_worker-append w xs ys) | false ↦ of_worker-append w xs ys ]
-
   none_step : (v w : ℕ) (x : E) (rest : List E) → of_worker worker_of w rest ≡ [] → v ≢ w → (b : Bool) → eqb (worker_of x) v ≡ b → of_worker worker_of w (cond b (x ∷ rest) rest) ≡ []
   none_step v w x rest none apart true is = rw (ne_eqb (worker_of x) w (λ e. apart (sym (eqb-true (worker_of x) v is) ∙ e))) none
   none_step v w x rest none apart false is = none
@@ -55,16 +47,6 @@ module _ {A : Type 0} where
   set_there (x ∷ xs) (suc i) a b e = set_there xs i a b e
 
   -- of a list that ends with x
-  pub all_last : (P : A → Type 0) (xs all : List A) (x : A) → all ≡ xs ++ x ∷ [] → All P all → P x
-  all_last P xs all x e h =
-      let long : length all ≡ length xs + 1 = ap length e ∙ length-append xs (x ∷ []) in
-      subst P (ap (λ (l : List A). get_or l (length xs) x) e ∙ get_or-append_seam xs x [] x) (h (length xs) x (omega arith))
-
-  pub all_before : (P : A → Type 0) (xs all : List A) (x : A) → all ≡ xs ++ x ∷ [] → All P all → All P xs
-  all_before P xs all x e h k d less =
-      let long : length all ≡ length xs + 1 = ap length e ∙ length-append xs (x ∷ []) in
-      subst P (ap (λ (l : List A). get_or l k d) e ∙ get_or-append xs (x ∷ []) d k less) (h k d (omega arith))
-
   pub all_from : (P : A → Type 0) (xs all : List A) (x : A) → all ≡ xs ++ x ∷ [] → All P xs → P x → All P all
   all_from P xs all x e h last = subst (All P) (sym e) (All-push P xs x h last)
 

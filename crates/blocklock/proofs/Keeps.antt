@@ -1,5 +1,6 @@
 -- Each step on the lock's table keeps its rule.
-use Rattle.std.proofs.Common.{◌≡◌, ◌≢◌, ℕ, zero, suc, ◌<◌, Bool, true, false, true≢false, List, [], ◌∷◌, ◌++◌, length, set, get_or, get_or-set_same, length-set, Option, Some, refl, sym, ap, subst, ◌∙◌, ⊎_elim, arith, append-nil}
+use Rattle.std.proofs.Common.{◌≡◌, ◌≢◌, ℕ, zero, suc, ◌<◌, eqb, Bool, true, false, true≢false, List, [], ◌∷◌, ◌++◌, length, set, get_or, get_or-set_same, length-set, Option, Some, refl, sym, ap, subst, ◌∙◌, ⊎_elim, arith, append-nil}
+use Rattle.std.proofs.lemmas.List.Elements.{filter-append}
 use mathlib.Core.Logic.{dite}
 use mathlib.Core.Option.{some, none, some-injective, some-ne-none}
 use native.Mathlib.Decide.{ℕ_discrete}
@@ -11,7 +12,7 @@ use Rattle.blocklock.specs.declared.view.View.{View}
 use Rattle.blocklock.specs.Rule.{Owns, Covers, AllCovered, Follows, Kept, seeing, TakesBook, took, gave, first_view, rest_of, one_of, joined, spent}
 use Rattle.atomic_table.specs.Seated.{TableId}
 use Rattle.blocklock.specs.Passes.{IsSeatOf, MayGive}
-use Rattle.blocklock.proofs.Journals.{of_worker-append, none_of_others, begins_refl, begins_is, begins_further, at_pushed, set_there}
+use Rattle.blocklock.proofs.Journals.{none_of_others, begins_refl, begins_is, begins_further, at_pushed, set_there}
 
 module _ {S E : Type 0} where
   -- no two seats stand for one worker
@@ -155,7 +156,7 @@ module _ {T S E : Type 0} (worker_of : E → ℕ) (history : T → History S E) 
               own = λ x o. let p = f.own x o in (
                 p.0,
                 ap (of_worker worker_of x) goes
-                    ∙ (of_worker-append worker_of x r.journal may.more
+                    ∙ (filter-append (λ e. eqb (worker_of e) x) r.journal may.more
                     ∙ (ap (λ l. of_worker worker_of x r.journal ++ l) (may.none_else x (λ m. other (r.apart k id u v x e at o m)))
                     ∙ (append-nil (of_worker worker_of x r.journal) ∙ p.1))),
               );

@@ -1,5 +1,5 @@
 -- What a lock knows of a book: what it is about, and its journal.
-use Rattle.std.specs.Prelude.{◌≡◌, ℕ, eqb, if◌then◌else◌, List, [], ◌∷◌, ◌++◌}
+use Rattle.std.specs.Prelude.{◌≡◌, ℕ, eqb, List, ◌++◌, filter}
 
 pub record History (S E : Type 0) : Type 0 where
   pub subject : S
@@ -7,8 +7,7 @@ pub record History (S E : Type 0) : Type 0 where
 
 -- the entries of one worker
 abbrev pub of_worker : {E : Type 0} → (E → ℕ) → ℕ → List E → List E
-of_worker worker_of w [] = []
-of_worker worker_of w (e ∷ es) = if eqb (worker_of e) w then e ∷ of_worker worker_of w es else of_worker worker_of w es
+of_worker worker_of w es = filter (λ e. eqb (worker_of e) w) es
 
 -- the longer journal goes on from the shorter one
 abbrev pub BeginsWith : {E : Type 0} → List E → List E → Type 0

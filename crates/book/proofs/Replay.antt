@@ -1,67 +1,56 @@
 -- A book is the replay of its journal, before and after a step.
-use Rattle.std.proofs.Common.{◌≡◌, ℕ, ◌+◌, ◌^◌, ◌<◌, ◌≤◌, List, [], ◌∷◌, ◌++◌, length, Option, Some, None, Ok, slice_get, refl, sym, ap, ◌∙◌, subst, arith}
-use Rattle.std.proofs.lemmas.Option.{slice_get-get_or}
+use Rattle.std.proofs.Common.{◌≡◌, ℕ, ◌<◌, ◌≤◌, List, [], ◌∷◌, ◌++◌, length, Option, Some, None, Ok, option_map, slice_get, refl, sym, ap, ◌∙◌, subst, arith}
+use Rattle.std.proofs.lemmas.Option.{slice_get-get_or, slice_get_within}
 use Rattle.datasets.specs.declared.id.Id.{Id}
 use Rattle.dict.specs.Dictionary.{numbers}
-use Rattle.meaning.specs.Run.{Request, answer_of}
+use Rattle.meaning.specs.Run.{Request, answer_of, run_of_first}
 use Rattle.reads.specs.Reads.{View, IsDataset}
 use Rattle.reads.specs.Runs.{IsSoundFor}
 use Rattle.reads.specs.declared.finished.Finished.{Finished}
+use Rattle.block_machine.specs.declared.state.Slot.{Slot}
 use Rattle.block_machine.specs.declared.state.Event.{Event}
 use Rattle.block_machine.specs.declared.state.Event.TheVariants.{Publish}
 use Rattle.block_machine.specs.declared.state.Reply.{Reply}
-use Rattle.block_machine.specs.declared.state.Reply.TheVariants.{Published, NotYet}
+use Rattle.block_machine.specs.declared.state.Reply.TheVariants.{Published, Stale, NotYet}
 use Rattle.block_machine.specs.declared.state.Entry.{Entry}
-use Rattle.block_machine.specs.Machine.{State, fresh, status_of, execution_refusal, Unless, IsAllowed, after, state_after, view_at, IsReady}
-use Rattle.block_machine.specs.Serial.{IsSound, IsSoundEntry, IsHistory, replies_to}
-use Rattle.block_machine.proofs.Invariant.{Invariant}
-use Rattle.block_machine.proofs.Slots.{status_within}
-use Rattle.block_machine.proofs.Theorem.{state_after-push, IsHistory-push, IsHistory-empty, invariant_after, unless_execution}
-use Rattle.block_machine.proofs.Ready.{ready_after}
-use Rattle.book.specs.Run.{Run, answer_at, setting, setting_of, state_of, front_run, IsReplayed, kept, IsSoundEvent}
+use Rattle.block_machine.specs.Machine.{State, fresh, status_of, slot_at, execution_refusal, Unless, PublishReply, IsAllowed, after, state_after, view_at}
+use Rattle.block_machine.specs.Serial.{Setting, IsSetting, IsSound, IsSoundEntry, IsLawful, IsHistory, replies_to, FrontIsSerial}
+use Rattle.book.specs.Run.{Run, answer_at, setting, setting_of, front_run, IsReplayed, kept, IsSoundEvent}
 use Rattle.book.proofs.Meaning.{is_setting, serial_run}
 
 -- before any event
 pub replayed_none : (run : Run) (machine : State) → IsDataset run.base → run.history ≡ [] → machine ≡ fresh (length run.block) → IsReplayed run machine
-unfolding state_after
+unfolding state_after IsHistory
 replayed_none run machine h none e =
     record {
       base = h;
-      lawful = subst (λ (es : List Entry). IsHistory (setting_of run) es) (sym none) (IsHistory-empty (setting_of run));
+      lawful = subst (λ (es : List Entry). IsHistory (setting_of run) es) (sym none) tt;
       state = e ∙ ap (λ (es : List Entry). state_after (fresh (length run.block)) es) (sym none);
     }
 
 module _ (run : Run) (machine : State) (r : IsReplayed run machine) where
-  inv : Invariant (setting_of run) (state_of run)
+  -- what a law says of every history, said of the book's journal and its machine
+  pub said_of_book : (Says : Setting → List Entry → State → Type 0) → ((m : Setting) (history : List Entry) → IsSetting m → IsHistory m history → Says m history (state_after (fresh m.size) history)) → Says (setting_of run) run.history machine
   unfolding setting
-  inv = invariant_after (setting_of run) (is_setting run.terms run.base run.block r.base) run.history r.lawful
-
-  pub replayed_ready : length run.history + 1 < 2 ^ 64 → IsReady run.base machine
-  unfolding setting
-  replayed_ready short =
-      subst (λ (s : State). IsReady run.base s) (sym r.state) (ready_after (setting_of run) run.history (is_setting run.terms run.base run.block r.base) r.lawful short)
+  said_of_book Says law =
+      subst (λ (s : State). Says (setting_of run) run.history s) (sym r.state)
+      (law (setting_of run) run.history (is_setting run.terms run.base run.block r.base) r.lawful)
 
   -- WHAT THE FRONT IS
 
-  within : (state_of run).front ≤ length run.block
-  unfolding setting
-  within = (let i = inv in let a = i.within in let b = i.size in omega (arith, a, b))
+  module _ (serial : FrontIsSerial (setting_of run) machine) (within : machine.front ≤ length run.block) where
+    pub front_view : view_at run.base machine.slots machine.front ≡ (front_run run).0
+    unfolding setting
+    front_view =
+        serial.dataset
+        ∙ ap (λ p. p.0) (serial_run run.terms run.base run.block machine.front within)
+        ∙ ap (λ (s : State). (run_of_first (numbers run.terms) s.front run.block run.base).0) r.state
 
-  pub front_within : machine.front ≤ length machine.slots
-  front_within = subst (λ (s : State). s.front ≤ length s.slots) (sym r.state) inv.within
-
-  pub front_view : view_at run.base machine.slots machine.front ≡ (front_run run).0
-  unfolding setting
-  front_view =
-      ap (λ (s : State). view_at run.base s.slots s.front) r.state
-      ∙ inv.serial.dataset
-      ∙ ap (λ p. p.0) (serial_run run.terms run.base run.block (state_of run).front within)
-
-  pub front_replies : replies_to machine.slots machine.front ≡ (front_run run).1
-  front_replies =
-      ap (λ (s : State). replies_to s.slots s.front) r.state
-      ∙ inv.serial.replies
-      ∙ ap (λ p. p.1) (serial_run run.terms run.base run.block (state_of run).front within)
+    pub front_replies : replies_to machine.slots machine.front ≡ (front_run run).1
+    front_replies =
+        serial.replies
+        ∙ ap (λ p. p.1) (serial_run run.terms run.base run.block machine.front within)
+        ∙ ap (λ (s : State). (run_of_first (numbers run.terms) s.front run.block run.base).1) r.state
 
 -- WHAT IS KEPT OF AN EVENT
 
@@ -91,30 +80,35 @@ sound_at run i f lt sound = go (slice_get run.block i) refl
     go None e = absurd (let some = slice_get-get_or run.block i (Ok []) lt in (cc))
     go (Some r) e = sound r e
 
-module _ (run : Run) (machine : State) (old : IsReplayed run machine) where
-  published_within : (i n w : ℕ) (f : Option Finished) → IsAllowed run.base (state_of run) w (Publish i n f) Published → i < length run.block
-  unfolding setting
-  published_within i n w f h =
-      let u = unless_execution (status_of (state_of run).slots i) n w Published _ (λ e. cc) (λ e. cc) h in
-      let at = status_within (state_of run).slots i _ u.0 in
-      let size = (inv run machine old).size in
-      (let lt = at.0 in omega (arith, lt, size))
+-- a request that is none of the block is not published
+published_within : (base : View) (s : State) (w i n : ℕ) (f : Option Finished) → IsAllowed base s w (Publish i n f) Published → i < length s.slots
+published_within base s w i n f h = go (slice_get s.slots i) refl h
+  where
+    go : (o : Option Slot) → slice_get s.slots i ≡ o → Unless (execution_refusal (option_map (λ x. x.status) o) n w) Published (PublishReply (slot_at s.slots i).notes f Published) → i < length s.slots
+    go None e h = absurd (let stale : Published ≡ Stale = h in (cc))
+    go (Some x) e h = slice_get_within s.slots i x e
 
-  kept_sound : (w : ℕ) (e : Event) (r : Reply) → IsSoundEvent run e → IsAllowed run.base (state_of run) w e r → IsSoundEntry (setting_of run) (kept e r) r
-  kept_sound w (Publish i n (Some f)) Published h allowed = sound_at run i f (published_within i n w (Some f) allowed) h
+module _ (run : Run) (machine : State) (old : IsReplayed run machine) (size : length machine.slots ≡ length run.block) where
+  kept_sound : (w : ℕ) (e : Event) (r : Reply) → IsSoundEvent run e → IsAllowed run.base machine w e r → IsSoundEntry (setting_of run) (kept e r) r
+  kept_sound w (Publish i n (Some f)) Published h allowed =
+      sound_at run i f (let lt = published_within run.base machine w i n (Some f) allowed in omega (arith, lt, size)) h
   kept_sound w (Publish i n None) Published h allowed = tt
   kept_sound w (Publish i n f) r h allowed = tt
   kept_sound w e r h allowed = tt
 
+  -- a history and a lawful entry after it are a history, which leads one step further
+  abbrev GoesOn : Setting → Type 0
+  GoesOn m = (es : List Entry) (e : Entry) → IsHistory m es → IsLawful m (state_after (fresh m.size) es) e → IsHistory m (es ++ e ∷ []) × (state_after (fresh m.size) (es ++ e ∷ []) ≡ after (state_after (fresh m.size) es) e.worker e.event e.reply)
+
   -- after one more event
-  pub replayed_more : (machine' : State) (w : ℕ) (e : Event) (r : Reply) → IsSoundEvent run e → IsAllowed run.base machine w e r → machine' ≡ after machine w e r → IsReplayed (record run { history = run.history ++ record { worker = w; event = kept e r; reply = r } ∷ [] }) machine'
+  pub replayed_more : GoesOn (setting_of run) → (machine' : State) (w : ℕ) (e : Event) (r : Reply) → IsSoundEvent run e → IsAllowed run.base machine w e r → machine' ≡ after machine w e r → IsReplayed (record run { history = run.history ++ record { worker = w; event = kept e r; reply = r } ∷ [] }) machine'
   unfolding setting
-  replayed_more machine' w e r sound allowed is =
+  replayed_more goes_on machine' w e r sound allowed is =
       let entry : Entry = record { worker = w; event = kept e r; reply = r } in
-      let s = state_of run in
-      let here : IsAllowed run.base s w e r = subst (λ (x : State). IsAllowed run.base x w e r) old.state allowed in
+      let lawful : IsLawful (setting_of run) machine entry = (kept_allowed run.base machine w e r allowed, kept_sound w e r sound allowed) in
+      let next = goes_on run.history entry old.lawful (subst (λ (s : State). IsLawful (setting_of run) s entry) old.state lawful) in
       record {
         base = old.base;
-        lawful = IsHistory-push (setting_of run) run.history entry old.lawful (kept_allowed run.base s w e r here, kept_sound w e r sound here);
-        state = is ∙ ap (λ (x : State). after x w e r) old.state ∙ sym (kept_after s w e r) ∙ sym (state_after-push (fresh (length run.block)) run.history entry);
+        lawful = next.0;
+        state = is ∙ sym (kept_after machine w e r) ∙ ap (λ (x : State). after x w (kept e r) r) old.state ∙ sym next.1;
       }

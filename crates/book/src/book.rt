@@ -7,6 +7,7 @@ ghost use Rattle.book.specs.Run.{state_of, setting_of, front_run, kept, IsSoundE
 
 use crate::Request;
 use crate::copies::{copy_of_event, kept_event};
+use block_machine::laws::{front_is_serial, front_is_within, history_goes_on, ready_after};
 use block_machine::{Entry, Event, Machine, Reply};
 use dict::Dict;
 use reads::View;
@@ -75,6 +76,9 @@ impl<'a> Book<'a> {
         ensures entry { IfOk result (λ reply. self.new ≡ record self.old { history = self.old.history ++ record { worker = worker; event = kept event reply; reply = reply } ∷ [] }) }
         ensures err { OnErr result (self.new ≡ self.old) }
     {
+        ready_after();
+        front_is_within();
+        history_goes_on();
         self.journal.reserve(1)?;
         let (reply, told) = self.machine.step(alloc, self.base, worker, &event)?;
         let event = kept_event(event, &reply);
@@ -111,6 +115,8 @@ impl<'a> Book<'a> {
     pub fn front_dataset(&self, alloc: Global) -> Result<View, AllocError>
         ensures { IfOk result (λ dataset. dataset ≡ (front_run self.now).0) }
     {
+        front_is_within();
+        front_is_serial();
         self.machine.front_view(alloc, self.base)
     }
 
@@ -118,6 +124,8 @@ impl<'a> Book<'a> {
     pub fn committed_replies(&self, alloc: Global) -> Result<Vec<meaning::Reply>, AllocError>
         ensures { IfOk result (λ replies. replies.items ≡ (front_run self.now).1) }
     {
+        front_is_within();
+        front_is_serial();
         self.machine.front_replies(alloc)
     }
 

@@ -1,20 +1,10 @@
 //! A block of one refused request, by the calls of a book.
-ghost use Rattle.reads.specs.Reads.{IsDataset};
-
 use crate::{Book, Request};
 use block_machine::{Event, Reply};
 use dict::Dict;
 use meaning::Refusal;
 use reads::View;
 use std::alloc::{AllocError, Global};
-
-// A dataset with nothing in it.
-#[tactic(auto, using(crate::proofs::Empty::empty_dataset))]
-fn nothing(alloc: Global) -> View
-    ensures { IsDataset result }
-{
-    View::from_parts(Vec::new(alloc), Vec::new(alloc))
-}
 
 fn take(alloc: Global, book: &mut Book<'_>, worker: u32, i: usize) -> Result<Reply, AllocError> {
     book.step(alloc, worker, &Event::Take(i))
@@ -36,7 +26,7 @@ fn commit(alloc: Global, book: &mut Book<'_>) -> Result<Reply, AllocError> {
 fn refusals(rt: HostRuntime) -> Result<(), AllocError> {
     let alloc = rt.alloc();
     let terms = Dict::freeze(Vec::new(alloc));
-    let base = nothing(alloc);
+    let base = View::new(alloc);
     let mut block: Vec<Request> = Vec::new(alloc);
     block.push(Err(Refusal::Syntax))?;
     let mut book = Book::new(alloc, &terms, &base, &block)?;

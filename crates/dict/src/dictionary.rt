@@ -33,7 +33,8 @@ impl Model for Dict {
 impl Dict {
     /// The dictionary of these terms, in any order and with doubles. Made nodes are left out. It takes no memory.
     pub fn freeze(mut terms: Vec<Term>) -> Dict
-        ensures { result ≡ the_set_of term_order (filter is_written terms.items) }
+        ensures terms { result ≡ the_set_of term_order (filter is_written terms.items) }
+        ensures form { IsDictionary result }
     {
         terms.retain(|term| is_written(term));
         Dict {

@@ -1,9 +1,10 @@
 -- The book that is closed with passes for one duty.
-use Rattle.std.proofs.Common.{◌≡◌, ◌≤◌, ℕ, List, [], ◌∷◌, length, All, ◌∙◌, arith}
+use Rattle.std.proofs.Common.{◌≡◌, ◌≤◌, List, [], ◌∷◌, length, All, ◌∙◌, arith}
 use Rattle.book.specs.Run.{Run, state_of}
 use Rattle.blocklock.specs.Passes.{Includes}
 use Rattle.shared.specs.Calls.{Viewed, owner, history_of, run_of}
-use Rattle.driver.specs.Duty.{Duty, IsPassFor, HasSeenAll}
+use Rattle.shared.specs.Duty.{Duty, IsPassFor}
+use Rattle.driver.specs.Duty.{HasSeenAll}
 
 pub subject_is : (d : Duty) (book : Run) (ps : List Viewed) → HasSeenAll d ps → All (IsPassFor d) ps → All (λ p. Includes owner p (history_of book)) ps → (history_of book).subject ≡ d.subject
 subject_is d book [] whole duty included = absurd whole

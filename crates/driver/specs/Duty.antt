@@ -1,23 +1,11 @@
 -- What the driver of a shared book works for, and what it asks of a block.
-use Rattle.std.specs.Prelude.{◌≡◌, ◌≤◌, ℕ, length, false, List, [], ◌∷◌, Some, slice_get}
+use Rattle.std.specs.Prelude.{◌≡◌, ◌≤◌, ℕ, length, List, [], ◌∷◌, Some, slice_get}
 use Rattle.datasets.specs.declared.id.Id.{Id}
 use Rattle.meaning.specs.Run.{Request}
 use Rattle.update.specs.Asked.{IsShort}
-use Rattle.atomic_table.specs.Seated.{TableId}
 use Rattle.book.specs.Run.{state_of}
-use Rattle.shared.specs.declared.kept.Subject.{Subject}
 use Rattle.shared.specs.Calls.{Viewed, run_of}
-
--- the table of the shared book's lock, and what the book is about
-pub record Duty : Type 0 where
-  pub table : TableId
-  pub subject : Subject
-
--- a pass for it, which does not hold the book
-pub record IsPassFor (d : Duty) (p : Viewed) : Type 0 where
-  pub table : p.table ≡ d.table
-  pub subject : p.subject ≡ d.subject
-  pub holds : p.holds ≡ false
+use Rattle.shared.specs.Duty.{Duty}
 
 -- how many requests are committed in what the first of these passes has seen
 abbrev pub IsFrontOf : ℕ → List Viewed → Type 0

@@ -3,7 +3,8 @@ ghost use Rattle.std.specs.Prelude.{◌≡◌, ◌<◌, ◌^◌, length, map, So
 ghost use Rattle.update.specs.Asked.{IsShort};
 ghost use Rattle.update.specs.Notes.{quad_of, name_of};
 ghost use Rattle.shared.specs.Calls.{IsSoundAt};
-ghost use Rattle.driver.specs.Duty.{IsPassFor, AreShort};
+ghost use Rattle.shared.specs.Duty.{IsPassFor};
+ghost use Rattle.driver.specs.Duty.{AreShort};
 
 use block_machine::Reply;
 use book::Request;
@@ -35,7 +36,7 @@ pub struct Driver<'s, 'a, R: Wait> {
 }
 
 impl<'s, 'a, R: Wait> Model for Driver<'s, 'a, R> {
-    ghost use Rattle.driver.specs.Duty.{Duty};
+    ghost use Rattle.shared.specs.Duty.{Duty};
 
     ghost Value = { Duty };
 

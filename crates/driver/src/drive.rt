@@ -2,7 +2,8 @@
 ghost use Rattle.std.specs.Prelude.{◌≡◌, ◌≤◌, ◌<◌, ◌^◌, length, vec_len, All, IfOk};
 ghost use Rattle.reads.specs.Reads.{IsDataset};
 ghost use Rattle.book.specs.Run.{state_of};
-ghost use Rattle.driver.specs.Duty.{IsPassFor, IsFrontOf, HasSeenAll, AreShort};
+ghost use Rattle.shared.specs.Duty.{IsPassFor};
+ghost use Rattle.driver.specs.Duty.{IsFrontOf, HasSeenAll, AreShort};
 
 use crate::attempt::Driver;
 use book::{Book, Request};

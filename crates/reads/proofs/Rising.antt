@@ -1,6 +1,7 @@
 -- Which datasets are two sets.
 use Rattle.std.specs.Prelude.{filter, if◌then◌else◌}
 use Rattle.std.proofs.Common.{◌≡◌, Bool, true, false, List, [], ◌∷◌, sym, subst}
+use Rattle.std.proofs.lemmas.Bool.{false≢true}
 use Rattle.std.proofs.lemmas.List.Kept.{IsStrictlySortedBy-filter}
 use Rattle.std.specs.List.Sorted.{IsStrictlySortedBy}
 use Rattle.sets.specs.Sets.{set_of}
@@ -11,7 +12,7 @@ use Rattle.datasets.specs.declared.read.QuadPattern.{QuadPattern}
 use Rattle.datasets.specs.Dataset.{quad_order, matches}
 use Rattle.datasets.specs.Id.{id_order, id_total, quad_total}
 use Rattle.change_laws.specs.Laws.{IsRising}
-use Rattle.reads.specs.Reads.{View}
+use Rattle.reads.specs.Reads.{View, IsDataset}
 
 module _ (quads : List (Quad Id)) (names : List Id) where
   from_quads : (others : List (Quad Id)) → quads ≡ others → IsStrictlySortedBy (quad_order id_order) others → IsStrictlySortedBy (quad_order id_order) quads
@@ -19,6 +20,14 @@ module _ (quads : List (Quad Id)) (names : List Id) where
 
   from_names : (others : List Id) → names ≡ others → IsStrictlySortedBy id_order others → IsStrictlySortedBy id_order names
   from_names others e s = subst (λ xs. IsStrictlySortedBy id_order xs) (sym e) s
+
+  pub rises-nothing : quads ≡ [] → names ≡ [] → IsRising id_order (record { quads = quads; names = names })
+  rises-nothing e f = record { quads = from_quads [] e (sorted-empty (quad_order id_order)); names = from_names [] f (sorted-empty id_order) }
+
+  pub dataset-nothing : quads ≡ [] → names ≡ [] → IsDataset (record { quads = quads; names = names })
+  dataset-nothing e f =
+      subst (λ (v : View). IsDataset v) (λ t. record { quads = sym e t; names = sym f t })
+      (record { quads = sorted-empty (quad_order id_order); names = sorted-empty id_order; named = λ g h. absurd (false≢true h) })
 
   pub rises-sets : (qs : List (Quad Id)) (ns : List Id) → quads ≡ set_of (quad_order id_order) qs → names ≡ set_of id_order ns → IsRising id_order (record { quads = quads; names = names })
   rises-sets qs ns e f =

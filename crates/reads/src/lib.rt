@@ -8,6 +8,7 @@
 pub mod answered;
 pub mod delta;
 pub mod finished;
+pub mod laws;
 pub mod lists;
 pub mod matching;
 pub mod note;

@@ -1,5 +1,5 @@
 //! Tests for equal lists and reads.
-ghost use Rattle.std.specs.Prelude.{◌≡◌};
+ghost use Rattle.std.specs.Prelude.{◌≡◌, ◌↔◌, IsTrue};
 ghost use Rattle.std.specs.Ordering.{eq_by_cmp};
 ghost use Rattle.datasets.specs.Id.{id_order};
 ghost use Rattle.datasets.specs.Dataset.{quad_order, same_graph};
@@ -77,8 +77,8 @@ fn same_patterns(a: &QuadPattern<Id>, b: &QuadPattern<Id>) -> bool
         && same_graph_places(a.graph, b.graph)
 }
 
-/// Whether two reads are the same.
-pub fn same_reads(a: &Read<Id>, b: &Read<Id>) -> bool
+// The test, as the definition has it.
+fn equal_reads(a: &Read<Id>, b: &Read<Id>) -> bool
     ensures { result ≡ read_eq a.now b.now }
 {
     match (a, b) {
@@ -87,4 +87,12 @@ pub fn same_reads(a: &Read<Id>, b: &Read<Id>) -> bool
         (Read::Graphs, Read::Graphs) => true,
         _ => false,
     }
+}
+
+/// Whether two reads are the same.
+pub fn same_reads(a: &Read<Id>, b: &Read<Id>) -> bool
+    ensures value { result ≡ read_eq a.now b.now }
+    ensures exact { IsTrue result ↔ (a.now ≡ b.now) }
+{
+    equal_reads(a, b)
 }

@@ -4,7 +4,7 @@ ghost use Rattle.sets.specs.Sets.{has, set_of as the_set_of};
 ghost use Rattle.datasets.specs.Id.{id_order};
 ghost use Rattle.datasets.specs.Dataset.{quad_order, matches, Quads, Is, Names};
 ghost use Rattle.change_laws.specs.Laws.{IsRising};
-ghost use Rattle.reads.specs.Reads.{says};
+ghost use Rattle.reads.specs.Reads.{says, IsDataset};
 
 use crate::answered::Answered;
 use crate::lists::{copied_names, copied_quads, has_name, name_if};
@@ -35,6 +35,17 @@ impl Model for View {
 }
 
 impl View {
+    /// The dataset with nothing in it. It takes no memory.
+    pub fn new(alloc: Global) -> Self
+        ensures nothing { result ≡ record { quads = []; names = [] } }
+        ensures dataset { IsDataset result }
+    {
+        View {
+            quads: Vec::new(alloc),
+            names: Vec::new(alloc),
+        }
+    }
+
     /// The sets of these quads and of these graph names, in any order and with repeats. It takes no memory.
     pub fn from_parts(quads: Vec<Quad<Id>>, names: Vec<Id>) -> View
         ensures quads { result.quads ≡ the_set_of (quad_order id_order) quads.items }

@@ -1,5 +1,6 @@
 -- A pass that took the book and gave it back with one more entry.
-use Rattle.std.proofs.Common.{◌≡◌, ℕ, false, List, [], ◌∷◌, ◌++◌, length, length-append, refl, sym, ap, subst, ◌∙◌, arith, Some, Result, Ok, Err, IfOk, OnErr}
+use Rattle.std.proofs.Common.{◌≡◌, ℕ, eqb, false, List, [], ◌∷◌, ◌++◌, length, length-append, refl, sym, ap, subst, ◌∙◌, arith, Some, Result, Ok, Err, IfOk, OnErr}
+use Rattle.std.proofs.lemmas.List.Elements.{filter-append}
 use Rattle.block_machine.specs.declared.state.Entry.{Entry}
 use Rattle.block_machine.specs.declared.state.Event.{Event}
 use Rattle.block_machine.specs.declared.state.Event.TheVariants.{Publish}
@@ -9,13 +10,12 @@ use Rattle.block_machine.specs.Serial.{IsHistory}
 use Rattle.book.specs.Run.{Run, state_of, setting_of, IsSoundEvent}
 use Rattle.blocklock.specs.History.{of_worker}
 use Rattle.blocklock.specs.Passes.{Takes, Watches}
-use Rattle.blocklock.proofs.Journals.{of_worker-append}
 use Rattle.shared.specs.declared.kept.Subject.{Subject}
 use Rattle.shared.specs.Calls.{Viewed, owner, history_of, run_of, entry, Answers, Made, Has}
 
 -- the earlier journal's entries of the worker are all of the later one's, so what lies between has none
 none_between : (w : ℕ) (before between : List Entry) → of_worker owner w (before ++ between) ≡ of_worker owner w before → of_worker owner w between ≡ []
-none_between w before between e = empty (of_worker owner w before) (of_worker owner w between) (sym (of_worker-append owner w before between) ∙ e)
+none_between w before between e = empty (of_worker owner w before) (of_worker owner w between) (sym (filter-append (λ x. eqb (owner x) w) before between) ∙ e)
   where
     nothing : (ys : List Entry) → length ys ≡ 0 → ys ≡ []
     nothing [] e = refl

@@ -1,13 +1,13 @@
 //! Calls that never wait, of one worker alone.
 ghost use Rattle.std.specs.Prelude.{◌≡◌, map, IfOk, IfSome};
 ghost use Rattle.update.specs.Notes.{quad_of};
-ghost use Rattle.shared_walks.specs.Duty.{IsPassFor};
+ghost use Rattle.shared.specs.Duty.{IsPassFor};
 
 use crate::blocks::is_short;
+use crate::topic::Topic;
 use block_machine::Reply;
-use book::Request;
 use datasets::Quad;
-use dict::{Dict, Id};
+use dict::Id;
 use shared::{Pass, Refused, SharedBlock};
 use std::alloc::Global;
 use update::{AskedQuad, finish, scan_for, sought_by};
@@ -39,28 +39,27 @@ fn ask<'a>(
 pub fn publish<'a>(
     alloc: Global,
     shared: &SharedBlock<'a>,
-    terms: &'a Dict,
-    block: &'a [Request],
+    topic: &Topic<'a>,
     pass: &mut Pass<'a>,
     place: usize,
 ) -> Result<Reply, Refused>
-    requires { IsPassFor (record { table = shared.now; terms = terms.now; block = block.now }) pass.old }
-    ensures { IfOk result (λ _. IsPassFor (record { table = shared.now; terms = terms.now; block = block.now }) pass.new) }
+    requires { IsPassFor (record { table = shared.now; subject = topic.now }) pass.old }
+    ensures { IfOk result (λ _. IsPassFor (record { table = shared.now; subject = topic.now }) pass.new) }
 {
-    let Some(request) = block.get(place) else {
+    let Some(request) = topic.block.get(place) else {
         return Ok(Reply::Stale);
     };
     if place >= 1000 || !is_short(request) {
         return Ok(Reply::Stale);
     }
     let number = place as u32;
-    let sought = sought_by(alloc, terms, number, request)?;
+    let sought = sought_by(alloc, topic.terms, number, request)?;
     if !sought.names.is_empty() {
         return Ok(Reply::Stale);
     }
     let Some(quads) = ask(alloc, shared, pass, place, sought.quads)? else {
         return Ok(Reply::Stale);
     };
-    let run = finish(alloc, terms, number, request, quads, Vec::new(alloc))?;
+    let run = finish(alloc, topic.terms, number, request, quads, Vec::new(alloc))?;
     shared.try_publish(alloc, pass, place, 0, &run)
 }

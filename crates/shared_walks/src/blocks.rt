@@ -1,6 +1,5 @@
 //! Blocks of empty requests and of insertions, over an empty base.
 ghost use Rattle.std.specs.Prelude.{IsTrue};
-ghost use Rattle.reads.specs.Reads.{IsDataset};
 ghost use Rattle.update.specs.Asked.{IsShort};
 
 use book::Request;
@@ -8,18 +7,9 @@ use datasets::Id;
 use dict::Dict;
 use iris::Iri;
 use meaning::{Operation, QuadTemplate, Slot};
-use reads::View;
 use sets::Items;
 use std::alloc::{AllocError, Global};
 use terms::Term;
-
-/// A dataset with nothing in it.
-#[tactic(auto, using(crate::proofs::Empty::empty_dataset))]
-pub fn nothing(alloc: Global) -> View
-    ensures { IsDataset result }
-{
-    View::from_parts(Vec::new(alloc), Vec::new(alloc))
-}
 
 /// Four IRIs, whose numbers are 0 to 3.
 pub fn four(alloc: Global) -> Result<Dict, AllocError> {

@@ -13,4 +13,6 @@ mod tests;
 #[cfg(test)]
 mod together;
 #[cfg(test)]
+mod topic;
+#[cfg(test)]
 mod worker;

@@ -2,16 +2,16 @@
 ghost use Rattle.std.specs.Prelude.{◌≡◌, ◌+◌, ◌<◌, ◌≤◌, vec_len, All, IfOk};
 ghost use Rattle.reads.specs.Reads.{IsDataset};
 ghost use Rattle.blocklock.specs.Passes.{IsIdleAt};
-ghost use Rattle.shared_walks.specs.Duty.{IsPassFor};
+ghost use Rattle.shared.specs.Duty.{IsPassFor};
 
 use crate::alone::publish;
-use crate::blocks::{four, insertions, nothing, one_empty};
+use crate::blocks::{four, insertions, one_empty};
 use crate::lines::Line;
 use crate::together::{Pair, has_told};
+use crate::topic::Topic;
 use crate::worker::Worker;
 use block_machine::Reply;
-use book::{Book, Request};
-use dict::Dict;
+use book::Book;
 use reads::View;
 use shared::{Pass, Refused, SharedBlock};
 use std::alloc::{AllocError, Global};
@@ -21,31 +21,24 @@ use std::thread::{Threads, join};
 // A shared book with this many passes.
 fn opened<'a>(
     alloc: Global,
-    terms: &'a Dict,
-    base: &'a View,
-    block: &'a [Request],
+    topic: &Topic<'a>,
     seats: u32,
 ) -> Result<(SharedBlock<'a>, Vec<Pass<'a>>), AllocError>
-    requires dataset { IsDataset base.now }
+    requires dataset { IsDataset topic.now.base }
     requires seats { (0 < seats) × (seats ≤ 64) }
     ensures count { IfOk result (λ r. vec_len r.1 ≡ seats) }
-    ensures each { IfOk result (λ r. All (IsPassFor (record { table = r.0; terms = terms.now; block = block.now })) r.1.items) }
+    ensures each { IfOk result (λ r. All (IsPassFor (record { table = r.0; subject = topic.now })) r.1.items) }
 {
-    let (shared, passes) = SharedBlock::new(alloc, terms, base, block, seats)?;
+    let (shared, passes) = SharedBlock::new(alloc, topic.terms, topic.base, topic.block, seats)?;
     Ok((shared, passes))
 }
 
 // The last of the passes.
-fn last<'a>(
-    shared: &SharedBlock<'a>,
-    terms: &'a Dict,
-    block: &'a [Request],
-    passes: &mut Vec<Pass<'a>>,
-) -> Pass<'a>
+fn last<'a>(shared: &SharedBlock<'a>, topic: &Topic<'a>, passes: &mut Vec<Pass<'a>>) -> Pass<'a>
     requires some { 0 < vec_len passes.old }
-    requires each { All (IsPassFor (record { table = shared.now; terms = terms.now; block = block.now })) passes.old.items }
-    ensures pass { IsPassFor (record { table = shared.now; terms = terms.now; block = block.now }) result }
-    ensures rest { All (IsPassFor (record { table = shared.now; terms = terms.now; block = block.now })) passes.new.items }
+    requires each { All (IsPassFor (record { table = shared.now; subject = topic.now })) passes.old.items }
+    ensures pass { IsPassFor (record { table = shared.now; subject = topic.now }) result }
+    ensures rest { All (IsPassFor (record { table = shared.now; subject = topic.now })) passes.new.items }
     ensures count { vec_len passes.new + 1 ≡ vec_len passes.old }
 {
     passes.pop().unwrap()
@@ -54,17 +47,15 @@ fn last<'a>(
 // A shared book with two passes.
 fn pair<'a>(
     alloc: Global,
-    terms: &'a Dict,
-    base: &'a View,
-    block: &'a [Request],
+    topic: &Topic<'a>,
 ) -> Result<(SharedBlock<'a>, Pass<'a>, Pass<'a>), AllocError>
-    requires { IsDataset base.now }
-    ensures first { IfOk result (λ r. IsPassFor (record { table = r.0; terms = terms.now; block = block.now }) r.1) }
-    ensures second { IfOk result (λ r. IsPassFor (record { table = r.0; terms = terms.now; block = block.now }) r.2) }
+    requires { IsDataset topic.now.base }
+    ensures first { IfOk result (λ r. IsPassFor (record { table = r.0; subject = topic.now }) r.1) }
+    ensures second { IfOk result (λ r. IsPassFor (record { table = r.0; subject = topic.now }) r.2) }
 {
-    let (shared, mut passes) = opened(alloc, terms, base, block, 2)?;
-    let second = last(&shared, terms, block, &mut passes);
-    let first = last(&shared, terms, block, &mut passes);
+    let (shared, mut passes) = opened(alloc, topic, 2)?;
+    let second = last(&shared, topic, &mut passes);
+    let first = last(&shared, topic, &mut passes);
     Ok((shared, first, second))
 }
 
@@ -72,17 +63,13 @@ fn pair<'a>(
 fn commits<'a>(
     alloc: Global,
     shared: &SharedBlock<'a>,
-    terms: &'a Dict,
-    block: &'a [Request],
+    topic: &Topic<'a>,
     pass: &mut Pass<'a>,
 ) -> Result<bool, Refused>
-    requires { IsPassFor (record { table = shared.now; terms = terms.now; block = block.now }) pass.old }
+    requires { IsPassFor (record { table = shared.now; subject = topic.now }) pass.old }
 {
     let mut right = matches!(&shared.try_take(alloc, pass, 0)?, Reply::Taken(0));
-    right &= matches!(
-        &publish(alloc, shared, terms, block, pass, 0)?,
-        Reply::Published
-    );
+    right &= matches!(&publish(alloc, shared, topic, pass, 0)?, Reply::Published);
     right &= matches!(&shared.try_begin(alloc, pass, 0, 0)?, Reply::Begun);
     right &= matches!(&shared.try_commit(alloc, pass, 0)?, Reply::Committed);
     Ok(right)
@@ -92,34 +79,30 @@ fn commits<'a>(
 fn front_counts_others(rt: HostRuntime) -> Result<(), AllocError> {
     let alloc = rt.alloc();
     let terms = four(alloc)?;
-    let base = nothing(alloc);
+    let base = View::new(alloc);
     let block = one_empty(alloc)?;
-    let (shared, mut first, mut second) = pair(alloc, &terms, &base, &block)?;
-    assert!(rt;
-        matches!(
-            commits(alloc, &shared, &terms, &block, &mut second),
-            Ok(true)
-        )
-    );
+    let topic = Topic {
+        terms: &terms,
+        base: &base,
+        block: &block,
+    };
+    let (shared, mut first, mut second) = pair(alloc, &topic)?;
+    assert!(rt; matches!(commits(alloc, &shared, &topic, &mut second), Ok(true)));
     assert!(rt; shared.front(&rt, &mut first) == 1);
     Ok(())
 }
 
-// The seven events by one worker: request 0 to its commit, and request 1 is taken and given up.
+// The seven events by one worker: the first request to its commit, and the second is taken and given up.
 fn all_seven<'a>(
     alloc: Global,
     shared: &SharedBlock<'a>,
-    terms: &'a Dict,
-    block: &'a [Request],
+    topic: &Topic<'a>,
     pass: &mut Pass<'a>,
 ) -> Result<bool, Refused>
-    requires { IsPassFor (record { table = shared.now; terms = terms.now; block = block.now }) pass.old }
+    requires { IsPassFor (record { table = shared.now; subject = topic.now }) pass.old }
 {
     let mut right = matches!(&shared.try_take(alloc, pass, 0)?, Reply::Taken(0));
-    right &= matches!(
-        &publish(alloc, shared, terms, block, pass, 0)?,
-        Reply::Published
-    );
+    right &= matches!(&publish(alloc, shared, topic, pass, 0)?, Reply::Published);
     right &= matches!(&shared.try_begin(alloc, pass, 0, 0)?, Reply::Begun);
     right &= matches!(&shared.try_check(alloc, pass, 0, 0)?, Reply::Passed);
     right &= matches!(&shared.try_commit(alloc, pass, 0)?, Reply::Committed);
@@ -132,15 +115,15 @@ fn all_seven<'a>(
 fn calls_succeed(rt: HostRuntime) -> Result<(), AllocError> {
     let alloc = rt.alloc();
     let terms = four(alloc)?;
-    let base = nothing(alloc);
+    let base = View::new(alloc);
     let block = insertions(alloc, 2)?;
-    let (shared, mut first, _second) = pair(alloc, &terms, &base, &block)?;
-    assert!(rt;
-        matches!(
-            all_seven(alloc, &shared, &terms, &block, &mut first),
-            Ok(true)
-        )
-    );
+    let topic = Topic {
+        terms: &terms,
+        base: &base,
+        block: &block,
+    };
+    let (shared, mut first, _second) = pair(alloc, &topic)?;
+    assert!(rt; matches!(all_seven(alloc, &shared, &topic, &mut first), Ok(true)));
     Ok(())
 }
 
@@ -164,21 +147,19 @@ fn closed<'a, R: Wait>(
 // A shared book with four passes.
 fn four_passes<'a>(
     alloc: Global,
-    terms: &'a Dict,
-    base: &'a View,
-    block: &'a [Request],
+    topic: &Topic<'a>,
 ) -> Result<(SharedBlock<'a>, (Pass<'a>, Pass<'a>), (Pass<'a>, Pass<'a>)), AllocError>
-    requires { IsDataset base.now }
-    ensures first { IfOk result (λ r. IsPassFor (record { table = r.0; terms = terms.now; block = block.now }) r.1.0) }
-    ensures second { IfOk result (λ r. IsPassFor (record { table = r.0; terms = terms.now; block = block.now }) r.1.1) }
-    ensures third { IfOk result (λ r. IsPassFor (record { table = r.0; terms = terms.now; block = block.now }) r.2.0) }
-    ensures fourth { IfOk result (λ r. IsPassFor (record { table = r.0; terms = terms.now; block = block.now }) r.2.1) }
+    requires { IsDataset topic.now.base }
+    ensures first { IfOk result (λ r. IsPassFor (record { table = r.0; subject = topic.now }) r.1.0) }
+    ensures second { IfOk result (λ r. IsPassFor (record { table = r.0; subject = topic.now }) r.1.1) }
+    ensures third { IfOk result (λ r. IsPassFor (record { table = r.0; subject = topic.now }) r.2.0) }
+    ensures fourth { IfOk result (λ r. IsPassFor (record { table = r.0; subject = topic.now }) r.2.1) }
 {
-    let (shared, mut passes) = opened(alloc, terms, base, block, 4)?;
-    let fourth = last(&shared, terms, block, &mut passes);
-    let third = last(&shared, terms, block, &mut passes);
-    let second = last(&shared, terms, block, &mut passes);
-    let first = last(&shared, terms, block, &mut passes);
+    let (shared, mut passes) = opened(alloc, topic, 4)?;
+    let fourth = last(&shared, topic, &mut passes);
+    let third = last(&shared, topic, &mut passes);
+    let second = last(&shared, topic, &mut passes);
+    let first = last(&shared, topic, &mut passes);
     Ok((shared, (first, second), (third, fourth)))
 }
 
@@ -186,21 +167,19 @@ fn four_passes<'a>(
 fn run_four<'a, R: Threads + Wait + Sync>(
     rt: &R,
     alloc: Global,
-    terms: &'a Dict,
-    base: &'a View,
-    block: &'a [Request],
+    topic: &Topic<'a>,
 ) -> Result<(Book<'a>, [Vec<Line>; 4]), AllocError>
-    requires { IsDataset base.now }
+    requires { IsDataset topic.now.base }
 {
-    let (shared, (a, b), (c, d)) = four_passes(alloc, terms, base, block)?;
+    let (shared, (a, b), (c, d)) = four_passes(alloc, topic)?;
     let all = &shared;
     let low = Pair {
-        first: Worker::new(rt, alloc, all, terms, block, a),
-        second: Worker::new(rt, alloc, all, terms, block, b),
+        first: Worker::new(rt, alloc, all, topic, a),
+        second: Worker::new(rt, alloc, all, topic, b),
     };
     let high = Pair {
-        first: Worker::new(rt, alloc, all, terms, block, c),
-        second: Worker::new(rt, alloc, all, terms, block, d),
+        first: Worker::new(rt, alloc, all, topic, c),
+        second: Worker::new(rt, alloc, all, topic, d),
     };
     let (low, high) = join(rt, move || low.work(), move || high.work());
     let ((a, of_a), (b, of_b)) = low?;
@@ -213,9 +192,14 @@ fn run_four<'a, R: Threads + Wait + Sync>(
 fn four_threads(rt: HostRuntime) -> Result<(), AllocError> {
     let alloc = rt.alloc();
     let terms = four(alloc)?;
-    let base = nothing(alloc);
+    let base = View::new(alloc);
     let block = insertions(alloc, 64)?;
-    let (book, told) = run_four(&rt, alloc, &terms, &base, &block)?;
+    let topic = Topic {
+        terms: &terms,
+        base: &base,
+        block: &block,
+    };
+    let (book, told) = run_four(&rt, alloc, &topic)?;
     let [a, b, c, d] = &told;
     assert!(rt; has_told(&book, 0, a) && has_told(&book, 1, b));
     assert!(rt; has_told(&book, 2, c) && has_told(&book, 3, d));

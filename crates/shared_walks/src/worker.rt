@@ -2,14 +2,14 @@
 ghost use Rattle.std.specs.Prelude.{◌≡◌, ◌<◌, map, IfOk, IfSome};
 ghost use Rattle.update.specs.Notes.{quad_of};
 ghost use Rattle.blocklock.specs.Passes.{IsIdleAt};
-ghost use Rattle.shared_walks.specs.Duty.{IsPassFor};
+ghost use Rattle.shared.specs.Duty.{IsPassFor};
 
 use crate::blocks::is_short;
 use crate::lines::{Kind, Line, told_by};
+use crate::topic::Topic;
 use block_machine::Reply;
-use book::Request;
 use datasets::{Quad, Read};
-use dict::{Dict, Id};
+use dict::Id;
 use reads::Answered;
 use shared::{Pass, SharedBlock};
 use std::alloc::{AllocError, Global};
@@ -27,20 +27,19 @@ pub struct Worker<'s, 'a, R: Wait> {
     rt: &'s R,
     alloc: Global,
     shared: &'s SharedBlock<'a>,
-    terms: &'a Dict,
-    block: &'a [Request],
+    topic: &'s Topic<'a>,
     pass: Pass<'a>,
     lines: Vec<Line>,
 }
 
 impl<'s, 'a, R: Wait> Model for Worker<'s, 'a, R> {
-    ghost use Rattle.shared_walks.specs.Duty.{Duty, IsPassFor};
+    ghost use Rattle.shared.specs.Duty.{Duty, IsPassFor};
 
     ghost Value = { Duty };
 
-    ghost view = { λ w. record { table = w.shared.now; terms = w.terms.now; block = w.block.now } };
+    ghost view = { λ w. record { table = w.shared.now; subject = w.topic.now } };
 
-    ghost invariant = { λ w. IsPassFor (record { table = w.shared.now; terms = w.terms.now; block = w.block.now }) w.pass };
+    ghost invariant = { λ w. IsPassFor (record { table = w.shared.now; subject = w.topic.now }) w.pass };
 }
 
 // Which incarnation of which request is run.
@@ -56,19 +55,17 @@ impl<'s, 'a, R: Wait> Worker<'s, 'a, R> {
         rt: &'s R,
         alloc: Global,
         shared: &'s SharedBlock<'a>,
-        terms: &'a Dict,
-        block: &'a [Request],
+        topic: &'s Topic<'a>,
         pass: Pass<'a>,
     ) -> Self
-        requires { IsPassFor (record { table = shared.now; terms = terms.now; block = block.now }) pass }
+        requires { IsPassFor (record { table = shared.now; subject = topic.now }) pass }
         ensures { result.table ≡ shared.now }
     {
         Worker {
             rt,
             alloc,
             shared,
-            terms,
-            block,
+            topic,
             pass,
             lines: Vec::new(alloc),
         }
@@ -134,9 +131,9 @@ impl<'s, 'a, R: Wait> Worker<'s, 'a, R> {
     fn execute(&mut self, turn: Turn) -> Result<Option<usize>, AllocError>
         ensures { self.new ≡ self.old }
     {
-        let terms = self.terms;
-        let block = self.block;
-        let Some(request) = block.get(turn.place) else {
+        let topic = self.topic;
+        let terms = topic.terms;
+        let Some(request) = topic.block.get(turn.place) else {
             return Ok(None);
         };
         if turn.place >= 1000 || !is_short(request) {
@@ -297,7 +294,8 @@ impl<'s, 'a, R: Wait> Worker<'s, 'a, R> {
         ensures { IfOk result (λ r. IsIdleAt self.entry.table r.0) }
     {
         let mine = self.pass.worker() as usize;
-        let requests = self.block.len();
+        let topic = self.topic;
+        let requests = topic.block.len();
         for place in 0..requests {
             if place % workers == mine {
                 self.run(place)?;

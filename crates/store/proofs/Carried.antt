@@ -5,11 +5,10 @@ use Rattle.std.proofs.lemmas.Bool.{and_parts, and_from}
 use Rattle.terms.specs.TermLaws.{term_total, term_exact}
 use Rattle.terms.specs.declared.term.Term.{Term}
 use Rattle.datasets.specs.Dataset.{Dataset, IsDataset}
-use Rattle.dict.specs.Dictionary.{term_of, is_known, written, numbers}
-use Rattle.dict.proofs.Numbers.{is_renaming}
+use Rattle.dict.specs.Dictionary.{IsDictionary, term_of, is_known, written, numbers}
 use Rattle.meaning.specs.Vocabulary.{Vocabulary}
 use Rattle.meaning.specs.Run.{Request, answer_of, run_from, run_of_first}
-use Rattle.meaning_laws.specs.Renaming.{renamed, renamed_request, request_known}
+use Rattle.meaning_laws.specs.Renaming.{IsRenaming, renamed, renamed_request, request_known}
 use Rattle.meaning_laws.specs.Answers.{IsExactOrder}
 use Rattle.meaning_laws.proofs.Renames.{carries_run}
 use Rattle.meaning_laws.proofs.Answers.{answers_with_datasets}
@@ -33,8 +32,8 @@ run_dataset : {K : Type 0} (V : Vocabulary K) (o : IsExactOrder V) (i : ℕ) (re
 run_dataset V o i [] d h = h
 run_dataset V o i (r ∷ rs) d h = run_dataset V o (i + 1) rs (answer_of V i r d).0 (answers_with_datasets V i r d o h)
 
-pub carried : CarriesBlock
-carried d block terms base requests n numbered h =
+pub carried : ((terms : List Term) → IsDictionary terms → IsRenaming (numbers terms) written (term_of terms) (is_known terms)) → CarriesBlock
+carried is_renaming d block terms base requests n numbered h =
     let run = carries_run (numbers terms) written (term_of terms) (is_known terms) (take n requests) base (is_renaming terms numbered.dictionary)
     (all-take (request_known (is_known terms)) n requests numbered.block_known) numbered.base_known in
     let block_is : map (renamed_request (term_of terms)) (take n requests) ≡ take n block =

@@ -16,10 +16,9 @@ use Rattle.datasets.specs.declared.id.Id.{Id}
 use Rattle.datasets.specs.declared.quad.Quad.{Quad}
 use Rattle.datasets.specs.Dataset.{Dataset, IsDataset, quad_order, names_of}
 use Rattle.datasets.specs.Id.{id_order, id_total, id_exact, quad_total, quad_exact}
-use Rattle.dict.specs.Dictionary.{IsDictionary, term_of, is_known}
-use Rattle.dict.proofs.Numbers.{is_renaming}
+use Rattle.dict.specs.Dictionary.{IsDictionary, term_of, is_known, written, numbers}
 use Rattle.meaning.specs.Run.{Request}
-use Rattle.meaning_laws.specs.Renaming.{renamed, renamed_quad, renamed_request, quad_known, dataset_known, request_known}
+use Rattle.meaning_laws.specs.Renaming.{IsRenaming, renamed, renamed_quad, renamed_request, quad_known, dataset_known, request_known}
 use Rattle.meaning_laws.proofs.Renames.{all-set_of, map-set_of, has-map, quad-order, map-names_of, all-names_of}
 use Rattle.store.specs.Numbered.{IsNumbered}
 
@@ -39,10 +38,10 @@ known_member R exact k g (x ∷ xs) h m =
 abbrev numbers_of : List (Quad Id) → List Id → Dataset Id
 numbers_of quads names = record { quads = set_of (quad_order id_order) quads; names = set_of id_order names }
 
-module _ (terms : List Term) (dictionary : IsDictionary terms) (ids : List (Quad Id)) (names : List Id)
+module _ (terms : List Term) (renaming : IsRenaming (numbers terms) written (term_of terms) (is_known terms)) (ids : List (Quad Id)) (names : List Id)
     (known : list_all (quad_known (is_known terms)) ids ≡ true) (names_known : list_all (is_known terms) names ≡ true) where
   order : (x y : Id) → is_known terms x ≡ true → is_known terms y ≡ true → term_order (term_of terms x) (term_of terms y) ≡ id_order x y
-  order = (is_renaming terms dictionary).order
+  order = renaming.order
 
   quads-order : (a b : Quad Id) → quad_known (is_known terms) a ≡ true → quad_known (is_known terms) b ≡ true
       → quad_order term_order (renamed_quad (term_of terms) a) (renamed_quad (term_of terms) b) ≡ quad_order id_order a b
@@ -81,25 +80,25 @@ module _ (terms : List Term) (dictionary : IsDictionary terms) (ids : List (Quad
 
 pub numbered : (d : Dataset Term) (block : List (Request Term)) (terms : List Term) (base : Dataset Id) (requests : List (Request Id))
     (quads : List (Quad Term)) (names : List Term) (ids : List (Quad Id)) (places : List Id)
-    → IsDictionary terms → IsDataset term_order d → set_of (quad_order term_order) quads ≡ d.quads → set_of term_order names ≡ d.names
+    → IsDictionary terms → IsRenaming (numbers terms) written (term_of terms) (is_known terms) → IsDataset term_order d → set_of (quad_order term_order) quads ≡ d.quads → set_of term_order names ≡ d.names
     → map (renamed_quad (term_of terms)) ids ≡ quads → list_all (quad_known (is_known terms)) ids ≡ true
     → map (term_of terms) places ≡ names → list_all (is_known terms) places ≡ true
     → base.quads ≡ set_of (quad_order id_order) ids → base.names ≡ set_of id_order places
     → map (renamed_request (term_of terms)) requests ≡ block → list_all (request_known (is_known terms)) requests ≡ true
     → IsNumbered d block terms base requests
-numbered d block terms base requests quads names ids places dictionary is_d quads_are names_are ids_are ids_known places_are places_known base_quads base_names block_is block_known =
+numbered d block terms base requests quads names ids places dictionary renaming is_d quads_are names_are ids_are ids_known places_are places_known base_quads base_names block_is block_known =
     let base_made : base ≡ numbers_of ids places = λ i. record { quads = base_quads i; names = base_names i } in
     let d_is : renamed (term_of terms) (numbers_of ids places) ≡ d =
-    renamed_is terms dictionary ids places ids_known places_known
+    renamed_is terms renaming ids places ids_known places_known
     ∙ (λ i. record { quads = (ap (λ (qs : List (Quad Term)). set_of (quad_order term_order) qs) ids_are ∙ quads_are) i; names = (ap (λ (ns : List Term). set_of term_order ns) places_are ∙ names_are) i }) in
     let at_terms : IsDataset term_order (renamed (term_of terms) (numbers_of ids places)) = subst (λ (e : Dataset Term). IsDataset term_order e) (sym d_is) is_d in
     record {
       dictionary = dictionary;
       base_is = ap (λ (b : Dataset Id). renamed (term_of terms) b) base_made ∙ d_is;
       block_is = block_is;
-      base_known = ap (λ (b : Dataset Id). dataset_known (is_known terms) b) base_made ∙ all_known terms dictionary ids places ids_known places_known;
+      base_known = ap (λ (b : Dataset Id). dataset_known (is_known terms) b) base_made ∙ all_known terms renaming ids places ids_known places_known;
       block_known = block_known;
-      dataset = subst (λ (b : Dataset Id). IsDataset id_order b) (sym base_made) (is_dataset terms dictionary ids places ids_known places_known at_terms);
+      dataset = subst (λ (b : Dataset Id). IsDataset id_order b) (sym base_made) (is_dataset terms renaming ids places ids_known places_known at_terms);
     }
 
 -- a dataset is the dataset of its quads and names

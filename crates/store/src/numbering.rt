@@ -12,6 +12,7 @@ ghost use Rattle.store.specs.Numbered.{IsNumbered};
 use crate::collecting::{add_quads, add_terms};
 use crate::requests::{Request, number_requests};
 use datasets::Quad;
+use dict::laws::is_renaming;
 use dict::{Dict, Id};
 use reads::View;
 use rules::Block;
@@ -110,6 +111,7 @@ fn collected(
 pub fn number(alloc: Global, dataset: &DataSet, block: &Block) -> Result<Numbered, AllocError>
     ensures { IfOk result (λ n. IsNumbered dataset.now block.now n.terms n.base n.block.items) }
 {
+    is_renaming();
     let quads = dataset.quads();
     let names = dataset.names();
     let terms = Dict::freeze(collected(alloc, block, quads, names)?);

@@ -1,6 +1,4 @@
-//! Two insertions, request 1 of what request 0 inserts and of one quad more.
-ghost use Rattle.reads.specs.Reads.{IsDataset};
-
+//! Two insertions, the second request of what the first one inserts and of one quad more.
 use crate::run::{Turn, begin, check, commit, execute, take};
 use block_machine::Reply;
 use book::{Book, Request};
@@ -12,13 +10,6 @@ use reads::View;
 use sets::Items;
 use std::alloc::{AllocError, Global};
 use terms::Term;
-
-#[tactic(auto, using(crate::proofs::Empty::empty_dataset))]
-fn nothing(alloc: Global) -> View
-    ensures { IsDataset result }
-{
-    View::from_parts(Vec::new(alloc), Vec::new(alloc))
-}
 
 // Four IRIs, whose numbers are 0 to 3.
 fn four(alloc: Global) -> Result<Dict, AllocError> {
@@ -67,7 +58,7 @@ fn turn(worker: u32, place: usize, incarnation: u64) -> Turn {
     }
 }
 
-// Request 1 runs before request 0 has published, and is checked after it.
+// The second request runs before the first has published, and is checked after it.
 fn aborted(alloc: Global, book: &mut Book<'_>) -> Result<bool, AllocError> {
     let late = turn(1, 1, 0);
     let early = turn(0, 0, 0);
@@ -80,7 +71,7 @@ fn aborted(alloc: Global, book: &mut Book<'_>) -> Result<bool, AllocError> {
     Ok(right)
 }
 
-// Both are run again and checked; request 1 is stamped before request 0 is committed.
+// Both are run again and checked; the second request is stamped before the first is committed.
 fn committed(alloc: Global, book: &mut Book<'_>) -> Result<bool, AllocError> {
     let late = turn(2, 1, 1);
     let early = turn(0, 0, 0);
@@ -101,7 +92,7 @@ fn committed(alloc: Global, book: &mut Book<'_>) -> Result<bool, AllocError> {
 fn two_insertions(rt: HostRuntime) -> Result<(), AllocError> {
     let alloc = rt.alloc();
     let terms = four(alloc)?;
-    let base = nothing(alloc);
+    let base = View::new(alloc);
     let block = two(alloc)?;
     let mut book = Book::new(alloc, &terms, &base, &block)?;
     assert!(rt; aborted(alloc, &mut book)?);

@@ -1,14 +1,14 @@
-use Rattle.std.proofs.Common.{rules, ap, ◌∙◌, sym, arith}
+use Rattle.std.proofs.Common.{rules, Some, ap, ◌∙◌, sym, arith}
+use Rattle.std.proofs.lemmas.List.Elements.{All-pop}
 use Rattle.blocklock.specs.Passes.{IsIdleAt}
 use Rattle.blocklock.proofs.Keeps.{takes_in}
-use Rattle.blocklock.proofs.Journals.{all_last, all_before}
 use Rattle.blocklock.proofs.Closing.{no_slots, taken_in, told_more}
 use Rattle.blocklock.proofs.lock.BlockLock.take_in.Goals as goal
 
 pub join_seat-requires : goal.join_seat-requires
 join_seat-requires g c =
     let i = c.loop-pass.invariant in
-    let idle = all_last (IsIdleAt c.args.self.now) c.pop.new.self.items _ c.in-Some.pass c.in-Some.ensures.items i.2 in
+    let idle = (All-pop (IsIdleAt c.args.self.now) _ c.pop.new.self.items (Some c.in-Some.pass) c.in-Some.ensures.items i.2).1 in
     let w = c.pass.invariant in
     let first = ap (λ v. v.from) i.3 in
     let end = ap (λ v. v.until) i.3 in
@@ -28,7 +28,7 @@ loop-pass-preserved g c =
     let view = c.pass.view_is in (
       search rules,
       search rules,
-      all_before (IsIdleAt c.args.self.now) c.pop.new.self.items _ c.in-Some.pass c.in-Some.ensures.items i.2,
+      (All-pop (IsIdleAt c.args.self.now) _ c.pop.new.self.items (Some c.in-Some.pass) c.in-Some.ensures.items i.2).0,
       taken_in c.args.seat.now.me.0 c.loop-pass.seat.me.0 c.join_seat.new.seat.me.0 c.pass.inside.seat.me.0 i.3 is,
       told_more c.pop.new.self.items c.loop-pass.passes.items c.args.passes.items c.in-Some.pass c.loop-pass.seat.me.0 c.join_seat.new.seat.me.0 c.pass.inside.seat.me.0 c.in-Some.ensures.items is
           (sym (ap (λ p. p.worker) view) ∙ sym c.pass.invariant.from) (sym (ap (λ p. p.subject) view)) (sym (ap (λ p. p.seen) view)) i.4,

@@ -1,6 +1,6 @@
 use Rattle.std.proofs.Common.{◌≡◌, map}
 use Rattle.update.specs.Notes.{name_of}
-use Rattle.driver.specs.Duty.{IsPassFor}
+use Rattle.shared.specs.Duty.{IsPassFor}
 use Rattle.driver.proofs.attempt.Driver.ask_names.Given as goal
 
 abbrev pub invariant-loop-name : goal.invariant-loop-name

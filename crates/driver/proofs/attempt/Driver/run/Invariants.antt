@@ -1,5 +1,5 @@
 use Rattle.std.proofs.Common.{◌<◌, length, All}
-use Rattle.driver.specs.Duty.{IsPassFor}
+use Rattle.shared.specs.Duty.{IsPassFor}
 use Rattle.driver.proofs.attempt.Driver.run.Given as goal
 
 abbrev pub invariant-loop : goal.invariant-loop

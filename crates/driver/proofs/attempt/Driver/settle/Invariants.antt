@@ -1,4 +1,4 @@
-use Rattle.driver.specs.Duty.{IsPassFor}
+use Rattle.shared.specs.Duty.{IsPassFor}
 use Rattle.driver.proofs.attempt.Driver.settle.Given as goal
 
 abbrev pub invariant-loop-check : goal.invariant-loop-check

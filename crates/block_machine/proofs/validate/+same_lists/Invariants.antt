@@ -1,5 +1,0 @@
-use Rattle.std.proofs.Common.{length}
-use Rattle.block_machine.proofs.validate.+same_lists.Given as goal
-
-abbrev pub decreases-same_lists : goal.decreases-same_lists
-decreases-same_lists l = length l.a.now

@@ -1,0 +1,22 @@
+//! What the shared book of a walk is about.
+
+use book::Request;
+use dict::Dict;
+use reads::View;
+use std::marker::Model;
+
+/// The terms that are numbered, the dataset before the first request, and the requests.
+#[derive(Drop)]
+pub struct Topic<'a> {
+    pub terms: &'a Dict,
+    pub base: &'a View,
+    pub block: &'a [Request],
+}
+
+impl<'a> Model for Topic<'a> {
+    ghost use Rattle.shared.specs.declared.kept.Subject.{Subject};
+
+    ghost Value = { Subject };
+
+    ghost view = { λ t. record { terms = t.terms.now; base = t.base.now; block = t.block.now } };
+}
