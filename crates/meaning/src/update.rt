@@ -1,6 +1,8 @@
 //! Operations, their patterns and their templates (SPARQL 1.1 Update, section 3).
+ghost use Rattle.std.specs.Prelude.{◌≡◌, []};
 
 use sets::Items;
+use std::alloc::Global;
 
 /// A place of a triple pattern: a term, or a variable by its number. Variables are numbered from 0 in the byte order of their names.
 #[derive(Clone, Copy, Drop)]
@@ -58,4 +60,30 @@ pub struct Modify<T> {
 #[derive(Drop)]
 pub enum Operation<T> {
     Modify(Modify<T>),
+}
+
+impl<T> Operation<T> {
+    /// INSERT DATA of these quads (SPARQL 1.1 Update, section 3.1.1). It takes no memory.
+    pub fn insert_data(alloc: Global, quads: Items<QuadTemplate<T>>) -> Operation<T>
+        ensures { result ≡ Operation.Modify (record { width = 0; pattern = Plan.Empty; delete = []; insert = quads }) }
+    {
+        Operation::Modify(Modify {
+            width: 0,
+            pattern: Plan::Empty,
+            delete: Items::new(alloc),
+            insert: quads,
+        })
+    }
+
+    /// DELETE DATA of these quads (SPARQL 1.1 Update, section 3.1.2). It takes no memory.
+    pub fn delete_data(alloc: Global, quads: Items<QuadTemplate<T>>) -> Operation<T>
+        ensures { result ≡ Operation.Modify (record { width = 0; pattern = Plan.Empty; delete = quads; insert = [] }) }
+    {
+        Operation::Modify(Modify {
+            width: 0,
+            pattern: Plan::Empty,
+            delete: quads,
+            insert: Items::new(alloc),
+        })
+    }
 }
