@@ -41,6 +41,7 @@ pub fn scan<S: Source>(
     source: &mut S,
     notes: &mut Vec<Note>,
 ) -> Result<Vec<Quad<Id>>, Stop>
+    ensures about { S.subject source.new ≡ S.subject source.old }
     ensures goes { (allowed : Reading → Bool) → allowed (Scan pattern.now) ≡ true → Goes allowed (S.may source.old) (S.may source.new) notes.old.items notes.new.items }
     ensures seen { IfOk result (λ quads. (d : View) → Agrees notes.new.items d → quads.items ≡ filter (matches id_order pattern.now) (applied changes.now d).quads) }
 {

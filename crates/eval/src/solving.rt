@@ -56,6 +56,7 @@ pub fn solve<S: Source>(
     source: &mut S,
     notes: &mut Vec<Note>,
 ) -> Result<Vec<Mapping>, Stop>
+    ensures about { S.subject source.new ≡ S.subject source.old }
     ensures goes { Goes (is_for_plan plan.now) (S.may source.old) (S.may source.new) notes.old.items notes.new.items }
     ensures solved { IfOk result (λ found. (d : View) → Agrees notes.new.items d → found.items ≡ solutions id_order width plan.now (applied changes.now d) None) }
 {

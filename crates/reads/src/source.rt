@@ -32,9 +32,13 @@ pub trait Source {
 
     /// What it may answer to a read.
     ghost may: { Self → Reading → Answer → Type 0 };
+    /// What kind of thing it is about, and what.
+    ghost Subject: { Type 0 };
+    ghost subject: { Self → Subject };
 
-    /// The answer to a read. What the source may answer stays as it is, also where it stops.
+    /// The answer to a read. What the source may answer and what it is about stay as they are, also where it stops.
     fn ask(&mut self, read: &Read<Id>) -> Result<Answered, Stop>
+        ensures about { subject self.new ≡ subject self.old }
         ensures meets { IfOk result (λ answer. may self.old read.now answer) }
         ensures later { (r : Reading) (a : Answer) → may self.new r a → may self.old r a }
         ensures before { (r : Reading) (a : Answer) → may self.old r a → may self.new r a };
