@@ -1,10 +1,11 @@
 -- What an operation does to a dataset (SPARQL 1.1 Update, 3.1).
-use Rattle.std.specs.Prelude.{ℕ, Bool, nat_lt, if◌then◌else◌, List, [], ◌∷◌, length, Result, Ok, Err}
+use Rattle.std.specs.Prelude.{ℕ, Bool, nat_lt, if◌then◌else◌, List, length, None, Result, Ok, Err}
 use Rattle.sets.specs.Sets.{union, without}
 use Rattle.datasets.specs.Dataset.{Dataset, quad_order, names_of}
 use Rattle.datasets.specs.declared.quad.Quad.{Quad}
 use Rattle.meaning.specs.Vocabulary.{Vocabulary}
-use Rattle.meaning.specs.Mapping.{Mapping, empty_mapping}
+use Rattle.meaning.specs.Mapping.{Mapping}
+use Rattle.meaning.specs.Solutions.{solutions}
 use Rattle.meaning.specs.Template.{instances}
 use Rattle.meaning.specs.declared.update.QuadTemplate.{QuadTemplate}
 use Rattle.meaning.specs.declared.update.Operation.{Operation}
@@ -26,10 +27,10 @@ module _ {K : Type 0} (V : Vocabulary K) where
 
   -- DELETE and INSERT over the solutions of WHERE
   abbrev pub modified : (request place : ℕ) → (delete insert : List (QuadTemplate K)) → List (Mapping K) → Dataset K → Result (Dataset K) Cause
-  modified request place delete insert solutions d =
-      if is_too_many (length solutions) then Err TooManySolutions
-      else Ok (replaced d (instances V request place delete solutions) (instances V request place insert solutions))
+  modified request place delete insert found d =
+      if is_too_many (length found) then Err TooManySolutions
+      else Ok (replaced d (instances V request place delete found) (instances V request place insert found))
 
-  -- the effect of the operation at a place of a request, both counted from 0. INSERT DATA has the empty mapping as its one solution.
+  -- the effect of the operation at a place of a request, both counted from 0. WHERE is evaluated once, in the default graph.
   abbrev pub effect_of : (request place : ℕ) → Operation K → Dataset K → Result (Dataset K) Cause
-  effect_of request place (operation.InsertData quads) d = modified request place [] quads (empty_mapping ∷ []) d
+  effect_of request place (operation.Modify m) d = modified request place m.delete m.insert (solutions V.order m.width m.pattern d None) d

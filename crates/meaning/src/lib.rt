@@ -6,4 +6,4 @@ pub mod reply;
 pub mod update;
 
 pub use reply::{Cause, Refusal, Reply};
-pub use update::{Operation, QuadTemplate, Slot};
+pub use update::{Modify, Operation, Place, Plan, QuadTemplate, Slot, TriplePattern};

@@ -1,5 +1,5 @@
 -- Answers keep datasets, and a run goes on by one.
-use Rattle.std.proofs.Common.{◌≡◌, ℕ, zero, suc, ◌+◌, Bool, true, false, ◌||◌, List, [], ◌∷◌, ◌++◌, take, Option, Some, None, Result, Ok, Err, refl, sym, ap, ◌∙◌, arith, slice_get, add-zero}
+use Rattle.std.proofs.Common.{◌≡◌, ℕ, zero, suc, ◌+◌, Bool, true, false, ◌||◌, List, [], ◌∷◌, ◌++◌, length, take, Option, Some, None, Result, Ok, Err, refl, sym, ap, ◌∙◌, arith, slice_get, add-zero}
 use Rattle.std.specs.Prelude.{not, filter, if◌then◌else◌}
 use Rattle.std.specs.List.{list_any, cons_option}
 use Rattle.std.specs.declared.cmp.Ordering.{Ordering}
@@ -12,13 +12,14 @@ use Rattle.datasets.specs.declared.quad.Quad.{Quad}
 use Rattle.datasets.specs.Dataset.{Dataset, IsDataset, quad_order, names_of}
 use Rattle.datasets.specs.Id.{quad_total}
 use Rattle.meaning.specs.Vocabulary.{Vocabulary}
-use Rattle.meaning.specs.Effect.{replaced, effect_of}
+use Rattle.meaning.specs.Effect.{is_too_many, replaced, effect_of}
 use Rattle.meaning.specs.Template.{instances}
-use Rattle.meaning.specs.Mapping.{empty_mapping}
+use Rattle.meaning.specs.Solutions.{solutions}
 use Rattle.meaning.specs.Run.{Request, Failure, then_next, performed, settled, answer_of, run_from, run_of_first}
 use Rattle.meaning.specs.declared.update.Operation.{Operation}
 use Rattle.meaning.specs.declared.update.Operation.TheVariants as operation
 use Rattle.meaning.specs.declared.reply.Cause.{Cause}
+use Rattle.meaning.specs.declared.reply.Cause.TheVariants.{TooManySolutions}
 use Rattle.meaning_laws.specs.Answers.{IsExactOrder, with_next, AnswersWithDatasets, GoesOnByOne}
 
 -- ---- what is some member of a part is some member of the whole
@@ -105,9 +106,16 @@ module _ {K : Type 0} (V : Vocabulary K) (o : IsExactOrder V) where
   LeavesDataset (Ok d) = IsDataset V.order d
   LeavesDataset (Err e) = Unit {0}
 
-  effect-dataset : (i n : ℕ) (op : Operation K) (d : Dataset K) → IsDataset V.order d → LeavesDataset (effect_of V i n op d)
+  unless-dataset : (b : Bool) (d : Dataset K) → IsDataset V.order d → LeavesDataset {E = Cause} (if b then Err TooManySolutions else Ok d)
   unfolding LeavesDataset
-  effect-dataset i n (operation.InsertData quads) d h = replaced-dataset d [] (instances V i n quads (empty_mapping ∷ [])) h
+  unless-dataset true d h = tt
+  unless-dataset false d h = h
+
+  effect-dataset : (i n : ℕ) (op : Operation K) (d : Dataset K) → IsDataset V.order d → LeavesDataset (effect_of V i n op d)
+  effect-dataset i n (operation.Modify m) d h =
+      let found = solutions V.order m.width m.pattern d None in
+      unless-dataset (is_too_many (length found)) (replaced V d (instances V i n m.delete found) (instances V i n m.insert found))
+      (replaced-dataset d (instances V i n m.delete found) (instances V i n m.insert found) h)
 
   next-dataset : (n : ℕ) (e : Result (Dataset K) Cause) (go : Dataset K → Result (Dataset K) Failure) → LeavesDataset e
       → ((d : Dataset K) → IsDataset V.order d → LeavesDataset (go d)) → LeavesDataset (then_next V n e go)

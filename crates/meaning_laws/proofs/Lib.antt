@@ -1,2 +1,4 @@
+pub mod RenamedSets
+pub mod RenamedSolutions
 pub mod Renames
 pub mod Answers

@@ -8,9 +8,14 @@ use Rattle.meaning.specs.Vocabulary.{Vocabulary}
 use Rattle.meaning.specs.Run.{Request, run}
 use Rattle.meaning.specs.declared.update.Slot.{Slot}
 use Rattle.meaning.specs.declared.update.Slot.TheVariants.{Term, Variable, Label}
+use Rattle.meaning.specs.declared.update.Place.{Place}
+use Rattle.meaning.specs.declared.update.Place.TheVariants as place
+use Rattle.meaning.specs.declared.update.TriplePattern.{TriplePattern}
+use Rattle.meaning.specs.declared.update.Plan.{Plan}
+use Rattle.meaning.specs.declared.update.Plan.TheVariants.{Empty, Triple}
 use Rattle.meaning.specs.declared.update.QuadTemplate.{QuadTemplate}
 use Rattle.meaning.specs.declared.update.Operation.{Operation}
-use Rattle.meaning.specs.declared.update.Operation.TheVariants.{InsertData}
+use Rattle.meaning.specs.declared.update.Operation.TheVariants.{Modify}
 
 module _ {A B : Type 0} (f : A → B) where
   abbrev pub renamed_quad : Quad A → Quad B
@@ -32,8 +37,24 @@ module _ {A B : Type 0} (f : A → B) where
     graph = option_map renamed_slot t.graph;
   }
 
+  abbrev pub renamed_place : Place A → Place B
+  renamed_place (place.Term t) = place.Term (f t)
+  renamed_place (place.Variable v) = place.Variable v
+
+  abbrev pub renamed_pattern : TriplePattern A → TriplePattern B
+  renamed_pattern t = record { subject = renamed_place t.subject; predicate = renamed_place t.predicate; object = renamed_place t.object }
+
+  abbrev pub renamed_plan : Plan A → Plan B
+  renamed_plan Empty = Empty
+  renamed_plan (Triple t) = Triple (renamed_pattern t)
+
   abbrev pub renamed_operation : Operation A → Operation B
-  renamed_operation (InsertData quads) = InsertData (map renamed_template quads)
+  renamed_operation (Modify m) = Modify (record {
+    width = m.width;
+    pattern = renamed_plan m.pattern;
+    delete = map renamed_template m.delete;
+    insert = map renamed_template m.insert;
+  })
 
   abbrev pub renamed_request : Request A → Request B
   renamed_request (Ok operations) = Ok (map renamed_operation operations)
@@ -63,8 +84,19 @@ module _ {A : Type 0} (known : A → Bool) where
   abbrev pub template_known : QuadTemplate A → Bool
   template_known t = slot_known t.subject && (slot_known t.predicate && (slot_known t.object && graph_known t.graph))
 
+  abbrev pub place_known : Place A → Bool
+  place_known (place.Term t) = known t
+  place_known (place.Variable v) = true
+
+  abbrev pub pattern_known : TriplePattern A → Bool
+  pattern_known t = place_known t.subject && (place_known t.predicate && place_known t.object)
+
+  abbrev pub plan_known : Plan A → Bool
+  plan_known Empty = true
+  plan_known (Triple t) = pattern_known t
+
   abbrev pub operation_known : Operation A → Bool
-  operation_known (InsertData quads) = list_all template_known quads
+  operation_known (Modify m) = plan_known m.pattern && (list_all template_known m.delete && list_all template_known m.insert)
 
   abbrev pub request_known : Request A → Bool
   request_known (Ok operations) = list_all operation_known operations

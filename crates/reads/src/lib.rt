@@ -13,10 +13,12 @@ pub mod lists;
 pub mod matching;
 pub mod note;
 pub mod same;
+pub mod source;
 pub mod view;
 
 pub use answered::Answered;
 pub use delta::Delta;
 pub use finished::Finished;
 pub use note::Note;
+pub use source::{Source, Stop};
 pub use view::View;

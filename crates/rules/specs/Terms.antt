@@ -5,6 +5,11 @@ use Rattle.terms.specs.declared.term.Term.{Term}
 use Rattle.meaning.specs.declared.update.Slot.{Slot}
 use Rattle.meaning.specs.declared.update.Slot.TheVariants as slot
 use Rattle.meaning.specs.declared.update.QuadTemplate.{QuadTemplate}
+use Rattle.meaning.specs.declared.update.Place.{Place}
+use Rattle.meaning.specs.declared.update.Place.TheVariants as place
+use Rattle.meaning.specs.declared.update.TriplePattern.{TriplePattern}
+use Rattle.meaning.specs.declared.update.Plan.{Plan}
+use Rattle.meaning.specs.declared.update.Plan.TheVariants.{Empty, Triple}
 use Rattle.meaning.specs.declared.update.Operation.{Operation}
 use Rattle.meaning.specs.declared.update.Operation.TheVariants as update
 use Rattle.meaning.specs.declared.reply.Refusal.{Refusal}
@@ -21,8 +26,19 @@ terms_of_graph (Some s) = terms_of_slot s
 abbrev pub terms_of_quad : QuadTemplate Term → List Term
 terms_of_quad q = terms_of_slot q.subject ++ terms_of_slot q.predicate ++ terms_of_slot q.object ++ terms_of_graph q.graph
 
+abbrev pub terms_of_place : Place Term → List Term
+terms_of_place (place.Term t) = t ∷ []
+terms_of_place (place.Variable v) = []
+
+abbrev pub terms_of_pattern : TriplePattern Term → List Term
+terms_of_pattern t = terms_of_place t.subject ++ terms_of_place t.predicate ++ terms_of_place t.object
+
+abbrev pub terms_of_plan : Plan Term → List Term
+terms_of_plan Empty = []
+terms_of_plan (Triple t) = terms_of_pattern t
+
 abbrev pub terms_of_operation : Operation Term → List Term
-terms_of_operation (update.InsertData quads) = flat_map terms_of_quad quads
+terms_of_operation (update.Modify m) = terms_of_plan m.pattern ++ flat_map terms_of_quad m.delete ++ flat_map terms_of_quad m.insert
 
 -- those of an accepted request
 abbrev pub terms_of_request : Result (List (Operation Term)) Refusal → List Term

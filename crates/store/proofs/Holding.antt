@@ -17,10 +17,15 @@ use Rattle.meaning.specs.Run.{Request}
 use Rattle.meaning.specs.declared.update.Slot.{Slot}
 use Rattle.meaning.specs.declared.update.Slot.TheVariants as slot
 use Rattle.meaning.specs.declared.update.QuadTemplate.{QuadTemplate}
+use Rattle.meaning.specs.declared.update.Place.{Place}
+use Rattle.meaning.specs.declared.update.Place.TheVariants as place
+use Rattle.meaning.specs.declared.update.TriplePattern.{TriplePattern}
+use Rattle.meaning.specs.declared.update.Plan.{Plan}
+use Rattle.meaning.specs.declared.update.Plan.TheVariants.{Empty, Triple}
 use Rattle.meaning.specs.declared.update.Operation.{Operation}
 use Rattle.meaning.specs.declared.update.Operation.TheVariants as operation
-use Rattle.meaning_laws.specs.Renaming.{option_known, quad_known, slot_known, graph_known, template_known, operation_known, request_known}
-use Rattle.rules.specs.Terms.{terms_of_slot, terms_of_graph, terms_of_quad as terms_of_template, terms_of_operation, terms_of_request, terms_of}
+use Rattle.meaning_laws.specs.Renaming.{option_known, quad_known, slot_known, graph_known, template_known, place_known, pattern_known, plan_known, operation_known, request_known}
+use Rattle.rules.specs.Terms.{terms_of_slot, terms_of_graph, terms_of_quad as terms_of_template, terms_of_place, terms_of_pattern, terms_of_plan, terms_of_operation, terms_of_request, terms_of}
 use Rattle.store.specs.Collected.{terms_of_quad}
 use Rattle.store.specs.Held.{is_held}
 
@@ -75,8 +80,28 @@ module _ (p : Term → Bool) where
       (and_from (slot_known p t.predicate) (slot_known p t.object && graph_known p t.graph) (slot_held t.predicate c.1)
       (and_from (slot_known p t.object) (graph_known p t.graph) (slot_held t.object b.1) (graph_held t.graph a.1)))
 
+  place_held : (x : Place Term) → list_all p (terms_of_place x) ≡ true → place_known p x ≡ true
+  place_held (place.Term t) h = (and_parts (p t) true h).0
+  place_held (place.Variable v) h = refl
+
+  pattern_held : (t : TriplePattern Term) → list_all p (terms_of_pattern t) ≡ true → pattern_known p t ≡ true
+  pattern_held t h =
+      let a = all_parts (terms_of_place t.subject ++ terms_of_place t.predicate) (terms_of_place t.object) h in
+      let b = all_parts (terms_of_place t.subject) (terms_of_place t.predicate) a.0 in
+      and_from (place_known p t.subject) (place_known p t.predicate && place_known p t.object) (place_held t.subject b.0)
+      (and_from (place_known p t.predicate) (place_known p t.object) (place_held t.predicate b.1) (place_held t.object a.1))
+
+  plan_held : (w : Plan Term) → list_all p (terms_of_plan w) ≡ true → plan_known p w ≡ true
+  plan_held Empty h = refl
+  plan_held (Triple t) h = pattern_held t h
+
   operation_held : (o : Operation Term) → list_all p (terms_of_operation o) ≡ true → operation_known p o ≡ true
-  operation_held (operation.InsertData quads) h = spread_parts terms_of_template (template_known p) template_held quads h
+  operation_held (operation.Modify m) h =
+      let a = all_parts (terms_of_plan m.pattern ++ flat_map terms_of_template m.delete) (flat_map terms_of_template m.insert) h in
+      let b = all_parts (terms_of_plan m.pattern) (flat_map terms_of_template m.delete) a.0 in
+      and_from (plan_known p m.pattern) (list_all (template_known p) m.delete && list_all (template_known p) m.insert) (plan_held m.pattern b.0)
+      (and_from (list_all (template_known p) m.delete) (list_all (template_known p) m.insert)
+      (spread_parts terms_of_template (template_known p) template_held m.delete b.1) (spread_parts terms_of_template (template_known p) template_held m.insert a.1))
 
   request_held : (r : Request Term) → list_all p (terms_of_request r) ≡ true → request_known p r ≡ true
   request_held (Ok operations) h = spread_parts terms_of_operation (operation_known p) operation_held operations h

@@ -1,0 +1,5 @@
+pub mod Notes
+pub mod Maps
+pub mod Seen
+pub mod Replacing
+pub mod Scanned
