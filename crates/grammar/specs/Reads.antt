@@ -1,5 +1,6 @@
 -- The grammar, by its productions, on lists of tokens. (SPARQL 1.1 Update, 19.8: productions 29 to 38 of requests and 75 to 82 of triples,
--- in this profile with INSERT DATA alone, and without literals, variables and blank nodes.) `ReadsX ts x rest`: the production reads x at
+-- in this profile with INSERT DATA, DELETE DATA, and DELETE and INSERT with a WHERE of one triple pattern, and without literals and blank
+-- nodes.) `ReadsX ts x rest`: the production reads x at
 -- the front of the tokens ts, and rest follows.
 use Rattle.std.specs.Prelude.{◌≡◌, ℕ, Bool, true, false, List, [], ◌∷◌, length, map, codes, bytes_eq, Option, Some, None}
 use Rattle.std.specs.Char.{to_ascii_lowercase}
@@ -11,6 +12,7 @@ use Rattle.syntax_trees.specs.declared.tree.Node.{Node}
 use Rattle.syntax_trees.specs.declared.tree.Node.TheVariants as node
 use Rattle.syntax_trees.specs.declared.tree.Property.{Property}
 use Rattle.syntax_trees.specs.declared.tree.SameSubject.{SameSubject}
+use Rattle.syntax_trees.specs.declared.tree.Triple.{Triple}
 use Rattle.syntax_trees.specs.declared.tree.Operation.{Operation}
 use Rattle.syntax_trees.specs.declared.tree.Operation.TheVariants as operation
 use Rattle.syntax_trees.specs.declared.tree.Step.{Step}
@@ -18,14 +20,15 @@ use Rattle.syntax_trees.specs.declared.tree.Step.TheVariants as step
 use Rattle.syntax_trees.specs.declared.tree.Syntax.{Syntax}
 use Rattle.grammar.specs.Many.{Many}
 
--- Iri = IRI | prefixed name
-pub data ReadsName : List Token → Node → List Token → Type 0 where
-  iri : {i : _} {rest : List Token} → ReadsName (token.Iri i ∷ rest) (node.Iri i) rest
-  prefixed : {p l : _} {rest : List Token} → ReadsName (token.Name p l ∷ rest) (node.Prefixed p l) rest
+-- Subject = variable | Iri, and an object the same; Iri = IRI | prefixed name
+pub data ReadsNode : List Token → Node → List Token → Type 0 where
+  variable : {v : _} {rest : List Token} → ReadsNode (token.Variable v ∷ rest) (node.Variable v) rest
+  iri : {i : _} {rest : List Token} → ReadsNode (token.Iri i ∷ rest) (node.Iri i) rest
+  prefixed : {p l : _} {rest : List Token} → ReadsNode (token.Name p l ∷ rest) (node.Prefixed p l) rest
 
--- Verb = Iri | 'a'
+-- Verb = variable | Iri | 'a'
 pub data ReadsVerb : List Token → Node → List Token → Type 0 where
-  name : {ts rest : List Token} {x : Node} → ReadsName ts x rest → ReadsVerb ts x rest
+  node : {ts rest : List Token} {x : Node} → ReadsNode ts x rest → ReadsVerb ts x rest
   type : {rest : List Token} → ReadsVerb (token.Word (97 ∷ []) ∷ rest) node.Type rest
 
 -- Objects = Object { ',' Object }
@@ -34,7 +37,7 @@ pub data ObjectLink : List Token → Bool → List Token → Type 0 where
   no_comma : {rest : List Token} → ObjectLink rest false rest
 
 abbrev pub ReadsObjects : List Token → List Node → List Token → Type 0
-ReadsObjects = Many ReadsName ObjectLink
+ReadsObjects = Many ReadsNode ObjectLink
 
 -- Verb Objects
 pub data ReadsProperty : List Token → Property → List Token → Type 0 where
@@ -51,7 +54,7 @@ ReadsProperties = Many ReadsProperty PropertyLink
 
 -- Same = Subject Verb Objects { ';' [Verb Objects] }
 pub data ReadsSame : List Token → SameSubject → List Token → Type 0 where
-  same : {ts r s : List Token} {x : Node} {ps : List Property} → ReadsName ts x r → ReadsProperties r ps s → ReadsSame ts (record { subject = x; properties = ps }) s
+  same : {ts r s : List Token} {x : Node} {ps : List Property} → ReadsNode ts x r → ReadsProperties r ps s → ReadsSame ts (record { subject = x; properties = ps }) s
 
 -- Triples = SameSubject [ '.' [Triples] ]
 pub data TripleLink : List Token → Bool → List Token → Type 0 where
@@ -71,10 +74,38 @@ pub data ReadsBlock : List Token → List SameSubject → List Token → Type 0 
 abbrev pub is_keyword : List ℕ → List ℕ → Bool
 is_keyword w k = bytes_eq (map to_ascii_lowercase w) (map to_ascii_lowercase k)
 
--- Operation = 'INSERT' 'DATA' '{' [Triples] '}'
+-- Change = 'DELETE' Quads ['INSERT' Quads] | 'INSERT' Quads, with the templates of both
+pub data ReadsChange : List Token → List SameSubject → List SameSubject → List Token → Type 0 where
+  delete : {w : List ℕ} {ts rest : List Token} {xs : List SameSubject} → is_keyword w (codes "DELETE") ≡ true → ReadsBlock ts xs rest → ReadsChange (token.Word w ∷ ts) xs [] rest
+  insert : {w : List ℕ} {ts rest : List Token} {xs : List SameSubject} → is_keyword w (codes "INSERT") ≡ true → ReadsBlock ts xs rest → ReadsChange (token.Word w ∷ ts) [] xs rest
+  both : {w v : List ℕ} {ts us rest : List Token} {xs ys : List SameSubject} → is_keyword w (codes "DELETE") ≡ true → ReadsBlock ts xs (token.Word v ∷ us)
+      → is_keyword v (codes "INSERT") ≡ true → ReadsBlock us ys rest → ReadsChange (token.Word w ∷ ts) xs ys rest
+
+-- the one triple of these properties, if they are one
+abbrev pub only_object : Node → Node → List Node → Option Triple
+only_object subject verb [] = None
+only_object subject verb (x ∷ y ∷ xs) = None
+only_object subject verb (x ∷ []) = Some (record { subject = subject; verb = verb; object = x })
+
+abbrev pub only_property : Node → List Property → Option Triple
+only_property subject [] = None
+only_property subject (p ∷ q ∷ ps) = None
+only_property subject (p ∷ []) = only_object subject p.verb p.objects
+
+-- the one triple of these subjects, if they are one
+abbrev pub only_triple : List SameSubject → Option Triple
+only_triple [] = None
+only_triple (x ∷ y ∷ xs) = None
+only_triple (x ∷ []) = only_property x.subject x.properties
+
+-- Operation = 'INSERT' 'DATA' Quads | 'DELETE' 'DATA' Quads | Change 'WHERE' Group, and the group has one triple pattern
 pub data ReadsOperation : List Token → Operation → List Token → Type 0 where
   insert_data : {w d : List ℕ} {ts rest : List Token} {xs : List SameSubject} → is_keyword w (codes "INSERT") ≡ true → is_keyword d (codes "DATA") ≡ true → ReadsBlock ts xs rest
       → ReadsOperation (token.Word w ∷ token.Word d ∷ ts) (operation.InsertData xs) rest
+  delete_data : {w d : List ℕ} {ts rest : List Token} {xs : List SameSubject} → is_keyword w (codes "DELETE") ≡ true → is_keyword d (codes "DATA") ≡ true → ReadsBlock ts xs rest
+      → ReadsOperation (token.Word w ∷ token.Word d ∷ ts) (operation.DeleteData xs) rest
+  modify : {w : List ℕ} {ts us rest : List Token} {xs ys zs : List SameSubject} {p : Triple} → ReadsChange ts xs ys (token.Word w ∷ us) → is_keyword w (codes "WHERE") ≡ true
+      → ReadsBlock us zs rest → only_triple zs ≡ Some p → ReadsOperation ts (operation.Modify xs ys p) rest
 
 -- Request = { 'PREFIX' namespace IRI } [ Operation [ ';' Request ] ], and nothing after it
 pub data ReadsRequest : List Token → List Step → Type 0 where

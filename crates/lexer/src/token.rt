@@ -22,6 +22,8 @@ pub enum Token<'a> {
         prefix: Piece<'a>,
         local: LocalPart<'a>,
     },
+    /// A variable, without its `?` or `$`.
+    Variable(Piece<'a>),
     /// A run of letters that is no prefix of a prefixed name.
     Word(Piece<'a>),
     Sign(Sign),

@@ -19,8 +19,9 @@ namespace_of (d ∷ ds) prefix = later (namespace_of ds prefix) (if bytes_eq d.p
 abbrev pub rdf_type : List ℕ
 rdf_type = codes "http://www.w3.org/1999/02/22-rdf-syntax-ns#type"
 
--- the IRI that a node names, if its prefix is declared
+-- the IRI that a node names, if it is a name and its prefix is declared
 abbrev pub iri_of : List Declaration → Node → Option (List ℕ)
 iri_of ds (node.Iri iri) = Some iri
 iri_of ds (node.Prefixed prefix local) = option_map (λ namespace. namespace ++ local) (namespace_of ds prefix)
 iri_of ds node.Type = Some rdf_type
+iri_of ds (node.Variable v) = None

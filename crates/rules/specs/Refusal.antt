@@ -6,13 +6,17 @@ use Rattle.meaning.specs.declared.update.Operation.{Operation}
 use Rattle.meaning.specs.declared.reply.Refusal.{Refusal}
 use Rattle.meaning.specs.declared.reply.Refusal.TheVariants as refusal
 use Rattle.syntax_trees.specs.declared.tree.Node.{Node}
+use Rattle.syntax_trees.specs.declared.tree.Node.TheVariants as node
+use Rattle.syntax_trees.specs.declared.tree.Triple.{Triple}
+use Rattle.syntax_trees.specs.declared.tree.Operation.{Operation as Written}
+use Rattle.syntax_trees.specs.declared.tree.Operation.TheVariants as written
 use Rattle.syntax_trees.specs.declared.tree.Step.{Step}
 use Rattle.syntax_trees.specs.declared.tree.Step.TheVariants as step
 use Rattle.syntax_trees.specs.declared.tree.Syntax.{Syntax}
 use Rattle.grammar.specs.Reads.{Reads}
 use Rattle.rules.specs.declared.names.Declaration.{Declaration}
 use Rattle.rules.specs.Names.{iri_of}
-use Rattle.rules.specs.Translation.{Triple, triples_of, translated}
+use Rattle.rules.specs.Translation.{operation_triples, translated}
 
 -- the order of the kinds
 abbrev pub place_of : Refusal → ℕ
@@ -28,27 +32,42 @@ abbrev pub iri_faults : Option (List ℕ) → List Refusal
 iri_faults None = refusal.Prefix ∷ []
 iri_faults (Some iri) = []
 
-abbrev pub node_faults : List Declaration → Node → List Refusal
-node_faults ds n = iri_faults (iri_of ds n)
+-- in data a variable has no place
+abbrev pub variable_faults : Bool → List Refusal
+variable_faults true = refusal.VariableInData ∷ []
+variable_faults false = []
 
-abbrev pub triple_faults : List Declaration → Triple → List Refusal
-triple_faults ds t = node_faults ds t.subject ++ node_faults ds t.verb ++ node_faults ds t.object
+abbrev pub node_faults : Bool → List Declaration → Node → List Refusal
+node_faults is_data ds (node.Variable v) = variable_faults is_data
+node_faults is_data ds (node.Iri i) = iri_faults (iri_of ds (node.Iri i))
+node_faults is_data ds (node.Prefixed p l) = iri_faults (iri_of ds (node.Prefixed p l))
+node_faults is_data ds node.Type = iri_faults (iri_of ds node.Type)
 
--- what the names of the steps that follow these declarations are refused for
-abbrev pub name_faults : List Declaration → List Step → List Refusal
-name_faults ds [] = []
-name_faults ds (step.Declare prefix iri ∷ steps) = name_faults (ds ++ record { prefix = prefix; iri = iri } ∷ []) steps
-name_faults ds (step.Do x ∷ steps) = flat_map (triple_faults ds) (triples_of x) ++ name_faults ds steps
+abbrev pub triple_faults : Bool → List Declaration → Triple → List Refusal
+triple_faults is_data ds t = node_faults is_data ds t.subject ++ node_faults is_data ds t.verb ++ node_faults is_data ds t.object
 
-abbrev pub is_prefix : Refusal → Bool
-is_prefix f = place_of f == 1
+-- whether an operation's triples are data
+abbrev pub is_data : Written → Bool
+is_data (written.InsertData xs) = true
+is_data (written.DeleteData xs) = true
+is_data (written.Modify xs ys p) = false
+
+-- what the steps that follow these declarations are refused for
+abbrev pub faults_after : List Declaration → List Step → List Refusal
+faults_after ds [] = []
+faults_after ds (step.Declare prefix iri ∷ steps) = faults_after (ds ++ record { prefix = prefix; iri = iri } ∷ []) steps
+faults_after ds (step.Do x ∷ steps) = flat_map (triple_faults (is_data x) ds) (operation_triples x) ++ faults_after ds steps
+
+-- whether one of these is of this kind
+abbrev pub has_kind : Refusal → List Refusal → Bool
+has_kind k faults = list_any (λ f. place_of f == place_of k) faults
 
 -- what a reading is refused for: never for its syntax, since the name of a declared prefix is always an IRI (Named); and its limits are
 -- 2^20 bytes and 256 operations
 abbrev pub has_fault : Refusal → Syntax → Bool
 has_fault refusal.Syntax s = false
-has_fault refusal.Prefix s = list_any is_prefix (name_faults [] s.steps)
-has_fault refusal.VariableInData s = false
+has_fault refusal.Prefix s = has_kind refusal.Prefix (faults_after [] s.steps)
+has_fault refusal.VariableInData s = has_kind refusal.VariableInData (faults_after [] s.steps)
 has_fault refusal.BlankInDelete s = false
 has_fault refusal.LabelReused s = false
 has_fault refusal.Limit s = nat_lt (2 ^ 20) s.length || nat_lt 256 (length (translated s.steps))

@@ -6,4 +6,4 @@
 
 mod tree;
 
-pub use tree::{Node, Operation, Property, SameSubject, Step, Syntax};
+pub use tree::{Node, Operation, Property, SameSubject, Step, Syntax, Triple};

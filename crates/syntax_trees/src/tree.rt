@@ -3,7 +3,7 @@
 use lexer::{IriText, LocalPart, Piece};
 use sets::Items;
 
-/// An IRI, a prefixed name, or `a` (SPARQL 1.1 Query, 19.8, productions 78 and 136).
+/// A variable, an IRI, a prefixed name, or `a` (SPARQL 1.1 Query, 19.8, productions 78, 106 and 136).
 #[derive(Drop)]
 pub enum Node<'a> {
     Iri(IriText<'a>),
@@ -12,6 +12,8 @@ pub enum Node<'a> {
         local: LocalPart<'a>,
     },
     Type,
+    /// A variable, without its `?` or `$`.
+    Variable(Piece<'a>),
 }
 
 /// A verb and its objects.
@@ -28,10 +30,25 @@ pub struct SameSubject<'a> {
     pub properties: Items<Property<'a>>,
 }
 
+/// A triple, or a triple pattern.
+#[derive(Drop)]
+pub struct Triple<'a> {
+    pub subject: Node<'a>,
+    pub verb: Node<'a>,
+    pub object: Node<'a>,
+}
+
 /// An operation (SPARQL 1.1 Update, section 3.1).
 #[derive(Drop)]
 pub enum Operation<'a> {
     InsertData(Items<SameSubject<'a>>),
+    DeleteData(Items<SameSubject<'a>>),
+    /// DELETE and INSERT with their templates, one of which may be missing and is then empty, and the one triple pattern of WHERE.
+    Modify {
+        delete: Items<SameSubject<'a>>,
+        insert: Items<SameSubject<'a>>,
+        pattern: Triple<'a>,
+    },
 }
 
 /// A part of a request: a declaration of a prefix, or an operation.
