@@ -5,11 +5,13 @@
 #![tactic(auto)]
 
 mod kept;
+mod reader;
 mod refused;
 mod shared_block;
 mod trying;
 mod waiting;
 
 pub use kept::{Kept, Pass, Subject};
+pub use reader::Reader;
 pub use refused::Refused;
 pub use shared_block::SharedBlock;

@@ -1,0 +1,96 @@
+//! A pass of a shared book as the source of one incarnation of a request.
+ghost use Rattle.std.specs.Prelude.{◌≡◌, []};
+ghost use Rattle.blocklock.specs.Passes.{IsIdleAt};
+
+use crate::kept::Pass;
+use crate::shared_block::SharedBlock;
+use block_machine::Reply;
+use datasets::Read;
+use dict::Id;
+use reads::{Answered, Source, Stop};
+use std::alloc::Global;
+use std::marker::Model;
+use std::sync::Wait;
+
+/// What answers the reads of one incarnation of a request: a shared book, by a pass, which it keeps until the run ends. To a contract it is
+/// its pass.
+#[derive(Drop)]
+pub struct Reader<'s, 'a, R: Wait> {
+    rt: &'s R,
+    alloc: Global,
+    shared: &'s SharedBlock<'a>,
+    pass: Pass<'a>,
+    place: usize,
+    incarnation: u64,
+}
+
+impl<'s, 'a, R: Wait> Model for Reader<'s, 'a, R> {
+    ghost use Rattle.std.specs.Prelude.{◌≡◌};
+    ghost use Rattle.shared.specs.Calls.{Viewed};
+
+    ghost Value = { Viewed };
+
+    ghost view = { λ r. r.pass };
+
+    ghost invariant = { λ r. r.pass.table ≡ r.shared.now };
+}
+
+impl<'s, 'a, R: Wait> Reader<'s, 'a, R> {
+    /// The source of incarnation `incarnation` of the request at a place of the block, counted from 0, by a pass.
+    pub fn new(
+        rt: &'s R,
+        alloc: Global,
+        shared: &'s SharedBlock<'a>,
+        pass: Pass<'a>,
+        place: usize,
+        incarnation: u64,
+    ) -> Self
+        requires { pass.table ≡ shared.now }
+        ensures { result ≡ pass.entry }
+    {
+        Reader {
+            rt,
+            alloc,
+            shared,
+            pass,
+            place,
+            incarnation,
+        }
+    }
+
+    /// The pass again.
+    pub fn into_pass(self) -> Pass<'a>
+        ensures { result ≡ self.entry }
+    {
+        self.pass
+    }
+}
+
+impl<'s, 'a, R: Wait> Source for Reader<'s, 'a, R> {
+    ghost use Rattle.std.specs.Prelude.{[]};
+    ghost use Rattle.shared.specs.Calls.{Viewed};
+
+    // What a shared book may answer depends on the moment.
+    ghost may = { λ reader read answer. Unit {0} };
+
+    // The pass, but for what it has seen.
+    ghost Subject = { Viewed };
+
+    ghost subject = { λ reader. record reader { seen = [] } };
+
+    fn ask(&mut self, read: &Read<Id>) -> Result<Answered, Stop> {
+        let reply = self.shared.read(
+            self.rt,
+            self.alloc,
+            &mut self.pass,
+            self.place,
+            self.incarnation,
+            read,
+        )?;
+        match reply {
+            Reply::Answered(answer) => Ok(answer),
+            Reply::Blocked(place) => Err(Stop::Blocked(place)),
+            _ => Err(Stop::Stale),
+        }
+    }
+}
