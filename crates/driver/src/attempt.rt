@@ -1,21 +1,19 @@
 //! One incarnation of a request, from its take to its commit.
-ghost use Rattle.std.specs.Prelude.{◌≡◌, ◌<◌, ◌^◌, length, map, Some, IfOk, IfSome, slice_get};
+ghost use Rattle.std.specs.Prelude.{◌≡◌, ◌<◌, ◌^◌, length, Some, IfOk, IfSome, slice_get};
 ghost use Rattle.update.specs.Asked.{IsShort};
-ghost use Rattle.update.specs.Notes.{quad_of, name_of};
 ghost use Rattle.shared.specs.Calls.{IsSoundAt};
 ghost use Rattle.shared.specs.Duty.{IsPassFor};
 ghost use Rattle.driver.specs.Duty.{AreShort};
 
 use block_machine::Reply;
 use book::Request;
-use datasets::{Quad, Read};
-use dict::{Dict, Id};
-use reads::{Answered, Finished, View};
-use shared::{Pass, SharedBlock};
+use dict::Dict;
+use reads::{Finished, Stop, View};
+use shared::{Pass, Reader, SharedBlock};
 use std::alloc::{AllocError, Global};
 use std::marker::Model;
 use std::sync::Wait;
-use update::{AskedName, AskedQuad, Sought, finish, scan_for, sought_by};
+use update::execute;
 
 /// Which incarnation of which request is run.
 #[derive(Clone, Copy)]
@@ -44,93 +42,29 @@ impl<'s, 'a, R: Wait> Model for Driver<'s, 'a, R> {
 }
 
 impl<'a, R: Wait> Driver<'_, 'a, R> {
-    // The answer to a read, or nothing where the machine gives none.
-    fn ask(
+    // The finished run of a request, or nothing where a read was not answered, and the pass again.
+    fn executed(
         &self,
-        pass: &mut Pass<'a>,
-        turn: Turn,
-        read: &Read<Id>,
-    ) -> Result<Option<Answered>, AllocError>
-        requires { IsPassFor self.now pass.old }
-        ensures { IsPassFor self.now pass.new }
-    {
-        let Turn { place, incarnation } = turn;
-        let reply = self
-            .shared
-            .read(self.rt, self.alloc, pass, place, incarnation, read)?;
-        match reply {
-            Reply::Answered(answer) => Ok(Some(answer)),
-            _ => Ok(None),
-        }
-    }
-
-    // Asks for each quad.
-    fn ask_quads(
-        &self,
-        pass: &mut Pass<'a>,
-        turn: Turn,
-        quads: Vec<Quad<Id>>,
-    ) -> Result<Option<Vec<AskedQuad>>, AllocError>
-        requires { IsPassFor self.now pass.old }
-        ensures pass { IsPassFor self.now pass.new }
-        ensures asked { IfOk result (λ found. IfSome found (λ asked. map quad_of asked.items ≡ quads.items)) }
-    {
-        let mut asked = Vec::new(self.alloc);
-        for quad in quads {
-            match self.ask(pass, turn, &scan_for(quad))? {
-                Some(answer) => asked.push(AskedQuad { quad, answer })?,
-                None => return Ok(None),
-            }
-        }
-        Ok(Some(asked))
-    }
-
-    // Asks for each graph name.
-    fn ask_names(
-        &self,
-        pass: &mut Pass<'a>,
-        turn: Turn,
-        names: Vec<Id>,
-    ) -> Result<Option<Vec<AskedName>>, AllocError>
-        requires { IsPassFor self.now pass.old }
-        ensures pass { IsPassFor self.now pass.new }
-        ensures asked { IfOk result (λ found. IfSome found (λ asked. map name_of asked.items ≡ names.items)) }
-    {
-        let mut asked = Vec::new(self.alloc);
-        for name in names {
-            match self.ask(pass, turn, &Read::GraphIs(name))? {
-                Some(answer) => asked.push(AskedName { name, answer })?,
-                None => return Ok(None),
-            }
-        }
-        Ok(Some(asked))
-    }
-
-    // The finished run of a request, or nothing where a read was not answered.
-    fn finished(
-        &self,
-        pass: &mut Pass<'a>,
+        pass: Pass<'a>,
         turn: Turn,
         request: &Request,
-    ) -> Result<Option<Finished>, AllocError>
-        requires pass { IsPassFor self.now pass.old }
+    ) -> Result<(Pass<'a>, Option<Finished>), AllocError>
+        requires pass { IsPassFor self.now pass }
         requires place { turn.place < 2 ^ 32 }
         requires is { slice_get self.now.subject.block turn.place ≡ Some request.now }
         requires short { IsShort request.now }
-        ensures pass { IsPassFor self.now pass.new }
-        ensures sound { IfOk result (λ found. IfSome found (λ run. IsSoundAt self.now.subject turn.place run)) }
+        ensures pass { IfOk result (λ r. IsPassFor self.now r.0) }
+        ensures sound { IfOk result (λ r. IfSome r.1 (λ run. IsSoundAt self.now.subject turn.place run)) }
     {
-        let place = turn.place as u32;
-        let terms = self.terms;
-        let Sought { quads, names } = sought_by(self.alloc, terms, place, request)?;
-        let Some(quads) = self.ask_quads(pass, turn, quads)? else {
-            return Ok(None);
-        };
-        let Some(names) = self.ask_names(pass, turn, names)? else {
-            return Ok(None);
-        };
-        let run = finish(self.alloc, terms, place, request, quads, names)?;
-        Ok(Some(run))
+        let Turn { place, incarnation } = turn;
+        let mut reader = Reader::new(self.rt, self.alloc, self.shared, pass, place, incarnation);
+        let execution = execute(self.alloc, self.terms, place as u32, request, &mut reader);
+        let pass = reader.into_pass();
+        match execution {
+            Ok(execution) => Ok((pass, Some(execution.into_finished()))),
+            Err(Stop::Memory) => Err(AllocError),
+            Err(_) => Ok((pass, None)),
+        }
     }
 
     // Publishes a finished run, or gives the request up where there is none. It answers how many reads are to be checked.
@@ -182,22 +116,23 @@ impl<'a, R: Wait> Driver<'_, 'a, R> {
     }
 
     /// One incarnation of the request at a place, by the worker of a pass: it is committed where nothing stands in its way.
-    pub fn attempt(&self, pass: &mut Pass<'a>, place: usize) -> Result<(), AllocError>
-        requires pass { IsPassFor self.now pass.old }
+    pub fn attempt(&self, pass: Pass<'a>, place: usize) -> Result<Pass<'a>, AllocError>
+        requires pass { IsPassFor self.now pass }
         requires place { place < length self.now.subject.block }
         requires size { length self.now.subject.block < 2 ^ 32 }
         requires short { AreShort self.now.subject.block }
-        ensures { IsPassFor self.now pass.new }
+        ensures { IfOk result (IsPassFor self.now) }
     {
-        let reply = self.shared.take(self.rt, self.alloc, pass, place)?;
+        let mut pass = pass;
+        let reply = self.shared.take(self.rt, self.alloc, &mut pass, place)?;
         let Reply::Taken(incarnation) = reply else {
-            return Ok(());
+            return Ok(pass);
         };
         let turn = Turn { place, incarnation };
-        let found = self.finished(pass, turn, &self.block[place])?;
-        match self.publish(pass, turn, found)? {
-            Some(reads) => self.settle(pass, turn, reads),
-            None => Ok(()),
+        let (mut pass, found) = self.executed(pass, turn, &self.block[place])?;
+        if let Some(reads) = self.publish(&mut pass, turn, found)? {
+            self.settle(&mut pass, turn, reads)?;
         }
+        Ok(pass)
     }
 }

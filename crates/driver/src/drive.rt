@@ -1,5 +1,5 @@
 //! The whole block.
-ghost use Rattle.std.specs.Prelude.{◌≡◌, ◌≤◌, ◌<◌, ◌^◌, length, vec_len, All, IfOk};
+ghost use Rattle.std.specs.Prelude.{◌≡◌, ◌≤◌, ◌<◌, ◌^◌, length, vec_len, All, IfOk, OnOk};
 ghost use Rattle.reads.specs.Reads.{IsDataset};
 ghost use Rattle.book.specs.Run.{state_of};
 ghost use Rattle.shared.specs.Duty.{IsPassFor};
@@ -32,11 +32,15 @@ impl<'a, R: Wait> Driver<'_, 'a, R> {
         requires place { place < length self.now.subject.block }
         requires size { length self.now.subject.block < 2 ^ 32 }
         requires short { AreShort self.now.subject.block }
-        ensures count { vec_len passes.new ≡ vec_len passes.old }
-        ensures passes { All (IsPassFor self.now) passes.new.items }
+        ensures count { OnOk result (vec_len passes.new ≡ vec_len passes.old) }
+        ensures passes { OnOk result (All (IsPassFor self.now) passes.new.items) }
     {
         let worker = place % passes.len();
-        self.attempt(&mut passes[worker], place)
+        let last = passes.len() - 1;
+        let pass = self.attempt(passes.swap_remove(worker), place)?;
+        passes.push(pass)?;
+        passes.swap(worker, last);
+        Ok(())
     }
 
     // Runs the block to its end: where it returns, the first pass has seen all requests committed.
@@ -45,8 +49,8 @@ impl<'a, R: Wait> Driver<'_, 'a, R> {
         requires passes { All (IsPassFor self.now) passes.old.items }
         requires size { length self.now.subject.block < 2 ^ 32 }
         requires short { AreShort self.now.subject.block }
-        ensures some { 0 < vec_len passes.new }
-        ensures passes { All (IsPassFor self.now) passes.new.items }
+        ensures some { OnOk result (0 < vec_len passes.new) }
+        ensures passes { OnOk result (All (IsPassFor self.now) passes.new.items) }
         ensures whole { IfOk result (λ _. HasSeenAll self.now passes.new.items) }
     {
         let rt = self.rt;

@@ -1,38 +1,58 @@
 //! Calls that never wait, of one worker alone.
-ghost use Rattle.std.specs.Prelude.{◌≡◌, map, IfOk, IfSome};
-ghost use Rattle.update.specs.Notes.{quad_of};
+ghost use Rattle.std.specs.Prelude.{◌≡◌, IfOk};
 ghost use Rattle.shared.specs.Duty.{IsPassFor};
 
 use crate::blocks::is_short;
 use crate::topic::Topic;
 use block_machine::Reply;
-use datasets::Quad;
+use datasets::Read;
 use dict::Id;
+use reads::{Answered, Source, Stop};
 use shared::{Pass, Refused, SharedBlock};
 use std::alloc::Global;
-use update::{AskedQuad, finish, scan_for, sought_by};
+use std::marker::Model;
+use update::execute;
 
-// What the book says of each quad to incarnation 0 of the request, or nothing where it does not answer.
-fn ask<'a>(
+// What answers the reads of incarnation 0 of a request by calls that never wait.
+#[derive(Drop)]
+struct Asking<'s, 'a> {
     alloc: Global,
-    shared: &SharedBlock<'a>,
-    pass: &mut Pass<'a>,
+    shared: &'s SharedBlock<'a>,
+    pass: Pass<'a>,
     place: usize,
-    quads: Vec<Quad<Id>>,
-) -> Result<Option<Vec<AskedQuad>>, Refused>
-    requires { pass.old.table ≡ shared.now }
-    ensures same { IfOk result (λ _. pass.new ≡ record pass.old { seen = pass.new.seen }) }
-    ensures asked { IfOk result (λ found. IfSome found (λ asked. map quad_of asked.items ≡ quads.items)) }
-{
-    let mut asked = Vec::new(alloc);
-    for quad in quads {
-        let reply = shared.try_read(alloc, pass, place, 0, &scan_for(quad))?;
-        let Reply::Answered(answer) = reply else {
-            return Ok(None);
-        };
-        asked.push(AskedQuad { quad, answer })?;
+}
+
+impl<'s, 'a> Model for Asking<'s, 'a> {
+    ghost use Rattle.std.specs.Prelude.{◌≡◌};
+    ghost use Rattle.shared.specs.Calls.{Viewed};
+
+    ghost Value = { Viewed };
+
+    ghost view = { λ a. a.pass };
+
+    ghost invariant = { λ a. a.pass.table ≡ a.shared.now };
+}
+
+impl<'s, 'a> Source for Asking<'s, 'a> {
+    ghost use Rattle.std.specs.Prelude.{[]};
+    ghost use Rattle.shared.specs.Calls.{Viewed};
+
+    ghost may = { λ asking read answer. Unit {0} };
+
+    ghost Subject = { Viewed };
+
+    ghost subject = { λ asking. record asking { seen = [] } };
+
+    fn ask(&mut self, read: &Read<Id>) -> Result<Answered, Stop> {
+        match self
+            .shared
+            .try_read(self.alloc, &mut self.pass, self.place, 0, read)
+        {
+            Ok(Reply::Answered(answer)) => Ok(answer),
+            Ok(_) | Err(Refused::Busy) => Err(Stop::Stale),
+            Err(Refused::OutOfMemory) => Err(Stop::Memory),
+        }
     }
-    Ok(Some(asked))
 }
 
 /// Runs incarnation 0 of the request and publishes it.
@@ -40,26 +60,29 @@ pub fn publish<'a>(
     alloc: Global,
     shared: &SharedBlock<'a>,
     topic: &Topic<'a>,
-    pass: &mut Pass<'a>,
+    pass: Pass<'a>,
     place: usize,
-) -> Result<Reply, Refused>
-    requires { IsPassFor (record { table = shared.now; subject = topic.now }) pass.old }
-    ensures { IfOk result (λ _. IsPassFor (record { table = shared.now; subject = topic.now }) pass.new) }
+) -> Result<(Pass<'a>, Reply), Refused>
+    requires { IsPassFor (record { table = shared.now; subject = topic.now }) pass }
+    ensures { IfOk result (λ r. IsPassFor (record { table = shared.now; subject = topic.now }) r.0) }
 {
     let Some(request) = topic.block.get(place) else {
-        return Ok(Reply::Stale);
+        return Ok((pass, Reply::Stale));
     };
     if place >= 1000 || !is_short(request) {
-        return Ok(Reply::Stale);
+        return Ok((pass, Reply::Stale));
     }
-    let number = place as u32;
-    let sought = sought_by(alloc, topic.terms, number, request)?;
-    if !sought.names.is_empty() {
-        return Ok(Reply::Stale);
-    }
-    let Some(quads) = ask(alloc, shared, pass, place, sought.quads)? else {
-        return Ok(Reply::Stale);
+    let mut asking = Asking {
+        alloc,
+        shared,
+        pass,
+        place,
     };
-    let run = finish(alloc, topic.terms, number, request, quads, Vec::new(alloc))?;
-    shared.try_publish(alloc, pass, place, 0, &run)
+    let execution = execute(alloc, topic.terms, place as u32, request, &mut asking);
+    let mut pass = asking.pass;
+    let Ok(execution) = execution else {
+        return Ok((pass, Reply::Stale));
+    };
+    let reply = shared.try_publish(alloc, &mut pass, place, 0, execution.finished())?;
+    Ok((pass, reply))
 }

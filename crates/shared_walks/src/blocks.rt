@@ -39,7 +39,7 @@ fn insertion(alloc: Global, both: bool) -> Result<Request, AllocError> {
         quads.push(template(2))?;
     }
     let mut operations = Items::new(alloc);
-    operations.push(Operation::InsertData(quads))?;
+    operations.push(Operation::insert_data(alloc, quads))?;
     Ok(Ok(operations))
 }
 

@@ -64,14 +64,18 @@ fn commits<'a>(
     alloc: Global,
     shared: &SharedBlock<'a>,
     topic: &Topic<'a>,
-    pass: &mut Pass<'a>,
+    mut pass: Pass<'a>,
 ) -> Result<bool, Refused>
-    requires { IsPassFor (record { table = shared.now; subject = topic.now }) pass.old }
+    requires { IsPassFor (record { table = shared.now; subject = topic.now }) pass }
 {
-    let mut right = matches!(&shared.try_take(alloc, pass, 0)?, Reply::Taken(0));
-    right &= matches!(&publish(alloc, shared, topic, pass, 0)?, Reply::Published);
-    right &= matches!(&shared.try_begin(alloc, pass, 0, 0)?, Reply::Begun);
-    right &= matches!(&shared.try_commit(alloc, pass, 0)?, Reply::Committed);
+    let mut right = matches!(&shared.try_take(alloc, &mut pass, 0)?, Reply::Taken(0));
+    let (mut pass, published) = publish(alloc, shared, topic, pass, 0)?;
+    right &= matches!(&published, Reply::Published);
+    right &= matches!(&shared.try_begin(alloc, &mut pass, 0, 0)?, Reply::Begun);
+    right &= matches!(
+        &shared.try_commit(alloc, &mut pass, 0)?,
+        Reply::Committed
+    );
     Ok(right)
 }
 
@@ -86,8 +90,8 @@ fn front_counts_others(rt: HostRuntime) -> Result<(), AllocError> {
         base: &base,
         block: &block,
     };
-    let (shared, mut first, mut second) = pair(alloc, &topic)?;
-    assert!(rt; matches!(commits(alloc, &shared, &topic, &mut second), Ok(true)));
+    let (shared, mut first, second) = pair(alloc, &topic)?;
+    assert!(rt; matches!(commits(alloc, &shared, &topic, second), Ok(true)));
     assert!(rt; shared.front(&rt, &mut first) == 1);
     Ok(())
 }
@@ -97,17 +101,24 @@ fn all_seven<'a>(
     alloc: Global,
     shared: &SharedBlock<'a>,
     topic: &Topic<'a>,
-    pass: &mut Pass<'a>,
+    mut pass: Pass<'a>,
 ) -> Result<bool, Refused>
-    requires { IsPassFor (record { table = shared.now; subject = topic.now }) pass.old }
+    requires { IsPassFor (record { table = shared.now; subject = topic.now }) pass }
 {
-    let mut right = matches!(&shared.try_take(alloc, pass, 0)?, Reply::Taken(0));
-    right &= matches!(&publish(alloc, shared, topic, pass, 0)?, Reply::Published);
-    right &= matches!(&shared.try_begin(alloc, pass, 0, 0)?, Reply::Begun);
-    right &= matches!(&shared.try_check(alloc, pass, 0, 0)?, Reply::Passed);
-    right &= matches!(&shared.try_commit(alloc, pass, 0)?, Reply::Committed);
-    right &= matches!(&shared.try_take(alloc, pass, 1)?, Reply::Taken(0));
-    right &= matches!(&shared.try_give_up(alloc, pass, 1, 0)?, Reply::Given);
+    let mut right = matches!(&shared.try_take(alloc, &mut pass, 0)?, Reply::Taken(0));
+    let (mut pass, published) = publish(alloc, shared, topic, pass, 0)?;
+    right &= matches!(&published, Reply::Published);
+    right &= matches!(&shared.try_begin(alloc, &mut pass, 0, 0)?, Reply::Begun);
+    right &= matches!(&shared.try_check(alloc, &mut pass, 0, 0)?, Reply::Passed);
+    right &= matches!(
+        &shared.try_commit(alloc, &mut pass, 0)?,
+        Reply::Committed
+    );
+    right &= matches!(&shared.try_take(alloc, &mut pass, 1)?, Reply::Taken(0));
+    right &= matches!(
+        &shared.try_give_up(alloc, &mut pass, 1, 0)?,
+        Reply::Given
+    );
     Ok(right)
 }
 
@@ -122,8 +133,8 @@ fn calls_succeed(rt: HostRuntime) -> Result<(), AllocError> {
         base: &base,
         block: &block,
     };
-    let (shared, mut first, _second) = pair(alloc, &topic)?;
-    assert!(rt; matches!(all_seven(alloc, &shared, &topic, &mut first), Ok(true)));
+    let (shared, first, _second) = pair(alloc, &topic)?;
+    assert!(rt; matches!(all_seven(alloc, &shared, &topic, first), Ok(true)));
     Ok(())
 }
 

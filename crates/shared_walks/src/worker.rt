@@ -1,25 +1,32 @@
 //! One worker's calls, with a line for each that was answered.
-ghost use Rattle.std.specs.Prelude.{◌≡◌, ◌<◌, map, IfOk, IfSome};
-ghost use Rattle.update.specs.Notes.{quad_of};
+ghost use Rattle.std.specs.Prelude.{◌≡◌, ◌<◌, IfOk};
 ghost use Rattle.blocklock.specs.Passes.{IsIdleAt};
+ghost use Rattle.shared.specs.Calls.{IsSoundAt};
 ghost use Rattle.shared.specs.Duty.{IsPassFor};
 
 use crate::blocks::is_short;
 use crate::lines::{Kind, Line, told_by};
 use crate::topic::Topic;
 use block_machine::Reply;
-use datasets::{Quad, Read};
+use datasets::Read;
 use dict::Id;
-use reads::Answered;
+use reads::{Answered, Finished, Source, Stop};
 use shared::{Pass, SharedBlock};
 use std::alloc::{AllocError, Global};
 use std::marker::Model;
 use std::sync::Wait;
 use std::thread::yield_now;
-use update::{AskedQuad, finish, scan_for, sought_by};
+use update::execute;
 
 /// A pass, and what its worker was answered.
 pub type Worked<'a> = (Pass<'a>, Vec<Line>);
+
+// Which incarnation of which request is run.
+#[derive(Clone, Copy)]
+struct Turn {
+    place: usize,
+    incarnation: u64,
+}
 
 /// A worker of a shared book.
 #[derive(Drop)]
@@ -29,6 +36,8 @@ pub struct Worker<'s, 'a, R: Wait> {
     shared: &'s SharedBlock<'a>,
     topic: &'s Topic<'a>,
     pass: Pass<'a>,
+    // What it reads for.
+    turn: Turn,
     lines: Vec<Line>,
 }
 
@@ -40,13 +49,6 @@ impl<'s, 'a, R: Wait> Model for Worker<'s, 'a, R> {
     ghost view = { λ w. record { table = w.shared.now; subject = w.topic.now } };
 
     ghost invariant = { λ w. IsPassFor (record { table = w.shared.now; subject = w.topic.now }) w.pass };
-}
-
-// Which incarnation of which request is run.
-#[derive(Clone, Copy)]
-struct Turn {
-    place: usize,
-    incarnation: u64,
 }
 
 impl<'s, 'a, R: Wait> Worker<'s, 'a, R> {
@@ -67,6 +69,10 @@ impl<'s, 'a, R: Wait> Worker<'s, 'a, R> {
             shared,
             topic,
             pass,
+            turn: Turn {
+                place: 0,
+                incarnation: 0,
+            },
             lines: Vec::new(alloc),
         }
     }
@@ -88,68 +94,33 @@ impl<'s, 'a, R: Wait> Worker<'s, 'a, R> {
         Ok(())
     }
 
-    // What the book says, or nothing where it does not answer.
-    fn read(&mut self, turn: Turn, read: Read<Id>) -> Result<Option<Answered>, AllocError>
-        ensures { self.new ≡ self.old }
-    {
-        let Turn { place, incarnation } = turn;
-        let reply = self.shared.read(
-            self.rt,
-            self.alloc,
-            &mut self.pass,
-            place,
-            incarnation,
-            &read,
-        )?;
-        self.note(Kind::Read, turn, &reply)?;
-        match reply {
-            Reply::Answered(answer) => Ok(Some(answer)),
-            _ => Ok(None),
-        }
-    }
-
-    // What the book says of each quad, or nothing where it does not answer.
-    fn ask(
-        &mut self,
-        turn: Turn,
-        quads: Vec<Quad<Id>>,
-    ) -> Result<Option<Vec<AskedQuad>>, AllocError>
-        ensures same { self.new ≡ self.old }
-        ensures asked { IfOk result (λ found. IfSome found (λ asked. map quad_of asked.items ≡ quads.items)) }
-    {
-        let mut asked = Vec::new(self.alloc);
-        for quad in quads {
-            match self.read(turn, scan_for(quad))? {
-                Some(answer) => asked.push(AskedQuad { quad, answer })?,
-                None => return Ok(None),
-            }
-        }
-        Ok(Some(asked))
-    }
-
     // Publishes the request's run, or gives the request up. It answers how many reads are to be checked.
     fn execute(&mut self, turn: Turn) -> Result<Option<usize>, AllocError>
         ensures { self.new ≡ self.old }
     {
         let topic = self.topic;
-        let terms = topic.terms;
         let Some(request) = topic.block.get(turn.place) else {
             return Ok(None);
         };
         if turn.place >= 1000 || !is_short(request) {
             return Ok(None);
         }
-        let place = turn.place as u32;
-        let sought = sought_by(self.alloc, terms, place, request)?;
-        if !sought.names.is_empty() {
-            return Ok(None);
+        self.turn = turn;
+        match execute(self.alloc, topic.terms, turn.place as u32, request, self) {
+            Ok(execution) => self.publish(turn, &execution.into_finished()),
+            Err(Stop::Memory) => Err(AllocError),
+            Err(_) => {
+                self.give_up(turn)?;
+                Ok(None)
+            }
         }
-        let Some(quads) = self.ask(turn, sought.quads)? else {
-            self.give_up(turn)?;
-            return Ok(None);
-        };
-        let names = Vec::new(self.alloc);
-        let run = finish(self.alloc, terms, place, request, quads, names)?;
+    }
+
+    // Publishes a run. It answers how many reads are to be checked.
+    fn publish(&mut self, turn: Turn, run: &Finished) -> Result<Option<usize>, AllocError>
+        requires { IsSoundAt self.old.subject turn.place run.now }
+        ensures { self.new ≡ self.old }
+    {
         let reads = run.transcript.len();
         let reply = self.shared.publish(
             self.rt,
@@ -157,7 +128,7 @@ impl<'s, 'a, R: Wait> Worker<'s, 'a, R> {
             &mut self.pass,
             turn.place,
             turn.incarnation,
-            &run,
+            run,
         )?;
         self.note(Kind::Publish, turn, &reply)?;
         Ok(Some(reads))
@@ -303,5 +274,33 @@ impl<'s, 'a, R: Wait> Worker<'s, 'a, R> {
         }
         let Worker { pass, lines, .. } = self;
         Ok((pass, lines))
+    }
+}
+
+impl<'s, 'a, R: Wait> Source for Worker<'s, 'a, R> {
+    ghost use Rattle.shared.specs.Duty.{Duty};
+
+    ghost may = { λ worker read answer. Unit {0} };
+
+    ghost Subject = { Duty };
+
+    ghost subject = { λ worker. worker };
+
+    fn ask(&mut self, read: &Read<Id>) -> Result<Answered, Stop> {
+        let turn = self.turn;
+        let Turn { place, incarnation } = turn;
+        let reply = self.shared.read(
+            self.rt,
+            self.alloc,
+            &mut self.pass,
+            place,
+            incarnation,
+            read,
+        )?;
+        self.note(Kind::Read, turn, &reply)?;
+        match reply {
+            Reply::Answered(answer) => Ok(answer),
+            _ => Err(Stop::Stale),
+        }
     }
 }

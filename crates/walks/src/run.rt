@@ -1,14 +1,15 @@
 //! The steps of one worker at one request.
-ghost use Rattle.std.specs.Prelude.{◌≡◌, map, IsTrue, IfOk, IfSome};
+ghost use Rattle.std.specs.Prelude.{IsTrue};
 ghost use Rattle.update.specs.Asked.{IsShort};
-ghost use Rattle.update.specs.Notes.{quad_of};
 
 use block_machine::{Event, Reply};
 use book::{Book, Request};
-use datasets::Quad;
+use datasets::Read;
 use dict::Id;
+use reads::{Answered, Source, Stop};
 use std::alloc::{AllocError, Global};
-use update::{AskedQuad, finish, scan_for, sought_by};
+use std::marker::Model;
+use update::execute;
 
 /// Which incarnation of which request is run by whom.
 #[derive(Clone, Copy)]
@@ -18,26 +19,42 @@ pub struct Turn {
     pub incarnation: u64,
 }
 
-// What the book says of each quad, or nothing where it does not answer.
-fn ask(
+// What answers the reads of a turn: a book, by its steps.
+#[derive(Drop)]
+struct Asking<'a> {
     alloc: Global,
-    book: &mut Book<'_>,
+    book: Book<'a>,
     turn: Turn,
-    quads: Vec<Quad<Id>>,
-) -> Result<Option<Vec<AskedQuad>>, AllocError>
-    ensures terms { IfOk result (λ _. book.new.terms ≡ book.old.terms) }
-    ensures block { IfOk result (λ _. book.new.block ≡ book.old.block) }
-    ensures asked { IfOk result (λ found. IfSome found (λ asked. map quad_of asked.items ≡ quads.items)) }
-{
-    let mut asked = Vec::new(alloc);
-    for quad in quads {
-        let event = Event::Read(turn.place, turn.incarnation, scan_for(quad));
-        let Reply::Answered(answer) = book.step_owned(alloc, turn.worker, event)? else {
-            return Ok(None);
-        };
-        asked.push(AskedQuad { quad, answer })?;
+}
+
+impl<'a> Model for Asking<'a> {
+    ghost use Rattle.book.specs.Run.{Run};
+
+    ghost Value = { Run };
+
+    ghost view = { λ a. a.book };
+}
+
+impl<'a> Source for Asking<'a> {
+    ghost use Rattle.std.specs.Prelude.{[]};
+    ghost use Rattle.book.specs.Run.{Run};
+
+    ghost may = { λ asking read answer. Unit {0} };
+
+    // The book, but for its history.
+    ghost Subject = { Run };
+
+    ghost subject = { λ asking. record asking { history = [] } };
+
+    fn ask(&mut self, read: &Read<Id>) -> Result<Answered, Stop> {
+        let turn = self.turn;
+        let event = Event::Read(turn.place, turn.incarnation, *read);
+        match self.book.step_owned(self.alloc, turn.worker, event)? {
+            Reply::Answered(answer) => Ok(answer),
+            Reply::Blocked(place) => Err(Stop::Blocked(place)),
+            _ => Err(Stop::Stale),
+        }
     }
-    Ok(Some(asked))
 }
 
 fn is_short(request: &Request) -> bool
@@ -49,27 +66,33 @@ fn is_short(request: &Request) -> bool
     }
 }
 
-/// Runs the request, whose quads are all in the default graph, and publishes the run.
-pub fn execute(alloc: Global, book: &mut Book<'_>, turn: Turn) -> Result<Reply, AllocError> {
+/// Runs the request and publishes the run.
+pub fn run<'a>(
+    alloc: Global,
+    mut book: Book<'a>,
+    turn: Turn,
+) -> Result<(Book<'a>, Reply), AllocError> {
     let terms = book.terms();
     let block = book.block();
     let Some(request) = block.get(turn.place) else {
-        return Ok(Reply::Stale);
+        return Ok((book, Reply::Stale));
     };
     if turn.place >= 1000 || !is_short(request) {
-        return Ok(Reply::Stale);
+        return Ok((book, Reply::Stale));
     }
-    let place = turn.place as u32;
-    let sought = sought_by(alloc, terms, place, request)?;
-    if !sought.names.is_empty() {
-        return Ok(Reply::Stale);
-    }
-    let Some(quads) = ask(alloc, book, turn, sought.quads)? else {
-        return Ok(Reply::Stale);
+    let mut asking = Asking { alloc, book, turn };
+    let execution = execute(alloc, terms, turn.place as u32, request, &mut asking);
+    book = asking.book;
+    let Ok(execution) = execution else {
+        return Ok((book, Reply::Stale));
     };
-    let run = finish(alloc, terms, place, request, quads, Vec::new(alloc))?;
-    let event = Event::Publish(turn.place, turn.incarnation, Some(run));
-    book.step_owned(alloc, turn.worker, event)
+    let event = Event::Publish(
+        turn.place,
+        turn.incarnation,
+        Some(execution.into_finished()),
+    );
+    let reply = book.step_owned(alloc, turn.worker, event)?;
+    Ok((book, reply))
 }
 
 /// Takes a request.

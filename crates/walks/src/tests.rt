@@ -1,5 +1,5 @@
 //! Two insertions, the second request of what the first one inserts and of one quad more.
-use crate::run::{Turn, begin, check, commit, execute, take};
+use crate::run::{Turn, begin, check, commit, run, take};
 use block_machine::Reply;
 use book::{Book, Request};
 use datasets::Id;
@@ -39,7 +39,7 @@ fn insertion(alloc: Global, both: bool) -> Result<Request, AllocError> {
         quads.push(template(2))?;
     }
     let mut operations = Items::new(alloc);
-    operations.push(Operation::InsertData(quads))?;
+    operations.push(Operation::insert_data(alloc, quads))?;
     Ok(Ok(operations))
 }
 
@@ -59,33 +59,38 @@ fn turn(worker: u32, place: usize, incarnation: u64) -> Turn {
 }
 
 // The second request runs before the first has published, and is checked after it.
-fn aborted(alloc: Global, book: &mut Book<'_>) -> Result<bool, AllocError> {
+fn aborted<'a>(alloc: Global, book: Book<'a>) -> Result<(Book<'a>, bool), AllocError> {
+    let mut book = book;
     let late = turn(1, 1, 0);
     let early = turn(0, 0, 0);
-    let mut right = matches!(&take(alloc, book, 1, 1)?, Reply::Taken(0));
-    right &= matches!(&execute(alloc, book, late)?, Reply::Published);
-    right &= matches!(&take(alloc, book, 0, 0)?, Reply::Taken(0));
-    right &= matches!(&execute(alloc, book, early)?, Reply::Published);
-    right &= matches!(&begin(alloc, book, late)?, Reply::Begun);
-    right &= matches!(&check(alloc, book, late)?, Reply::Aborted);
-    Ok(right)
+    let mut right = matches!(&take(alloc, &mut book, 1, 1)?, Reply::Taken(0));
+    let (mut book, published) = run(alloc, book, late)?;
+    right &= matches!(&published, Reply::Published);
+    right &= matches!(&take(alloc, &mut book, 0, 0)?, Reply::Taken(0));
+    let (mut book, published) = run(alloc, book, early)?;
+    right &= matches!(&published, Reply::Published);
+    right &= matches!(&begin(alloc, &mut book, late)?, Reply::Begun);
+    right &= matches!(&check(alloc, &mut book, late)?, Reply::Aborted);
+    Ok((book, right))
 }
 
 // Both are run again and checked; the second request is stamped before the first is committed.
-fn committed(alloc: Global, book: &mut Book<'_>) -> Result<bool, AllocError> {
+fn committed<'a>(alloc: Global, book: Book<'a>) -> Result<(Book<'a>, bool), AllocError> {
+    let mut book = book;
     let late = turn(2, 1, 1);
     let early = turn(0, 0, 0);
-    let mut right = matches!(&take(alloc, book, 2, 1)?, Reply::Taken(1));
-    right &= matches!(&execute(alloc, book, late)?, Reply::Published);
-    right &= matches!(&begin(alloc, book, late)?, Reply::Begun);
-    right &= matches!(&check(alloc, book, late)?, Reply::Passed);
-    right &= matches!(&check(alloc, book, late)?, Reply::Passed);
-    right &= matches!(&commit(alloc, book, late)?, Reply::NotYet);
-    right &= matches!(&begin(alloc, book, early)?, Reply::Begun);
-    right &= matches!(&check(alloc, book, early)?, Reply::Passed);
-    right &= matches!(&commit(alloc, book, early)?, Reply::Committed);
-    right &= matches!(&commit(alloc, book, late)?, Reply::Committed);
-    Ok(right)
+    let mut right = matches!(&take(alloc, &mut book, 2, 1)?, Reply::Taken(1));
+    let (mut book, published) = run(alloc, book, late)?;
+    right &= matches!(&published, Reply::Published);
+    right &= matches!(&begin(alloc, &mut book, late)?, Reply::Begun);
+    right &= matches!(&check(alloc, &mut book, late)?, Reply::Passed);
+    right &= matches!(&check(alloc, &mut book, late)?, Reply::Passed);
+    right &= matches!(&commit(alloc, &mut book, late)?, Reply::NotYet);
+    right &= matches!(&begin(alloc, &mut book, early)?, Reply::Begun);
+    right &= matches!(&check(alloc, &mut book, early)?, Reply::Passed);
+    right &= matches!(&commit(alloc, &mut book, early)?, Reply::Committed);
+    right &= matches!(&commit(alloc, &mut book, late)?, Reply::Committed);
+    Ok((book, right))
 }
 
 #[test]
@@ -94,9 +99,11 @@ fn two_insertions(rt: HostRuntime) -> Result<(), AllocError> {
     let terms = four(alloc)?;
     let base = View::new(alloc);
     let block = two(alloc)?;
-    let mut book = Book::new(alloc, &terms, &base, &block)?;
-    assert!(rt; aborted(alloc, &mut book)?);
-    assert!(rt; committed(alloc, &mut book)?);
+    let book = Book::new(alloc, &terms, &base, &block)?;
+    let (book, right) = aborted(alloc, book)?;
+    assert!(rt; right);
+    let (book, right) = committed(alloc, book)?;
+    assert!(rt; right);
     let outcome = book.outcome(alloc)?;
     let one = meaning::Reply::Done {
         added: 1,
