@@ -4,7 +4,7 @@ use Rattle.std.specs.List.{AllByRecursion}
 use Rattle.reads.specs.Reads.{View, Read, Answer, says}
 use Rattle.reads.specs.Runs.{Agrees}
 use Rattle.reads.specs.declared.note.Note.{Note}
-use Rattle.eval.specs.Goes.{AllMay, AllAllowed, Goes}
+use Rattle.eval.specs.Goes.{Goes}
 
 agrees_before : (ns : List Note) (n : Note) (d : View) → Agrees (ns ++ n ∷ []) d → Agrees ns d
 agrees_before [] n d a = tt
@@ -36,7 +36,7 @@ module _ (allowed : Read → Bool) (may : Read → Answer → Type 0) where
         before = g;
         agrees = agrees_before ns n;
         meets = all_more (λ m. may m.read m.answer) ns n h;
-        near = all_more (λ m. allowed m.read ≡ true) ns n near;
+        near = λ more f. all_more (λ m. more m.read ≡ true) ns n (f n.read near);
       })
 
 pub goes_on : {allowed : Read → Bool} {may may1 may2 : Read → Answer → Type 0} {ns ns1 ns2 : List Note}
@@ -48,5 +48,19 @@ goes_on {allowed} {may} {may1} {may2} {ns} {ns1} {ns2} a b = record {
   meets = λ h.
       all_weaker (λ n. may1 n.read n.answer) (λ n. may n.read n.answer) (λ n. a.later n.read n.answer) ns2
       (b.meets (all_weaker (λ n. may n.read n.answer) (λ n. may1 n.read n.answer) (λ n. a.before n.read n.answer) ns1 (a.meets h)));
-  near = λ h. b.near (a.near h);
+  near = λ more f h. b.near more f (a.near more f h);
 }
+
+-- a test that allows more
+pub goes_within : {allowed more : Read → Bool} {may may' : Read → Answer → Type 0} {ns ns' : List Note}
+    → ((r : Read) → allowed r ≡ true → more r ≡ true) → Goes allowed may may' ns ns' → Goes more may may' ns ns'
+goes_within {allowed} {more} {may} {may'} {ns} {ns'} f a = record {
+  later = a.later;
+  before = a.before;
+  agrees = a.agrees;
+  meets = a.meets;
+  near = λ most h. a.near most (λ r e. h r (f r e));
+}
+
+pub goes_nowhere : (allowed : Read → Bool) (may : Read → Answer → Type 0) (ns : List Note) → Goes allowed may may ns ns
+goes_nowhere allowed may ns = record { later = λ r a h. h; before = λ r a h. h; agrees = λ d h. h; meets = λ h. h; near = λ more f h. h }

@@ -14,10 +14,11 @@ abbrev pub AllAllowed : (Read → Bool) → List Note → Type 0
 AllAllowed allowed notes = AllByRecursion (λ n. allowed n.read ≡ true) notes
 
 -- From some notes to more of them: the source may answer what it might before, what agrees with the notes now agreed with those
--- before, each answer that came is one that may come, and each read that was asked is allowed.
+-- before, each answer that came is one that may come, and each read that was asked is allowed, by this test and by each that allows
+-- more.
 pub record Goes (allowed : Read → Bool) (may may' : Read → Answer → Type 0) (notes notes' : List Note) : Type 0 where
   pub later : (r : Read) (a : Answer) → may' r a → may r a
   pub before : (r : Read) (a : Answer) → may r a → may' r a
   pub agrees : (d : View) → Agrees notes' d → Agrees notes d
   pub meets : AllMay may notes → AllMay may notes'
-  pub near : AllAllowed allowed notes → AllAllowed allowed notes'
+  pub near : (more : Read → Bool) → ((r : Read) → allowed r ≡ true → more r ≡ true) → AllAllowed more notes → AllAllowed more notes'

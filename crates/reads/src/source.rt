@@ -4,7 +4,7 @@ ghost use Rattle.reads.specs.declared.source.Stop.TheVariants.{Memory as OfMemor
 
 use crate::answered::Answered;
 use datasets::{Id, Read};
-use std::alloc::AllocError;
+use std::alloc::{AllocError, AllocFailed};
 
 /// Why a run ends without a result.
 #[derive(Clone, Copy, Drop, Debug, PartialEq, Eq)]
@@ -22,6 +22,14 @@ impl From<AllocError> for Stop {
 
     fn from(_error: AllocError) -> Stop {
         Stop::Memory
+    }
+}
+
+impl<T: Drop> From<AllocFailed<T>> for Stop {
+    ghost from_gives = { λ _ stop. stop ≡ OfMemory };
+
+    fn from(failed: AllocFailed<T>) -> Stop {
+        Stop::from(AllocError::from(failed))
     }
 }
 

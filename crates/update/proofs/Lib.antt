@@ -1,2 +1,7 @@
-pub mod Soundness
-pub mod Inserted
+pub mod Members
+pub mod Instances
+pub mod Told
+pub mod Differences
+pub mod Effects
+pub mod Nearness
+pub mod Executions

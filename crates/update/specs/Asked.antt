@@ -1,57 +1,53 @@
--- What a run asks, and what it makes of the answers.
-use Rattle.std.specs.Prelude.{ℕ, ◌+◌, ◌<◌, ◌^◌, length, Bool, true, false, not, List, [], ◌∷◌, ◌++◌, Some, Result, Ok, Err}
-use Rattle.sets.specs.Sets.{set_of}
-use Rattle.datasets.specs.Dataset.{Told, Quads, Is, Names, quad_order, names_of}
+-- What a run asks at its end, and what it makes of the answers.
+use Rattle.std.specs.Prelude.{◌≡◌, ◌<◌, ◌^◌, length, Bool, true, false, List, [], ◌∷◌, Some, Ok, Err}
+use Rattle.std.specs.List.{AllByRecursion}
+use Rattle.datasets.specs.declared.id.Id.{Id}
 use Rattle.datasets.specs.declared.quad.Quad.{Quad}
 use Rattle.datasets.specs.declared.read.GraphPlace.TheVariants.{Only}
-use Rattle.datasets.specs.declared.read.Read.{Read}
-use Rattle.datasets.specs.declared.read.Read.TheVariants.{Scan}
-use Rattle.meaning.specs.Vocabulary.{Vocabulary}
-use Rattle.meaning.specs.Mapping.{empty_mapping}
-use Rattle.meaning.specs.Template.{instances}
+use Rattle.datasets.specs.declared.read.Read as reading
+use Rattle.datasets.specs.declared.read.Read.TheVariants.{Scan, GraphIs}
+use Rattle.datasets.specs.Dataset.{Told, Quads, Is, Names}
 use Rattle.meaning.specs.Run.{Request}
 use Rattle.meaning.specs.declared.update.Operation.{Operation}
-use Rattle.meaning.specs.declared.update.Operation.TheVariants as operation
-
-module _ {K : Type 0} (V : Vocabulary K) where
-  -- the quads that an operation inserts
-  abbrev pub inserted_at : (request place : ℕ) → Operation K → List (Quad K)
-  inserted_at request place (operation.InsertData quads) = instances V request place quads (empty_mapping ∷ [])
-
-  -- the quads that the operations from this place on insert
-  abbrev pub inserted_from : (request place : ℕ) → List (Operation K) → List (Quad K)
-  inserted_from request place [] = []
-  inserted_from request place (op ∷ ops) = inserted_at request place op ++ inserted_from request (place + 1) ops
-
-  -- the same of a whole request, which inserts nothing where it is refused
-  abbrev pub inserted_by : ℕ → Request K → List (Quad K)
-  inserted_by i (Ok ops) = inserted_from i 0 ops
-  inserted_by i (Err refusal) = []
-
-  -- the quads whose presence decides the request's change and reply, and the names of their graphs
-  abbrev pub quads_sought : ℕ → Request K → List (Quad K)
-  quads_sought i request = set_of (quad_order V.order) (inserted_by i request)
-
-  abbrev pub names_sought : ℕ → Request K → List K
-  names_sought i request = set_of V.order (names_of (inserted_by i request))
+use Rattle.reads.specs.Reads.{Delta, Read}
 
 -- the scan for one quad
-abbrev pub scan_for : {K : Type 0} → Quad K → Read K
+abbrev pub scan_for : {K : Type 0} → Quad K → reading.Read K
 scan_for q = Scan (record { subject = Some q.subject; predicate = Some q.predicate; object = Some q.object; graph = Only q.graph })
 
--- whether the answer tells of nothing; an answer of the wrong kind tells of nothing
-abbrev pub lacks_quads : {K : Type 0} → Told K → Bool
-lacks_quads (Quads []) = true
-lacks_quads (Quads (q ∷ qs)) = false
-lacks_quads (Is so) = true
-lacks_quads (Names names) = true
+-- whether the answer tells of some quad; an answer of the wrong kind tells of none
+abbrev pub has_quads : {K : Type 0} → Told K → Bool
+has_quads (Quads []) = false
+has_quads (Quads (q ∷ qs)) = true
+has_quads (Is so) = false
+has_quads (Names names) = false
 
-abbrev pub lacks_name : {K : Type 0} → Told K → Bool
-lacks_name (Quads quads) = true
-lacks_name (Is so) = not so
-lacks_name (Names names) = true
+-- whether the answer tells that a name is there
+abbrev pub has_name : {K : Type 0} → Told K → Bool
+has_name (Quads quads) = false
+has_name (Is so) = so
+has_name (Names names) = false
 
 -- a request has fewer operations than a node's number of an operation can tell apart
 abbrev pub IsShort : {K : Type 0} → Request K → Type 0
 IsShort (Ok ops) = length ops < 2 ^ 32
 IsShort (Err refusal) = Unit {0}
+
+-- the operations, none where the request is refused
+abbrev pub operations_of : {K : Type 0} → Request K → List (Operation K)
+operations_of (Ok ops) = ops
+operations_of (Err refusal) = []
+
+-- what asks for these quads, and for these names, is allowed
+abbrev pub AskedQuads : (Read → Bool) → List (Quad Id) → Type 0
+AskedQuads allowed quads = AllByRecursion (λ q. allowed (scan_for q) ≡ true) quads
+
+abbrev pub AskedNames : (Read → Bool) → List Id → Type 0
+AskedNames allowed names = AllByRecursion (λ g. allowed (GraphIs g) ≡ true) names
+
+-- what asks for all that a change speaks of is allowed, and no graph goes
+pub record IsWithin (allowed : Read → Bool) (c : Delta) : Type 0 where
+  pub present : AskedQuads allowed c.present
+  pub absent : AskedQuads allowed c.absent
+  pub there : AskedNames allowed c.there
+  pub gone : c.gone ≡ []

@@ -1,2 +1,4 @@
 pub mod Asked
-pub mod Notes
+pub mod Changed
+pub mod Failures
+pub mod Executed

@@ -1,0 +1,35 @@
+-- What is told of a request makes an execution of it.
+use Rattle.std.proofs.Common.{◌≡◌, ℕ, List, ap, ◌∙◌}
+use Rattle.datasets.specs.declared.id.Id.{Id}
+use Rattle.datasets.specs.Id.{id_order, id_total, id_exact}
+use Rattle.dict.specs.Dictionary.{numbers}
+use Rattle.terms.specs.declared.term.Term.{Term}
+use Rattle.meaning.specs.Near.{is_near_request}
+use Rattle.meaning.specs.Run.{Request, answer_of}
+use Rattle.meaning.specs.declared.reply.Reply.{Reply}
+use Rattle.meaning_laws.specs.Answers.{IsExactOrder}
+use Rattle.meaning_laws.proofs.Answers.{answers_with_datasets}
+use Rattle.reads.specs.Reads.{View, Delta, IsDataset, applied}
+use Rattle.reads.specs.Runs.{Agrees, IsSoundFor}
+use Rattle.reads.specs.declared.note.Note.{Note}
+use Rattle.eval.specs.Goes.{AllAllowed}
+use Rattle.update.specs.Asked.{operations_of}
+use Rattle.update.specs.Executed.{IsExecuted, IsLeastFor}
+use Rattle.update.proofs.Differences.{difference_leads}
+
+-- the order of numbers is exact
+exact : (terms : List Term) → IsExactOrder (numbers terms)
+exact terms = record { total = id_total; exact = id_exact }
+
+pub executed : (terms : List Term) (place : ℕ) (request : Request Id) (notes : List Note) (delta : Delta) (reply : Reply)
+    → IsLeastFor (answer_of (numbers terms) place request) notes delta
+    → ((d : View) → IsDataset d → Agrees notes d → reply ≡ (answer_of (numbers terms) place request d).1)
+    → AllAllowed (is_near_request id_order (operations_of request)) notes
+    → IsExecuted (record { terms = terms; place = place; request = request; finished = record { transcript = notes; delta = delta; reply = reply } })
+unfolding IsSoundFor
+executed terms place request notes delta reply least replied near = record {
+  sound = λ d h a.
+      (ap (λ (z : Delta). applied z d) (least d h a) ∙ difference_leads d (answer_of (numbers terms) place request d).0 (answers_with_datasets (numbers terms) place request d (exact terms) h), replied d h a);
+  least = least;
+  near = near;
+}

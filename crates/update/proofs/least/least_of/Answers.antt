@@ -1,0 +1,53 @@
+use Rattle.std.proofs.Common.{◌≡◌, Bool, true, List, refl, sym, ap, ◌∙◌, subst}
+use Rattle.std.specs.Prelude.{filter}
+use Rattle.sets.specs.Sets.{has, set_of, without}
+use Rattle.datasets.specs.declared.id.Id.{Id}
+use Rattle.datasets.specs.declared.quad.Quad.{Quad}
+use Rattle.datasets.specs.Dataset.{quad_order}
+use Rattle.datasets.specs.Id.{id_order}
+use Rattle.reads.specs.Reads.{Read}
+use Rattle.eval.proofs.Notes.{goes_on}
+use Rattle.update.specs.Asked.{scan_for, AskedQuads, AskedNames}
+use Rattle.update.proofs.Differences.{least_is}
+use Rattle.update.proofs.Members.{all-filter, always}
+use Rattle.update.proofs.least.least_of.Goals as goal
+
+-- what is asked for of a change is asked for of its parts
+quads_within : (allowed : Read → Bool) (quads same : List (Quad Id)) → quads ≡ same → AskedQuads allowed same → AskedQuads allowed quads
+quads_within allowed quads same e h = subst (AskedQuads allowed) (sym e) h
+
+names_within : (allowed : Read → Bool) (names same : List Id) → names ≡ same → AskedNames allowed same → AskedNames allowed names
+names_within allowed names same e h = subst (AskedNames allowed) (sym e) h
+
+others_within : (allowed : Read → Bool) (quads absent present : List (Quad Id)) → quads ≡ without (quad_order id_order) absent present → AskedQuads allowed absent → AskedQuads allowed quads
+others_within allowed quads absent present e h = quads_within allowed quads _ e (all-filter (λ q. allowed (scan_for q) ≡ true) _ absent h)
+
+pub returns-in_err-absent-clause-goes : goal.returns-in_err-absent-clause-goes
+returns-in_err-absent-clause-goes g c allowed h =
+    let others = c.deref.ensures.value ∙ c.quads_without-others.ensures ∙ (λ i. without (quad_order id_order) ((c.in_ok-copied_quads.ensures ∙ c.absent.ensures) i) (c.present.ensures i)) in
+    goes_on (c.quads_that.ensures.goes allowed (quads_within allowed _ _ c.present-2.ensures h.present)) (c.quads_that-2.ensures.goes allowed (others_within allowed _ _ _ others h.absent))
+
+pub returns-in_err-there-clause-goes : goal.returns-in_err-there-clause-goes
+returns-in_err-there-clause-goes g c allowed h =
+    let others = c.deref.ensures.value ∙ c.quads_without-others.ensures ∙ (λ i. without (quad_order id_order) ((c.in_ok-copied_quads.ensures ∙ c.absent.ensures) i) (c.present.ensures i)) in
+    goes_on (c.quads_that.ensures.goes allowed (quads_within allowed _ _ c.present-2.ensures h.present))
+    (goes_on (c.quads_that-2.ensures.goes allowed (others_within allowed _ _ _ others h.absent)) (c.names_missing.ensures.goes allowed (names_within allowed _ _ c.there.ensures h.there)))
+
+pub returns-clause-goes : goal.returns-clause-goes
+returns-clause-goes g c allowed h =
+    let others = c.deref.ensures.value ∙ c.quads_without-others.ensures ∙ (λ i. without (quad_order id_order) ((c.in_ok-copied_quads.ensures ∙ c.absent.ensures) i) (c.present.ensures i)) in
+    goes_on (c.quads_that.ensures.goes allowed (quads_within allowed _ _ c.present-2.ensures h.present))
+    (goes_on (c.quads_that-2.ensures.goes allowed (others_within allowed _ _ _ others h.absent)) (c.names_missing.ensures.goes allowed (names_within allowed _ _ c.there.ensures h.there)))
+
+pub returns-clause-least : goal.returns-clause-least
+returns-clause-least g c d h a =
+    let any : Read → Bool = λ r. true in
+    let others = c.deref.ensures.value ∙ c.quads_without-others.ensures ∙ (λ i. without (quad_order id_order) ((c.in_ok-copied_quads.ensures ∙ c.absent.ensures) i) (c.present.ensures i)) in
+    let second = (c.names_missing.ensures.goes any (always (λ g. true ≡ true) (λ g. refl) c.there.result.now)).agrees d a in
+    let first = (c.quads_that-2.ensures.goes any (always (λ q. true ≡ true) (λ q. refl) c.deref.result.now)).agrees d second in
+    least_is c.from_parts.result c.args.changes.now d h c.requires (record {
+      present = c.from_parts.ensures.present ∙ ap (set_of (quad_order id_order)) (c.in_ok-present.ensures.told d first ∙ ap (λ qs. without (quad_order id_order) qs d.quads) c.present-2.ensures);
+      absent = c.from_parts.ensures.absent ∙ ap (set_of (quad_order id_order)) (c.in_ok-absent.ensures.told d second ∙ ap (filter (has (quad_order id_order) d.quads)) others);
+      there = c.from_parts.ensures.there ∙ ap (set_of id_order) (c.in_ok-there.ensures.told d a ∙ ap (λ ns. without id_order ns d.names) c.there.ensures);
+      gone = c.from_parts.ensures.gone ∙ ap (set_of id_order) c.new.ensures.items;
+    })

@@ -1,0 +1,52 @@
+use Rattle.std.specs.Prelude.{Bool, IfOk}
+use Rattle.std.proofs.Common.{◌≡◌, ◌+◌, refl, sym, ap, ◌∙◌, subst, Result, Ok}
+use Rattle.datasets.specs.Id.{id_order}
+use Rattle.dict.specs.Dictionary.{numbers}
+use Rattle.meaning.specs.Near.{is_near_request}
+use Rattle.meaning.specs.Run.{performed}
+use Rattle.meaning.specs.declared.reply.Cause.{Cause}
+use Rattle.reads.specs.Reads.{Delta, Read, applied}
+use Rattle.eval.proofs.Notes.{goes_on, goes_within, goes_nowhere}
+use Rattle.update.specs.Asked.{IsWithin}
+use Rattle.update.specs.Changed.{changed}
+use Rattle.update.proofs.Differences.{no_change_keeps}
+use Rattle.update.proofs.Effects.{performed_more}
+use Rattle.update.proofs.Nearness.{request_near, no_change_within}
+use Rattle.update.proofs.operations.perform.Goals as goal
+
+-- where an operation is done, its change is within
+within_of : (allowed : Read → Bool) (outcome : Result Delta Cause) (next : Delta) → outcome ≡ Ok next → IfOk outcome (λ change. IsWithin allowed change) → IsWithin allowed next
+within_of allowed outcome next e h = subst (λ (o : Result Delta Cause). IfOk o (λ change. IsWithin allowed change)) e h
+
+pub loop-operation-init : goal.loop-operation-init
+loop-operation-init g c =
+    let V = numbers c.args.dict.now in
+    let ops = c.args.operations.now in
+    record {
+      counted = refl;
+      short = c.requires;
+      goes = goes_nowhere (is_near_request id_order ops) (g.S.Source.may c.args.source.now) c.args.notes.now.items;
+      effect = λ d h a. ap (λ (z : Delta). performed V c.args.request 0 ops (applied z d)) c.new-changes.ensures ∙ ap (performed V c.args.request 0 ops) (no_change_keeps d h);
+      within = subst (IsWithin (is_near_request id_order ops)) (sym c.new-changes.ensures) (no_change_within (is_near_request id_order ops));
+    }
+
+pub returns-in_err-next-clause-goes : goal.returns-in_err-next-clause-goes
+returns-in_err-next-clause-goes g c =
+    goes_on c.loop-operation.invariant.goes (goes_within (request_near c.args.operations.now c.loop-operation.operation-index c.operation-item.result c.loop-operation-test.true c.operation-item.is) c.perform_one.ensures.goes)
+
+pub returns-in-Err-clause-goes : goal.returns-in-Err-clause-goes
+returns-in-Err-clause-goes g c =
+    goes_on c.loop-operation.invariant.goes (goes_within (request_near c.args.operations.now c.loop-operation.operation-index c.operation-item.result c.loop-operation-test.true c.operation-item.is) c.perform_one.ensures.goes)
+
+pub loop-operation-preserved : goal.loop-operation-preserved
+loop-operation-preserved g c = record {
+  counted = ap (λ n. n + 1) c.loop-operation.invariant.counted;
+  short = c.loop-operation.invariant.short;
+  goes = goes_on c.loop-operation.invariant.goes (goes_within (request_near c.args.operations.now c.loop-operation.operation-index c.operation-item.result c.loop-operation-test.true c.operation-item.is) c.perform_one.ensures.goes);
+  effect = λ d h a.
+      performed_more (numbers c.args.dict.now) c.args.request c.args.operations.now c.loop-operation.operation-index c.loop-operation.op c.operation-item.result (applied c.loop-operation.changes d) (applied c.in-Ok.next d) _
+      c.loop-operation-test.true c.operation-item.is (sym (ap (changed d) c.in-Ok.is) ∙ c.in_ok-next.ensures.effect d a) (c.loop-operation.invariant.effect d h (c.perform_one.ensures.goes.agrees d a));
+  within =
+      within_of (is_near_request id_order c.args.operations.now) c.in_ok-next.field-0 c.in-Ok.next c.in-Ok.is
+      (c.in_ok-next.ensures.within (is_near_request id_order c.args.operations.now) (request_near c.args.operations.now c.loop-operation.operation-index c.operation-item.result c.loop-operation-test.true c.operation-item.is) c.loop-operation.invariant.within);
+}

@@ -1,0 +1,21 @@
+use Rattle.std.proofs.Common.{◌≡◌, ◌<◌, ◌^◌, length, drop}
+use Rattle.datasets.specs.Id.{id_order}
+use Rattle.dict.specs.Dictionary.{numbers}
+use Rattle.meaning.specs.Near.{is_near_request}
+use Rattle.meaning.specs.Run.{performed}
+use Rattle.reads.specs.Reads.{View, IsDataset, applied}
+use Rattle.reads.specs.Runs.{Agrees}
+use Rattle.eval.specs.Goes.{Goes}
+use Rattle.update.specs.Asked.{IsWithin}
+use Rattle.update.proofs.operations.perform.Given as goal
+
+-- what is left to do, where the changes so far lead, comes to what all operations come to
+abbrev pub invariant-loop-operation : goal.invariant-loop-operation
+invariant-loop-operation g l = record {
+  counted : l.op ≡ l.operation-index;
+  short : length l.operations < 2 ^ 32;
+  goes : Goes (is_near_request id_order l.operations) (g.S.Source.may l.fn.source) (g.S.Source.may l.source) l.fn.notes.items l.notes.items;
+  effect : (d : View) → IsDataset d → Agrees l.notes.items d →
+      performed (numbers l.dict) l.request l.op (drop l.operation-index l.operations) (applied l.changes d) ≡ performed (numbers l.dict) l.request 0 l.operations d;
+  within : IsWithin (is_near_request id_order l.operations) l.changes;
+}

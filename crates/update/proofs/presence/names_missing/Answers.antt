@@ -1,0 +1,25 @@
+use Rattle.std.proofs.Common.{◌≡◌, true, false, refl, ap, ◌∙◌}
+use Rattle.sets.specs.Sets.{has}
+use Rattle.datasets.specs.declared.read.Read.TheVariants.{GraphIs}
+use Rattle.datasets.specs.Id.{id_order}
+use Rattle.reads.specs.Same.{bool_eq}
+use Rattle.eval.proofs.Notes.{goes_on}
+use Rattle.update.proofs.Members.{all_at, filtered_more}
+use Rattle.update.proofs.presence.names_missing.Goals as goal
+
+pub returns-in_err-is_there-clause-goes : goal.returns-in_err-is_there-clause-goes
+returns-in_err-is_there-clause-goes g c allowed h =
+    goes_on (c.loop-name.invariant.goes allowed h) (c.is_named.ensures.goes allowed (all_at (λ q. allowed (GraphIs q) ≡ true) _ _ _ h c.loop-name-test.true))
+
+pub returns-in_err-push_if-clause-goes : goal.returns-in_err-push_if-clause-goes
+returns-in_err-push_if-clause-goes g c allowed h =
+    goes_on (c.loop-name.invariant.goes allowed h) (c.is_named.ensures.goes allowed (all_at (λ q. allowed (GraphIs q) ≡ true) _ _ _ h c.loop-name-test.true))
+
+pub loop-name-preserved : goal.loop-name-preserved
+loop-name-preserved g c = record {
+  goes = λ allowed h.
+      goes_on (c.loop-name.invariant.goes allowed h) (c.is_named.ensures.goes allowed (all_at (λ q. allowed (GraphIs q) ≡ true) _ _ _ h c.loop-name-test.true));
+  told = λ d a.
+      filtered_more (λ q. bool_eq false (has id_order d.names q)) _ _ _ _ _ _ _ c.loop-name-test.true (c.same_bool.ensures ∙ ap (bool_eq false) (c.in_ok-is_there.ensures.told d a)) c.in_ok-push_if.ensures
+      (c.loop-name.invariant.told d ((c.is_named.ensures.goes (λ r. true) refl).agrees d a));
+}

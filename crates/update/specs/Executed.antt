@@ -1,0 +1,33 @@
+-- What an execution of a request keeps.
+use Rattle.std.specs.Prelude.{◌≡◌, ℕ, List}
+use Rattle.datasets.specs.declared.id.Id.{Id}
+use Rattle.datasets.specs.Id.{id_order}
+use Rattle.dict.specs.Dictionary.{numbers}
+use Rattle.meaning.specs.Near.{is_near_request}
+use Rattle.meaning.specs.Run.{Request, answer_of}
+use Rattle.meaning.specs.declared.reply.Reply.{Reply}
+use Rattle.reads.specs.Reads.{View, Delta, IsDataset}
+use Rattle.reads.specs.Runs.{Agrees, IsSoundFor}
+use Rattle.reads.specs.declared.finished.Finished.{Finished}
+use Rattle.reads.specs.declared.note.Note.{Note}
+use Rattle.eval.specs.Goes.{AllAllowed}
+use Rattle.terms.specs.declared.term.Term.{Term}
+use Rattle.update.specs.Asked.{operations_of}
+use Rattle.update.specs.Changed.{difference}
+
+-- the terms that are numbered, a request with its place in the block, and its finished run
+pub record Executed : Type 0 where
+  pub terms : List Term
+  pub place : ℕ
+  pub request : Request Id
+  pub finished : Finished
+
+-- for every dataset that the notes agree with, the change is what the answer changes and nothing else
+abbrev pub IsLeastFor : (View → View × Reply) → List Note → Delta → Type 0
+IsLeastFor answer notes delta = (d : View) → IsDataset d → Agrees notes d → delta ≡ difference d (answer d).0
+
+-- the run is sound for its request, its change is the least, and each of its reads is near the request
+pub record IsExecuted (e : Executed) : Type 0 where
+  pub sound : IsSoundFor (answer_of (numbers e.terms) e.place e.request) e.finished
+  pub least : IsLeastFor (answer_of (numbers e.terms) e.place e.request) e.finished.transcript e.finished.delta
+  pub near : AllAllowed (is_near_request id_order (operations_of e.request)) e.finished.transcript

@@ -1,0 +1,156 @@
+//! Executions of requests.
+ghost use Rattle.std.specs.Prelude.{◌≡◌, ◌<◌, ◌^◌, length, Ok, IfOk};
+ghost use Rattle.datasets.specs.Id.{id_order};
+ghost use Rattle.dict.specs.Dictionary.{numbers};
+ghost use Rattle.meaning.specs.Near.{is_near_request};
+ghost use Rattle.meaning.specs.Run.{answer_of};
+ghost use Rattle.reads.specs.Reads.{View, Read as Reading, Answer, IsDataset};
+ghost use Rattle.reads.specs.Runs.{Agrees, IsSoundFor};
+ghost use Rattle.eval.specs.Goes.{Goes, AllMay, AllAllowed};
+ghost use Rattle.update.specs.Asked.{IsShort, operations_of};
+ghost use Rattle.update.specs.Changed.{difference};
+ghost use Rattle.update.specs.Executed.{IsLeastFor};
+
+use crate::Request;
+use crate::least::least_of;
+use crate::operations::perform;
+use dict::{Dict, Id};
+use meaning::{Operation, Reply};
+use reads::{Delta, Finished, Note, Source, Stop};
+use sets::Items;
+use std::alloc::Global;
+use std::marker::Model;
+
+/// A finished run of a request at a place of a block. It is sound for the request, its change is the least that is, and each of its
+/// reads is near the request.
+#[derive(Drop)]
+pub struct Execution<'a> {
+    dict: &'a Dict,
+    place: u32,
+    request: &'a Request,
+    finished: Finished,
+}
+
+impl<'a> Model for Execution<'a> {
+    ghost use Rattle.update.specs.Executed.{Executed, IsExecuted};
+
+    ghost Value = { Executed };
+
+    ghost view = { λ e. record { terms = e.dict.now; place = e.place; request = e.request.now; finished = e.finished } };
+
+    ghost invariant = { λ e. IsExecuted (record { terms = e.dict.now; place = e.place; request = e.request.now; finished = e.finished }) };
+}
+
+// A change and a reply.
+#[derive(Drop)]
+struct Outcome {
+    delta: Delta,
+    reply: Reply,
+}
+
+// What the operations come to: their change and its counts, or the failing one and no change.
+fn performed<S: Source>(
+    alloc: Global,
+    dict: &Dict,
+    place: u32,
+    operations: &[Operation<Id>],
+    source: &mut S,
+    notes: &mut Vec<Note>,
+) -> Result<Outcome, Stop>
+    requires { length operations.now < 2 ^ 32 }
+    ensures goes { Goes (is_near_request id_order operations.now) (S.may source.old) (S.may source.new) notes.old.items notes.new.items }
+    ensures least { IfOk result (λ outcome. IsLeastFor (answer_of (numbers dict.now) place (Ok operations.now)) notes.new.items outcome.delta) }
+    ensures reply { IfOk result (λ outcome. (d : View) → IsDataset d → Agrees notes.new.items d → outcome.reply ≡ (answer_of (numbers dict.now) place (Ok operations.now) d).1) }
+{
+    match perform(alloc, dict, place, operations, source, notes)? {
+        Ok(changes) => {
+            let delta = least_of(alloc, &changes, source, notes)?;
+            let reply = Reply::Done {
+                added: delta.present().len() as u64,
+                removed: delta.absent().len() as u64,
+            };
+            Ok(Outcome { delta, reply })
+        }
+        Err(failed) => Ok(Outcome {
+            delta: Delta::new(alloc),
+            reply: Reply::Failed {
+                operation: failed.operation,
+                cause: failed.cause,
+            },
+        }),
+    }
+}
+
+// What a request comes to. A refused one comes to no change, and asks for nothing.
+fn outcome_of<S: Source>(
+    alloc: Global,
+    dict: &Dict,
+    place: u32,
+    request: &Request,
+    source: &mut S,
+    notes: &mut Vec<Note>,
+) -> Result<Outcome, Stop>
+    requires { IsShort request.now }
+    ensures goes { Goes (is_near_request id_order (operations_of request.now)) (S.may source.old) (S.may source.new) notes.old.items notes.new.items }
+    ensures least { IfOk result (λ outcome. IsLeastFor (answer_of (numbers dict.now) place request.now) notes.new.items outcome.delta) }
+    ensures reply { IfOk result (λ outcome. (d : View) → IsDataset d → Agrees notes.new.items d → outcome.reply ≡ (answer_of (numbers dict.now) place request.now d).1) }
+{
+    match request {
+        Ok(operations) => performed(alloc, dict, place, operations.as_slice(), source, notes),
+        Err(refusal) => Ok(Outcome {
+            delta: Delta::new(alloc),
+            reply: Reply::Refused(*refusal),
+        }),
+    }
+}
+
+/// The execution of the request at this place of the block, counted from 0, from what a source answers. Whatever it answers, the
+/// execution is sound; a refused request reads nothing. It stops where the source does, and for want of memory.
+pub fn execute<'a, S: Source>(
+    alloc: Global,
+    dict: &'a Dict,
+    place: u32,
+    request: &'a Request,
+    source: &mut S,
+) -> Result<Execution<'a>, Stop>
+    requires { IsShort request.now }
+    ensures request { IfOk result (λ e. (e.terms ≡ dict.now) × (e.place ≡ place) × (e.request ≡ request.now)) }
+    ensures meets { IfOk result (λ e. AllMay (S.may source.old) e.finished.transcript) }
+    ensures later { (r : Reading) (a : Answer) → S.may source.new r a → S.may source.old r a }
+    ensures before { (r : Reading) (a : Answer) → S.may source.old r a → S.may source.new r a }
+{
+    let mut notes = Vec::new(alloc);
+    let outcome = outcome_of(alloc, dict, place, request, source, &mut notes)?;
+    Ok(Execution {
+        dict,
+        place,
+        request,
+        finished: Finished {
+            transcript: Items::from_vec(notes),
+            delta: outcome.delta,
+            reply: outcome.reply,
+        },
+    })
+}
+
+impl<'a> Execution<'a> {
+    /// The finished run.
+    pub fn finished(&self) -> &Finished
+        ensures finished { result.now ≡ self.now.finished }
+        ensures sound { IsSoundFor (answer_of (numbers self.now.terms) self.now.place self.now.request) result.now }
+        ensures least { IsLeastFor (answer_of (numbers self.now.terms) self.now.place self.now.request) result.now.transcript result.now.delta }
+        ensures near { AllAllowed (is_near_request id_order (operations_of self.now.request)) result.now.transcript }
+    {
+        &self.finished
+    }
+
+    /// The finished run, by itself.
+    pub fn into_finished(self) -> Finished
+        ensures finished { result ≡ self.entry.finished }
+        ensures sound { IsSoundFor (answer_of (numbers self.entry.terms) self.entry.place self.entry.request) result }
+        ensures least { IsLeastFor (answer_of (numbers self.entry.terms) self.entry.place self.entry.request) result.transcript result.delta }
+        ensures near { AllAllowed (is_near_request id_order (operations_of self.entry.request)) result.transcript }
+    {
+        self.finished
+    }
+}

@@ -1,0 +1,123 @@
+//! Whether quads and graph names are there.
+ghost use Rattle.std.specs.Prelude.{◌≡◌, ◌++◌, ◌∷◌, [], Bool, true, false, if◌then◌else◌, IfOk, OnOk, filter};
+ghost use Rattle.sets.specs.Sets.{has};
+ghost use Rattle.datasets.specs.Id.{id_order};
+ghost use Rattle.datasets.specs.Dataset.{quad_order};
+ghost use Rattle.datasets.specs.declared.read.Read.TheVariants as read;
+ghost use Rattle.reads.specs.Reads.{View, Read as Reading};
+ghost use Rattle.reads.specs.Runs.{Agrees};
+ghost use Rattle.reads.specs.Same.{bool_eq};
+ghost use Rattle.eval.specs.Goes.{Goes};
+ghost use Rattle.update.specs.Asked.{scan_for as the_scan_for, has_quads as the_has_quads, has_name as the_has_name, AskedQuads, AskedNames};
+
+use datasets::{GraphPlace, Id, Quad, QuadPattern, Read};
+use reads::same::same_bool;
+use reads::{Answered, Note, Source, Stop};
+use std::alloc::{AllocError, Global};
+
+/// The scan for one quad.
+pub fn scan_for(quad: Quad<Id>) -> Read<Id>
+    ensures { result ≡ the_scan_for quad }
+{
+    Read::Scan(QuadPattern {
+        subject: Some(quad.subject),
+        predicate: Some(quad.predicate),
+        object: Some(quad.object),
+        graph: GraphPlace::Only(quad.graph),
+    })
+}
+
+// Whether an answer tells of some quad.
+fn has_quads(answer: &Answered) -> bool
+    ensures { result ≡ the_has_quads answer.now }
+{
+    match answer.quads() {
+        Some([_, ..]) => true,
+        _ => false,
+    }
+}
+
+// Whether an answer tells that a name is there.
+fn has_name(answer: &Answered) -> bool
+    ensures { result ≡ the_has_name answer.now }
+{
+    match answer.is() {
+        Some(so) => so,
+        None => false,
+    }
+}
+
+/// Whether a quad is there, in each dataset that agrees with the notes.
+pub fn is_present<S: Source>(
+    quad: Quad<Id>,
+    source: &mut S,
+    notes: &mut Vec<Note>,
+) -> Result<bool, Stop>
+    ensures goes { (allowed : Reading → Bool) → allowed (the_scan_for quad) ≡ true → Goes allowed (S.may source.old) (S.may source.new) notes.old.items notes.new.items }
+    ensures told { IfOk result (λ so. (d : View) → Agrees notes.new.items d → so ≡ has (quad_order id_order) d.quads quad) }
+{
+    let read = scan_for(quad);
+    let answer = source.ask(&read)?;
+    let so = has_quads(&answer);
+    notes.push(Note { read, answer })?;
+    Ok(so)
+}
+
+/// Whether a graph name is there, in each dataset that agrees with the notes.
+pub fn is_named<S: Source>(name: Id, source: &mut S, notes: &mut Vec<Note>) -> Result<bool, Stop>
+    ensures goes { (allowed : Reading → Bool) → allowed (read.GraphIs name) ≡ true → Goes allowed (S.may source.old) (S.may source.new) notes.old.items notes.new.items }
+    ensures told { IfOk result (λ so. (d : View) → Agrees notes.new.items d → so ≡ has id_order d.names name) }
+{
+    let read = Read::GraphIs(name);
+    let answer = source.ask(&read)?;
+    let so = has_name(&answer);
+    notes.push(Note { read, answer })?;
+    Ok(so)
+}
+
+// One more at the end, if it is so.
+fn push_if<T: Copy>(found: &mut Vec<T>, so: bool, item: T) -> Result<(), AllocError>
+    ensures { OnOk result (found.new.items ≡ found.old.items ++ (if so then item ∷ [] else [])) }
+{
+    if so {
+        found.push(item)?;
+    }
+    Ok(())
+}
+
+/// Of the quads those that are there, or those that are not, in each dataset that agrees with the notes. Each is asked for.
+pub fn quads_that<S: Source>(
+    alloc: Global,
+    are_there: bool,
+    quads: &[Quad<Id>],
+    source: &mut S,
+    notes: &mut Vec<Note>,
+) -> Result<Vec<Quad<Id>>, Stop>
+    ensures goes { (allowed : Reading → Bool) → AskedQuads allowed quads.now → Goes allowed (S.may source.old) (S.may source.new) notes.old.items notes.new.items }
+    ensures told { IfOk result (λ found. (d : View) → Agrees notes.new.items d → found.items ≡ filter (λ q. bool_eq are_there (has (quad_order id_order) d.quads q)) quads.now) }
+{
+    let mut found = Vec::new(alloc);
+    for quad in quads {
+        let is_there = is_present(*quad, source, notes)?;
+        push_if(&mut found, same_bool(are_there, is_there), *quad)?;
+    }
+    Ok(found)
+}
+
+/// Of the graph names those that are not there, in each dataset that agrees with the notes. Each is asked for.
+pub fn names_missing<S: Source>(
+    alloc: Global,
+    names: &[Id],
+    source: &mut S,
+    notes: &mut Vec<Note>,
+) -> Result<Vec<Id>, Stop>
+    ensures goes { (allowed : Reading → Bool) → AskedNames allowed names.now → Goes allowed (S.may source.old) (S.may source.new) notes.old.items notes.new.items }
+    ensures told { IfOk result (λ found. (d : View) → Agrees notes.new.items d → found.items ≡ filter (λ g. bool_eq false (has id_order d.names g)) names.now) }
+{
+    let mut found = Vec::new(alloc);
+    for name in names {
+        let is_there = is_named(*name, source, notes)?;
+        push_if(&mut found, same_bool(false, is_there), *name)?;
+    }
+    Ok(found)
+}
