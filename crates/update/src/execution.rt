@@ -58,6 +58,7 @@ fn performed<S: Source>(
     notes: &mut Vec<Note>,
 ) -> Result<Outcome, Stop>
     requires { length operations.now < 2 ^ 32 }
+    ensures about { S.subject source.new ≡ S.subject source.old }
     ensures goes { Goes (is_near_request id_order operations.now) (S.may source.old) (S.may source.new) notes.old.items notes.new.items }
     ensures least { IfOk result (λ outcome. IsLeastFor (answer_of (numbers dict.now) place (Ok operations.now)) notes.new.items outcome.delta) }
     ensures reply { IfOk result (λ outcome. (d : View) → IsDataset d → Agrees notes.new.items d → outcome.reply ≡ (answer_of (numbers dict.now) place (Ok operations.now) d).1) }
@@ -91,6 +92,7 @@ fn outcome_of<S: Source>(
     notes: &mut Vec<Note>,
 ) -> Result<Outcome, Stop>
     requires { IsShort request.now }
+    ensures about { S.subject source.new ≡ S.subject source.old }
     ensures goes { Goes (is_near_request id_order (operations_of request.now)) (S.may source.old) (S.may source.new) notes.old.items notes.new.items }
     ensures least { IfOk result (λ outcome. IsLeastFor (answer_of (numbers dict.now) place request.now) notes.new.items outcome.delta) }
     ensures reply { IfOk result (λ outcome. (d : View) → IsDataset d → Agrees notes.new.items d → outcome.reply ≡ (answer_of (numbers dict.now) place request.now d).1) }
@@ -114,6 +116,7 @@ pub fn execute<'a, S: Source>(
     source: &mut S,
 ) -> Result<Execution<'a>, Stop>
     requires { IsShort request.now }
+    ensures about { S.subject source.new ≡ S.subject source.old }
     ensures request { IfOk result (λ e. (e.terms ≡ dict.now) × (e.place ≡ place) × (e.request ≡ request.now)) }
     ensures meets { IfOk result (λ e. AllMay (S.may source.old) e.finished.transcript) }
     ensures later { (r : Reading) (a : Answer) → S.may source.new r a → S.may source.old r a }

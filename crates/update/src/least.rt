@@ -20,6 +20,7 @@ pub fn least_of<S: Source>(
     notes: &mut Vec<Note>,
 ) -> Result<Delta, Stop>
     requires { changes.now.gone ≡ [] }
+    ensures about { S.subject source.new ≡ S.subject source.old }
     ensures goes { (allowed : Reading → Bool) → IsWithin allowed changes.now → Goes allowed (S.may source.old) (S.may source.new) notes.old.items notes.new.items }
     ensures least { IfOk result (λ change. (d : View) → IsDataset d → Agrees notes.new.items d → change ≡ difference d (applied changes.now d)) }
 {

@@ -31,6 +31,7 @@ fn solutions_of<S: Source>(
     source: &mut S,
     notes: &mut Vec<Note>,
 ) -> Result<Vec<Mapping>, Stop>
+    ensures about { S.subject source.new ≡ S.subject source.old }
     ensures goes { Goes (is_near id_order (operation.Modify modify.now)) (S.may source.old) (S.may source.new) notes.old.items notes.new.items }
     ensures solved { IfOk result (λ found. (d : View) → Agrees notes.new.items d → found.items ≡ solutions id_order modify.now.width modify.now.pattern (applied changes.now d) None) }
 {
@@ -49,6 +50,7 @@ pub fn modify<S: Source>(
     source: &mut S,
     notes: &mut Vec<Note>,
 ) -> Result<Result<Delta, Cause>, Stop>
+    ensures about { S.subject source.new ≡ S.subject source.old }
     ensures goes { Goes (is_near id_order (operation.Modify modify.now)) (S.may source.old) (S.may source.new) notes.old.items notes.new.items }
     ensures effect { IfOk result (λ outcome. (d : View) → Agrees notes.new.items d → changed d outcome ≡ effect_of (numbers dict.now) request op (operation.Modify modify.now) (applied changes.now d)) }
     ensures within { (allowed : Reading → Bool) → ((r : Reading) → is_near id_order (operation.Modify modify.now) r ≡ true → allowed r ≡ true) → IsWithin allowed changes.now → IfOk result (λ outcome. IfOk outcome (λ change. IsWithin allowed change)) }

@@ -45,6 +45,7 @@ fn perform_one<S: Source>(
     source: &mut S,
     notes: &mut Vec<Note>,
 ) -> Result<Result<Delta, Cause>, Stop>
+    ensures about { S.subject source.new ≡ S.subject source.old }
     ensures goes { Goes (is_near id_order operation.now) (S.may source.old) (S.may source.new) notes.old.items notes.new.items }
     ensures effect { IfOk result (λ outcome. (d : View) → Agrees notes.new.items d → changed d outcome ≡ effect_of (numbers dict.now) request op operation.now (applied changes.now d)) }
     ensures within { (allowed : Reading → Bool) → ((r : Reading) → is_near id_order operation.now r ≡ true → allowed r ≡ true) → IsWithin allowed changes.now → IfOk result (λ outcome. IfOk outcome (λ change. IsWithin allowed change)) }
@@ -72,6 +73,7 @@ pub fn perform<S: Source>(
     notes: &mut Vec<Note>,
 ) -> Result<Result<Delta, Failed>, Stop>
     requires { length operations.now < 2 ^ 32 }
+    ensures about { S.subject source.new ≡ S.subject source.old }
     ensures goes { Goes (is_near_request id_order operations.now) (S.may source.old) (S.may source.new) notes.old.items notes.new.items }
     ensures effect { IfOk result (λ outcome. (d : View) → IsDataset d → Agrees notes.new.items d → performed_so d outcome ≡ performed (numbers dict.now) request 0 operations.now d) }
     ensures within { IfOk result (λ outcome. IfOk outcome (λ change. IsWithin (is_near_request id_order operations.now) change)) }

@@ -53,6 +53,7 @@ pub fn is_present<S: Source>(
     source: &mut S,
     notes: &mut Vec<Note>,
 ) -> Result<bool, Stop>
+    ensures about { S.subject source.new ≡ S.subject source.old }
     ensures goes { (allowed : Reading → Bool) → allowed (the_scan_for quad) ≡ true → Goes allowed (S.may source.old) (S.may source.new) notes.old.items notes.new.items }
     ensures told { IfOk result (λ so. (d : View) → Agrees notes.new.items d → so ≡ has (quad_order id_order) d.quads quad) }
 {
@@ -65,6 +66,7 @@ pub fn is_present<S: Source>(
 
 /// Whether a graph name is there, in each dataset that agrees with the notes.
 pub fn is_named<S: Source>(name: Id, source: &mut S, notes: &mut Vec<Note>) -> Result<bool, Stop>
+    ensures about { S.subject source.new ≡ S.subject source.old }
     ensures goes { (allowed : Reading → Bool) → allowed (read.GraphIs name) ≡ true → Goes allowed (S.may source.old) (S.may source.new) notes.old.items notes.new.items }
     ensures told { IfOk result (λ so. (d : View) → Agrees notes.new.items d → so ≡ has id_order d.names name) }
 {
@@ -93,6 +95,7 @@ pub fn quads_that<S: Source>(
     source: &mut S,
     notes: &mut Vec<Note>,
 ) -> Result<Vec<Quad<Id>>, Stop>
+    ensures about { S.subject source.new ≡ S.subject source.old }
     ensures goes { (allowed : Reading → Bool) → AskedQuads allowed quads.now → Goes allowed (S.may source.old) (S.may source.new) notes.old.items notes.new.items }
     ensures told { IfOk result (λ found. (d : View) → Agrees notes.new.items d → found.items ≡ filter (λ q. bool_eq are_there (has (quad_order id_order) d.quads q)) quads.now) }
 {
@@ -111,6 +114,7 @@ pub fn names_missing<S: Source>(
     source: &mut S,
     notes: &mut Vec<Note>,
 ) -> Result<Vec<Id>, Stop>
+    ensures about { S.subject source.new ≡ S.subject source.old }
     ensures goes { (allowed : Reading → Bool) → AskedNames allowed names.now → Goes allowed (S.may source.old) (S.may source.new) notes.old.items notes.new.items }
     ensures told { IfOk result (λ found. (d : View) → Agrees notes.new.items d → found.items ≡ filter (λ g. bool_eq false (has id_order d.names g)) names.now) }
 {

@@ -23,6 +23,7 @@ loop-operation-init g c =
     let V = numbers c.args.dict.now in
     let ops = c.args.operations.now in
     record {
+      about = refl;
       counted = refl;
       short = c.requires;
       goes = goes_nowhere (is_near_request id_order ops) (g.S.Source.may c.args.source.now) c.args.notes.now.items;
@@ -40,6 +41,7 @@ returns-in-Err-clause-goes g c =
 
 pub loop-operation-preserved : goal.loop-operation-preserved
 loop-operation-preserved g c = record {
+  about = c.perform_one.ensures.about ∙ c.loop-operation.invariant.about;
   counted = ap (λ n. n + 1) c.loop-operation.invariant.counted;
   short = c.loop-operation.invariant.short;
   goes = goes_on c.loop-operation.invariant.goes (goes_within (request_near c.args.operations.now c.loop-operation.operation-index c.operation-item.result c.loop-operation-test.true c.operation-item.is) c.perform_one.ensures.goes);

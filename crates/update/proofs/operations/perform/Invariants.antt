@@ -12,6 +12,7 @@ use Rattle.update.proofs.operations.perform.Given as goal
 -- what is left to do, where the changes so far lead, comes to what all operations come to
 abbrev pub invariant-loop-operation : goal.invariant-loop-operation
 invariant-loop-operation g l = record {
+  about : g.S.Source.subject l.source ≡ g.S.Source.subject l.fn.source;
   counted : l.op ≡ l.operation-index;
   short : length l.operations < 2 ^ 32;
   goes : Goes (is_near_request id_order l.operations) (g.S.Source.may l.fn.source) (g.S.Source.may l.source) l.fn.notes.items l.notes.items;

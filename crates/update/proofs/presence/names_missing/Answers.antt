@@ -17,6 +17,7 @@ returns-in_err-push_if-clause-goes g c allowed h =
 
 pub loop-name-preserved : goal.loop-name-preserved
 loop-name-preserved g c = record {
+  about = c.is_named.ensures.about ∙ c.loop-name.invariant.about;
   goes = λ allowed h.
       goes_on (c.loop-name.invariant.goes allowed h) (c.is_named.ensures.goes allowed (all_at (λ q. allowed (GraphIs q) ≡ true) _ _ _ h c.loop-name-test.true));
   told = λ d a.

@@ -13,6 +13,7 @@ use Rattle.update.proofs.presence.names_missing.Given as goal
 -- what was found, with what is so of those that are left, is what is so of all
 abbrev pub invariant-loop-name : goal.invariant-loop-name
 invariant-loop-name g l = record {
+  about : g.S.Source.subject l.source ≡ g.S.Source.subject l.fn.source;
   goes : (allowed : Read → Bool) → AskedNames allowed l.names → Goes allowed (g.S.Source.may l.fn.source) (g.S.Source.may l.source) l.fn.notes.items l.notes.items;
   told : (d : View) → Agrees l.notes.items d →
       let so : Id → Bool = λ n. bool_eq false (has id_order d.names n) in

@@ -18,6 +18,7 @@ returns-in_err-push_if-clause-goes g c allowed h =
 
 pub loop-quad-preserved : goal.loop-quad-preserved
 loop-quad-preserved g c = record {
+  about = c.is_present.ensures.about ∙ c.loop-quad.invariant.about;
   goes = λ allowed h.
       goes_on (c.loop-quad.invariant.goes allowed h) (c.is_present.ensures.goes allowed (all_at (λ q. allowed (scan_for q) ≡ true) _ _ _ h c.loop-quad-test.true));
   told = λ d a.
