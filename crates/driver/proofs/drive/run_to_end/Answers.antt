@@ -4,13 +4,13 @@ use Rattle.driver.proofs.Closed.{subject_is, front_is}
 use Rattle.driver.proofs.drive.run_to_end.Goals as goal
 
 pub returns-clause-terms : goal.returns-clause-terms
-returns-clause-terms g c = ap (λ (s : Subject). s.terms) (subject_is _ c.close.result c.run.new.passes.items c.in_ok-run.ensures.whole c.run.ensures.passes c.close.ensures.includes)
+returns-clause-terms g c = ap (λ (s : Subject). s.terms) (subject_is _ c.close.result c.run.new.passes.items c.in_ok-run.ensures.whole c.in_ok-run.ensures.passes c.close.ensures.includes)
 
 pub returns-clause-base : goal.returns-clause-base
-returns-clause-base g c = ap (λ (s : Subject). s.base) (subject_is _ c.close.result c.run.new.passes.items c.in_ok-run.ensures.whole c.run.ensures.passes c.close.ensures.includes)
+returns-clause-base g c = ap (λ (s : Subject). s.base) (subject_is _ c.close.result c.run.new.passes.items c.in_ok-run.ensures.whole c.in_ok-run.ensures.passes c.close.ensures.includes)
 
 pub returns-clause-block : goal.returns-clause-block
-returns-clause-block g c = ap (λ (s : Subject). s.block) (subject_is _ c.close.result c.run.new.passes.items c.in_ok-run.ensures.whole c.run.ensures.passes c.close.ensures.includes)
+returns-clause-block g c = ap (λ (s : Subject). s.block) (subject_is _ c.close.result c.run.new.passes.items c.in_ok-run.ensures.whole c.in_ok-run.ensures.passes c.close.ensures.includes)
 
 pub returns-clause-whole : goal.returns-clause-whole
 returns-clause-whole g c =
