@@ -3,3 +3,4 @@ pub mod Maps
 pub mod Seen
 pub mod Replacing
 pub mod Scanned
+pub mod Outside

@@ -4,9 +4,10 @@ ghost use Rattle.datasets.specs.Dataset.{names_of as the_names_of};
 ghost use Rattle.eval.specs.Changes.{seen_through, replaced_change, with_replaced};
 ghost use Rattle.reads.specs.Reads.{View, applied};
 
+use crate::lacking::quads_lacking;
 use datasets::{Id, Quad, QuadPattern};
 use reads::Delta;
-use reads::lists::{copied_names, copied_quads, quads_union, quads_without};
+use reads::lists::{copied_names, copied_quads, quads_union};
 use reads::matching::matching;
 use std::alloc::{AllocError, Global};
 
@@ -19,7 +20,8 @@ pub fn quads_after(
 ) -> Result<Vec<Quad<Id>>, AllocError>
     ensures { IfOk result (λ quads. quads.items ≡ seen_through changes.now pattern.now told.now) }
 {
-    let kept = quads_without(matching(alloc, pattern, told)?, changes.absent());
+    let matched = matching(alloc, pattern, told)?;
+    let kept = quads_lacking(alloc, &matched, changes.absent())?;
     let added = matching(alloc, pattern, changes.present())?;
     quads_union(kept, added)
 }
@@ -46,7 +48,7 @@ pub fn replaced(
     let mut there = copied_names(alloc, changes.there())?;
     there.append(&mut names_of(alloc, &inserted)?)?;
     let gone = copied_names(alloc, changes.gone())?;
-    let mut present = quads_without(copied_quads(alloc, changes.present())?, &deleted);
+    let mut present = quads_lacking(alloc, changes.present(), &deleted)?;
     present.append(&mut inserted)?;
     let mut absent = copied_quads(alloc, changes.absent())?;
     absent.append(&mut deleted)?;

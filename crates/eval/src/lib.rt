@@ -6,9 +6,11 @@
 #![tactic(auto)]
 
 pub mod changes;
+pub mod lacking;
 pub mod scanning;
 pub mod solving;
 
 pub use changes::{quads_after, replaced};
+pub use lacking::quads_lacking;
 pub use scanning::scan;
 pub use solving::solve;

@@ -7,7 +7,7 @@ ghost use Rattle.update.specs.Asked.{IsWithin};
 ghost use Rattle.update.specs.Changed.{difference};
 
 use crate::presence::{names_missing, quads_that};
-use reads::lists::{copied_quads, quads_without};
+use eval::quads_lacking;
 use reads::{Delta, Note, Source, Stop};
 use std::alloc::Global;
 
@@ -24,7 +24,7 @@ pub fn least_of<S: Source>(
     ensures goes { (allowed : Reading → Bool) → IsWithin allowed changes.now → Goes allowed (S.may source.old) (S.may source.new) notes.old.items notes.new.items }
     ensures least { IfOk result (λ change. (d : View) → IsDataset d → Agrees notes.new.items d → change ≡ difference d (applied changes.now d)) }
 {
-    let others = quads_without(copied_quads(alloc, changes.absent())?, changes.present());
+    let others = quads_lacking(alloc, changes.absent(), changes.present())?;
     let present = quads_that(alloc, false, changes.present(), source, notes)?;
     let absent = quads_that(alloc, true, &others, source, notes)?;
     let there = names_missing(alloc, changes.there(), source, notes)?;

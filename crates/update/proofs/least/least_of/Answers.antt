@@ -24,25 +24,25 @@ others_within allowed quads absent present e h = quads_within allowed quads _ e 
 
 pub returns-in_err-absent-clause-goes : goal.returns-in_err-absent-clause-goes
 returns-in_err-absent-clause-goes g c allowed h =
-    let others = c.deref.ensures.value ∙ c.quads_without-others.ensures ∙ (λ i. without (quad_order id_order) ((c.in_ok-copied_quads.ensures ∙ c.absent.ensures) i) (c.present.ensures i)) in
+    let others = c.deref.ensures.value ∙ c.in_ok-others.ensures ∙ (λ i. without (quad_order id_order) (c.absent.ensures i) (c.present.ensures i)) in
     goes_on (c.quads_that.ensures.goes allowed (quads_within allowed _ _ c.present-2.ensures h.present)) (c.quads_that-2.ensures.goes allowed (others_within allowed _ _ _ others h.absent))
 
 pub returns-in_err-there-clause-goes : goal.returns-in_err-there-clause-goes
 returns-in_err-there-clause-goes g c allowed h =
-    let others = c.deref.ensures.value ∙ c.quads_without-others.ensures ∙ (λ i. without (quad_order id_order) ((c.in_ok-copied_quads.ensures ∙ c.absent.ensures) i) (c.present.ensures i)) in
+    let others = c.deref.ensures.value ∙ c.in_ok-others.ensures ∙ (λ i. without (quad_order id_order) (c.absent.ensures i) (c.present.ensures i)) in
     goes_on (c.quads_that.ensures.goes allowed (quads_within allowed _ _ c.present-2.ensures h.present))
     (goes_on (c.quads_that-2.ensures.goes allowed (others_within allowed _ _ _ others h.absent)) (c.names_missing.ensures.goes allowed (names_within allowed _ _ c.there.ensures h.there)))
 
 pub returns-clause-goes : goal.returns-clause-goes
 returns-clause-goes g c allowed h =
-    let others = c.deref.ensures.value ∙ c.quads_without-others.ensures ∙ (λ i. without (quad_order id_order) ((c.in_ok-copied_quads.ensures ∙ c.absent.ensures) i) (c.present.ensures i)) in
+    let others = c.deref.ensures.value ∙ c.in_ok-others.ensures ∙ (λ i. without (quad_order id_order) (c.absent.ensures i) (c.present.ensures i)) in
     goes_on (c.quads_that.ensures.goes allowed (quads_within allowed _ _ c.present-2.ensures h.present))
     (goes_on (c.quads_that-2.ensures.goes allowed (others_within allowed _ _ _ others h.absent)) (c.names_missing.ensures.goes allowed (names_within allowed _ _ c.there.ensures h.there)))
 
 pub returns-clause-least : goal.returns-clause-least
 returns-clause-least g c d h a =
     let any : Read → Bool = λ r. true in
-    let others = c.deref.ensures.value ∙ c.quads_without-others.ensures ∙ (λ i. without (quad_order id_order) ((c.in_ok-copied_quads.ensures ∙ c.absent.ensures) i) (c.present.ensures i)) in
+    let others = c.deref.ensures.value ∙ c.in_ok-others.ensures ∙ (λ i. without (quad_order id_order) (c.absent.ensures i) (c.present.ensures i)) in
     let second = (c.names_missing.ensures.goes any (always (λ g. true ≡ true) (λ g. refl) c.there.result.now)).agrees d a in
     let first = (c.quads_that-2.ensures.goes any (always (λ q. true ≡ true) (λ q. refl) c.deref.result.now)).agrees d second in
     least_is c.from_parts.result c.args.changes.now d h c.requires (record {

@@ -1,0 +1,6 @@
+use Rattle.std.proofs.Common.{◌∙◌}
+use Rattle.eval.proofs.Outside.{placed_is}
+use Rattle.eval.proofs.lacking.is_member.Goals as goal
+
+pub returns : goal.returns
+returns c = c.is_some.ensures ∙ placed_is c.args.set.now c.args.quad.now c.place_of.result c.place_of.ensures.found c.place_of.ensures.none
