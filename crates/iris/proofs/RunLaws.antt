@@ -1,7 +1,8 @@
 -- Runs, as code finds them by a position, and as a grammar cuts them.
-use Rattle.std.proofs.Common.{◌≡◌, ℕ, suc, ◌+◌, Bool, true, false, cond, ◌&&◌, List, [], ◌∷◌, ◌++◌, take, drop, refl, ap, ◌∙◌, arith}
+use Rattle.std.proofs.Common.{◌≡◌, ℕ, suc, ◌+◌, Bool, true, false, cond, List, [], ◌∷◌, ◌++◌, take, drop, refl, sym, ap, ◌∙◌, subst, arith}
 use Rattle.std.specs.List.{list_all, prefix_len}
-use Rattle.iris.specs.Runs.{run_of, rest_of}
+use Rattle.std.proofs.lemmas.Bool.{and_parts}
+use Rattle.iris.specs.Runs.{run_of, rest_of, Stops, RunsAreLongest}
 
 one-more : (n : ℕ) → 1 + n ≡ suc n
 one-more n = omega arith
@@ -23,28 +24,29 @@ pub all-run : (p : ℕ → Bool) (xs : List ℕ) → list_all p (run_of p xs) �
 all-run p [] = refl
 all-run p (x ∷ xs) = elim (p x) as (λ b. p x ≡ b → list_all p (cond b (x ∷ run_of p xs) []) ≡ true) [ true ↦ λ e. rw e (all-run p xs) | false ↦ λ e. refl ] refl
 
--- the text ends, or goes on with a byte that doesn't pass
-abbrev pub Stops : (ℕ → Bool) → List ℕ → Type 0
-Stops p [] = Unit {0}
-Stops p (x ∷ xs) = p x ≡ false
-
 pub rest-stops : (p : ℕ → Bool) (xs : List ℕ) → Stops p (rest_of p xs)
 rest-stops p [] = tt
 rest-stops p (x ∷ xs) = elim (p x) as (λ b. p x ≡ b → Stops p (cond b (rest_of p xs) (x ∷ xs))) [ true ↦ λ e. rest-stops p xs | false ↦ λ e. e ] refl
-
-both : (a b : Bool) → (a && b) ≡ true → (a ≡ true) × (b ≡ true)
-both true b e = (refl, e)
-both false b e = absurd cc
 
 -- the longest front that passes is the one after which the text stops
 pub run-is : (p : ℕ → Bool) (front rest : List ℕ) → list_all p front ≡ true → Stops p rest → run_of p (front ++ rest) ≡ front
 run-is p [] [] all stop = refl
 run-is p [] (x ∷ rest) all stop = rw stop refl
-run-is p (x ∷ front) rest all stop = let e = both (p x) (list_all p front) all in rw (e.0) (ap (λ (r : List ℕ). x ∷ r) (run-is p front rest e.1 stop))
+run-is p (x ∷ front) rest all stop = let e = and_parts (p x) (list_all p front) all in rw (e.0) (ap (λ (r : List ℕ). x ∷ r) (run-is p front rest e.1 stop))
 
 pub rest-is : (p : ℕ → Bool) (front rest : List ℕ) → list_all p front ≡ true → Stops p rest → rest_of p (front ++ rest) ≡ rest
 rest-is p [] [] all stop = refl
 rest-is p [] (x ∷ rest) all stop = rw stop refl
-rest-is p (x ∷ front) rest all stop = let e = both (p x) (list_all p front) all in rw (e.0) (rest-is p front rest e.1 stop)
+rest-is p (x ∷ front) rest all stop = let e = and_parts (p x) (list_all p front) all in rw (e.0) (rest-is p front rest e.1 stop)
+
+pub runs_are_longest : RunsAreLongest
+runs_are_longest p text front rest = (
+  λ same. record {
+    cut = sym (run-rest p text) ∙ (λ i. same.0 i ++ same.1 i);
+    all = subst (λ (bs : List ℕ). list_all p bs ≡ true) same.0 (all-run p text);
+    stops = subst (Stops p) same.1 (rest-stops p text);
+  },
+  λ is. (ap (run_of p) is.cut ∙ run-is p front rest is.all is.stops, ap (rest_of p) is.cut ∙ rest-is p front rest is.all is.stops),
+)
 
 pub ruleset cuts = (take-prefix, drop-prefix)

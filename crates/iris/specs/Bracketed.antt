@@ -1,5 +1,5 @@
 -- An IRI in angle brackets at the front of a text.
-use Rattle.std.specs.Prelude.{ℕ, ◌==◌, ◌&&◌, not, Bool, List, [], ◌∷◌, ◌++◌, ◌≡◌, Option, Some, None, option_and_then, if◌then◌else◌}
+use Rattle.std.specs.Prelude.{ℕ, ◌==◌, ◌&&◌, not, Bool, List, [], ◌∷◌, ◌++◌, ◌≡◌, ◌↔◌, Option, Some, None, option_and_then, if◌then◌else◌}
 use Rattle.std.specs.Str.{is_utf8}
 use Rattle.iris.specs.Iri.{is_iri, IsIri}
 use Rattle.iris.specs.Runs.{run_of, rest_of}
@@ -31,3 +31,7 @@ close_at text (b ∷ rest) = do
 unfoldable pub iri_at : List ℕ → Option (List ℕ × List ℕ)
 iri_at [] = None
 iri_at (b ∷ text) = if b == 60 then close_at (run_of is_open text) (rest_of is_open text) else None
+
+-- the law of this reading: it gives the IRI that stands at the front
+abbrev pub IrisAreRead : Type 0
+IrisAreRead = (text iri rest : List ℕ) → (iri_at text ≡ Some (iri, rest)) ↔ IriAt text iri rest

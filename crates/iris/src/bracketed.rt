@@ -1,7 +1,8 @@
 //! An IRI in angle brackets.
-ghost use Rattle.std.specs.Prelude.{◌≡◌, ◌≤◌, length, true, false, MatchOption, IfOk, Some, None};
+ghost use Rattle.std.specs.Prelude.{◌≡◌, ◌≤◌, length, true, false, MatchOption, IfOk, IfSome, Some, None};
 ghost use Rattle.std.specs.List.{prefix_len};
 ghost use Rattle.std.specs.Str.{is_utf8};
+ghost use Rattle.iris.specs.Iri.{IsIri};
 ghost use Rattle.iris.specs.Runs.{run_of, rest_of};
 ghost use Rattle.iris.specs.Bracketed.{iri_at, iri_of, is_open};
 
@@ -49,9 +50,10 @@ pub fn is_utf8(bytes: &[u8]) -> bool
 }
 
 /// The IRI in angle brackets at the front of a text, and what follows it.
-#[tactic(auto, unfolding(crate::specs::Bracketed::iri_at, crate::specs::Bracketed::iri_of))]
+#[tactic(auto, using(crate::proofs::BracketLaws::tested_iri), unfolding(crate::specs::Bracketed::iri_at, crate::specs::Bracketed::iri_of))]
 pub fn front_iri(text: &[u8]) -> Option<(&[u8], &[u8])>
-    ensures { MatchOption result (iri_at text.now ≡ None) (λ x. iri_at text.now ≡ Some (x.0.now, x.1.now)) }
+    ensures found { MatchOption result (iri_at text.now ≡ None) (λ x. iri_at text.now ≡ Some (x.0.now, x.1.now)) }
+    ensures form { IfSome result (λ x. IsIri x.0.now) }
 {
     let [b'<', text @ ..] = text else {
         return None;

@@ -82,6 +82,14 @@ impl Iri {
         Ok(Some(Iri { text }))
     }
 
+    /// The same IRI again. An `Err` comes only where memory runs out.
+    pub fn copied(&self, alloc: Global) -> Result<Iri, AllocError>
+        ensures { IfOk result (λ copy. copy ≡ self.now) }
+    {
+        let text = String::from_str(alloc, self.as_str())?;
+        Ok(Iri { text })
+    }
+
     pub fn as_str(&self) -> &str
         ensures text { result.now ≡ self.now }
         ensures form { IsIri self.now }

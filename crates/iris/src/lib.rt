@@ -6,6 +6,7 @@
 
 pub mod bracketed;
 pub mod iri;
+pub mod laws;
 
 pub use bracketed::{front_iri, is_utf8};
 pub use iri::{Iri, is_iri};

@@ -6,12 +6,12 @@ use Rattle.lexer.specs.declared.stop.Stop.{Stop}
 use Rattle.lexer.specs.declared.stop.Stop.TheVariants as stop
 use Rattle.lexer.specs.Gives.{IsCut}
 use Rattle.std.specs.List.{list_all}
-use Rattle.std.proofs.lemmas.Bool.{eqb-true}
+use Rattle.std.proofs.lemmas.Bool.{eqb-true, and_parts, not-false}
+use Rattle.std.proofs.lemmas.Option.{same_Some}
 use Rattle.std.proofs.lemmas.List.{append-nil, nil_from_length}
-use Rattle.iris.specs.Runs.{run_of, rest_of}
+use Rattle.iris.specs.Runs.{run_of, rest_of, RunsAreLongest}
+use Rattle.iris.specs.Bracketed.{IrisAreRead}
 use Rattle.iris.specs.Iri.{is_letter}
-use Rattle.iris.proofs.RunLaws.{run-rest, all-run}
-use Rattle.iris.proofs.BracketLaws.{both, not_false, some_is}
 use Rattle.lexer.specs.declared.token.Token.{Token}
 use Rattle.lexer.specs.declared.token.Sign.{Sign}
 use Rattle.lexer.specs.declared.token.Sign.TheVariants as signs
@@ -19,7 +19,7 @@ use Rattle.lexer.specs.Names.{IsPrefix, IsWord}
 use Rattle.lexer.specs.Form.{IsToken, iri, name, word, sign, sign_byte}
 use Rattle.lexer.specs.Cut.{is_space, is_inner, is_line_end, AtLineEnd, IsLongest, Cuts, end, space, comment, token}
 use Rattle.lexer.specs.Reading.{skip_from, token_at}
-use Rattle.lexer.proofs.TokenLaws.{token_found, longest_found, longest_again, none_begins, no_some}
+use Rattle.lexer.proofs.TokenLaws.{run-rest, all-run, token_found, longest_found, longest_again, none_begins, no_some}
 
 -- ---- white space and comments
 
@@ -28,36 +28,15 @@ or_right true b e = refl
 or_right false b e = e
 
 line_end_space : (b : ℕ) → is_inner b ≡ false → is_space b ≡ true
-line_end_space b e = or_right (eqb b 32 || eqb b 9) (is_line_end b) (not_false (is_line_end b) e)
+line_end_space b e = or_right (eqb b 32 || eqb b 9) (is_line_end b) (not-false (is_line_end b) e)
 
 inner_rest : (bs : List ℕ) → AtLineEnd (rest_of is_inner bs)
 inner_rest [] = tt
 inner_rest (b ∷ bs) = elim (is_inner b) as (λ t. is_inner b ≡ t → AtLineEnd (cond t (rest_of is_inner bs) (b ∷ bs))) [ true ↦ λ e. inner_rest bs | false ↦ λ e. e ] refl
 
--- what is cut after the white space and comments is cut before them
-mutual
-  unskip : (bs : List ℕ) (ts : List Token) → Cuts (skip_from false bs) ts → Cuts bs ts
-  unskip [] ts c = c
-  unskip (b ∷ bs) ts c =
-      elim (is_space b) as (λ t. is_space b ≡ t → Cuts (cond t (skip_from false bs) (cond (eqb b 35) (skip_from true bs) (b ∷ bs))) ts → Cuts (b ∷ bs) ts) [
-        | true ↦ λ e c. space e (unskip bs ts c)
-        | false ↦ λ e c. elim (eqb b 35) as (λ t. eqb b 35 ≡ t → Cuts (cond t (skip_from true bs) (b ∷ bs)) ts → Cuts (b ∷ bs) ts) [
-          | true ↦ λ e c. comment (run_of is_inner bs) (ap (λ (x : ℕ). x ∷ bs) (eqb-true b 35 e) ∙ ap (λ (r : List ℕ). 35 ∷ r) (sym (run-rest is_inner bs))) (all-run is_inner bs) (inner_rest bs) (unskip_comment bs ts c)
-          | false ↦ λ e c. c
-        ] refl c
-      ] refl c
-
-  unskip_comment : (bs : List ℕ) (ts : List Token) → Cuts (skip_from true bs) ts → Cuts (rest_of is_inner bs) ts
-  unskip_comment [] ts c = c
-  unskip_comment (b ∷ bs) ts c =
-      elim (is_inner b) as (λ t. is_inner b ≡ t → Cuts (cond t (skip_from true bs) (skip_from false bs)) ts → Cuts (cond t (rest_of is_inner bs) (b ∷ bs)) ts) [
-        | true ↦ λ e c. unskip_comment bs ts c
-        | false ↦ λ e c. space (line_end_space b e) (unskip bs ts c)
-      ] refl c
-
 skip_inner : (inner rest : List ℕ) → list_all is_inner inner ≡ true → skip_from true (inner ++ rest) ≡ skip_from true rest
 skip_inner [] rest all = refl
-skip_inner (b ∷ bs) rest all = let h = both (is_inner b) (list_all is_inner bs) all in rw (h.0) (skip_inner bs rest h.1)
+skip_inner (b ∷ bs) rest all = let h = and_parts (is_inner b) (list_all is_inner bs) all in rw (h.0) (skip_inner bs rest h.1)
 
 skip_line_end : (rest : List ℕ) → AtLineEnd rest → skip_from true rest ≡ skip_from false rest
 skip_line_end [] at = refl
@@ -123,9 +102,6 @@ skip_twice false (b ∷ bs) =
       ] refl
     ] refl
 
-pub cut_start : (text : List ℕ) → IsCutSoFar text [] (skip_from false text)
-cut_start text = record { more = λ later c. unskip text later c; only = λ all c. (all, refl, skipped c); skips = skip_twice false text }
-
 -- what a text that begins with a token is cut into
 data BeginsWith (text : List ℕ) (all : List Token) : Type 0 where
   begins : (front rest : List ℕ) (t : Token) (ts : List Token) → IsLongest text front rest t → Cuts rest ts → all ≡ t ∷ ts → BeginsWith text all
@@ -182,42 +158,6 @@ cut_nil : (rest : List ℕ) (all : List Token) → rest ≡ [] → BeginsWith re
 cut_nil rest all nothing (begins front r u ts is c all-is) = absurd (no_front front r (sym nothing ∙ is.cut) (token_len is.is))
 cut_nil rest all nothing (ends e all-is) = all-is
 
-stuck : (rest : List ℕ) (all : List Token) → 0 < length rest → token_at rest ≡ None → BeginsWith rest all → ⊥
-stuck rest all some e (begins front r u ts is c all-is) = none_begins rest front r u e is.cut is.is
-stuck rest all some e (ends nothing all-is) = let none : length rest ≡ 0 = ap length nothing in omega arith
-
-pub cut_smaller : (rest : List ℕ) (t : Token) (after : List ℕ) → token_at rest ≡ Some (t, after) → length (skip_from false after) < length rest
-cut_smaller rest t after e =
-    let f = token_found rest t after e in
-    let some : 0 < length f.front = token_len f.is in
-    let whole : length rest ≡ length (f.front ++ after) = ap length f.cut in
-    omega (arith, length-append f.front after, skip_len false after)
-
--- the first token of what is left
-first_is : (rest : List ℕ) (t : Token) (after : List ℕ) (all : List Token) → token_at rest ≡ Some (t, after) → BeginsWith rest all → (later : List Token) × (all ≡ t ∷ later) × Cuts after later
-unfolding token_at
-first_is rest t after all e (begins front r u ts is c all-is) =
-    let same = some_is (u, r) (t, after) (sym (longest_again rest front r u is) ∙ e) in
-    (ts, all-is ∙ ap (λ (x : Token). x ∷ ts) (ap (λ (y : Token × List ℕ). y.0) same), subst (λ x. Cuts x ts) (ap (λ (y : Token × List ℕ). y.1) same) c)
-first_is rest t after all e (ends nothing all-is) = absurd (no_some (t, after) (ap token_at (sym nothing) ∙ e))
-
-pub cut_more : (text : List ℕ) (before : List Token) (rest : List ℕ) (t : Token) (after : List ℕ) → IsCutSoFar text before rest → token_at rest ≡ Some (t, after) → IsCutSoFar text (before ++ t ∷ []) (skip_from false after)
-cut_more text before rest t after so_far e =
-    let l = longest_found rest t after e in
-    record {
-      more = λ later c. subst (λ ts. Cuts text ts) (sym (append_assoc before (t ∷ []) later)) (so_far.more (t ∷ later) (token l.1 (unskip after later c)));
-      only = λ all c.
-          let o = so_far.only all c in
-          let f = first_is rest t after o.0 e (token_first so_far.skips o.2) in
-          (f.0, o.1 ∙ ap (λ (ts : List Token). before ++ ts) f.1 ∙ sym (append_assoc before (t ∷ []) f.0), skipped f.2);
-      skips = skip_twice false after;
-    }
-
-pub cut_stuck : (text : List ℕ) (before : List Token) (rest : List ℕ) → IsCutSoFar text before rest → 0 < length rest → token_at rest ≡ None → (ts : List Token) → Cuts text ts → ⊥
-cut_stuck text before rest so_far some e ts c =
-    let o = so_far.only ts c in
-    stuck rest o.0 some e (token_first so_far.skips o.2)
-
 pub cut_done : (text : List ℕ) (before : List Token) (rest : List ℕ) → IsCutSoFar text before rest → length rest ≡ 0 → Cuts text before × ((ts : List Token) → Cuts text ts → ts ≡ before)
 cut_done text before rest so_far none =
     let nothing : rest ≡ [] = nil_from_length rest none in (
@@ -228,24 +168,85 @@ cut_done text before rest so_far none =
 pub is_stuck : (text : List ℕ) (r : Result (Vec Token) Stop) (e : Stop) → r ≡ Err e → e ≡ stop.NoReading → ((ts : List Token) → Cuts text ts → ⊥) → IsCut text r
 is_stuck text r e r-is e-is nothing = subst (λ r. IsCut text r) (sym (r-is ∙ ap (λ (e : Stop). let r : Result (Vec Token) Stop = Err e in r) e-is)) nothing
 
--- ---- one list of tokens
+-- ---- by the laws of runs, and of IRIs in angle brackets
 
-one_first : (rest : List ℕ) (us : List Token) (front after : List ℕ) (t : Token) (ts : List Token) → IsLongest rest front after t → BeginsWith rest us → (later : List Token) × (us ≡ t ∷ later) × Cuts after later
-one_first rest us front after t ts is other = first_is rest t after us (longest_again rest front after t is) other
+module _ (runs : RunsAreLongest) (read : IrisAreRead) where
+  -- what is cut after the white space and comments is cut before them
+  mutual
+    unskip : (bs : List ℕ) (ts : List Token) → Cuts (skip_from false bs) ts → Cuts bs ts
+    unskip [] ts c = c
+    unskip (b ∷ bs) ts c =
+        elim (is_space b) as (λ t. is_space b ≡ t → Cuts (cond t (skip_from false bs) (cond (eqb b 35) (skip_from true bs) (b ∷ bs))) ts → Cuts (b ∷ bs) ts) [
+          | true ↦ λ e c. space e (unskip bs ts c)
+          | false ↦ λ e c. elim (eqb b 35) as (λ t. eqb b 35 ≡ t → Cuts (cond t (skip_from true bs) (b ∷ bs)) ts → Cuts (b ∷ bs) ts) [
+            | true ↦ λ e c. comment (run_of is_inner bs) (ap (λ (x : ℕ). x ∷ bs) (eqb-true b 35 e) ∙ ap (λ (r : List ℕ). 35 ∷ r) (sym (run-rest runs is_inner bs))) (all-run runs is_inner bs) (inner_rest bs) (unskip_comment bs ts c)
+            | false ↦ λ e c. c
+          ] refl c
+        ] refl c
 
--- a text of at most n bytes, at the place of a token or at its end
-one_from : (n : ℕ) (rest : List ℕ) (ts us : List Token) → length rest < n → BeginsWith rest ts → BeginsWith rest us → ts ≡ us
-one_from zero rest ts us less a b = absurd (omega arith)
-one_from (suc n) rest ts us less (ends nothing ts-is) b = ts-is ∙ sym (cut_nil rest us nothing b)
-one_from (suc n) rest ts us less (begins front after t later is c ts-is) b =
-    let o = one_first rest us front after t later is b in
-    let some : 0 < length front = token_len is.is in
-    let whole : length rest ≡ length (front ++ after) = ap length is.cut in
-    let shorter : length (skip_from false after) < n = omega (arith, length-append front after, skip_len false after) in
-    ts-is
-    ∙ ap (λ (x : List Token). t ∷ x) (one_from n (skip_from false after) later o.0 shorter (token_first (skip_twice false after) (skipped c)) (token_first (skip_twice false after) (skipped o.2)))
-    ∙ sym o.1
+    unskip_comment : (bs : List ℕ) (ts : List Token) → Cuts (skip_from true bs) ts → Cuts (rest_of is_inner bs) ts
+    unskip_comment [] ts c = c
+    unskip_comment (b ∷ bs) ts c =
+        elim (is_inner b) as (λ t. is_inner b ≡ t → Cuts (cond t (skip_from true bs) (skip_from false bs)) ts → Cuts (cond t (rest_of is_inner bs) (b ∷ bs)) ts) [
+          | true ↦ λ e c. unskip_comment bs ts c
+          | false ↦ λ e c. space (line_end_space b e) (unskip bs ts c)
+        ] refl c
 
--- a text is cut into at most one list of tokens
-pub one_cut : (text : List ℕ) (ts us : List Token) → Cuts text ts → Cuts text us → ts ≡ us
-one_cut text ts us c d = one_from (suc (length (skip_from false text))) (skip_from false text) ts us (omega arith) (token_first (skip_twice false text) (skipped c)) (token_first (skip_twice false text) (skipped d))
+  pub cut_start : (text : List ℕ) → IsCutSoFar text [] (skip_from false text)
+  cut_start text = record { more = λ later c. unskip text later c; only = λ all c. (all, refl, skipped c); skips = skip_twice false text }
+
+  stuck : (rest : List ℕ) (all : List Token) → 0 < length rest → token_at rest ≡ None → BeginsWith rest all → ⊥
+  stuck rest all some e (begins front r u ts is c all-is) = none_begins runs read rest front r u e is.cut is.is
+  stuck rest all some e (ends nothing all-is) = let none : length rest ≡ 0 = ap length nothing in omega arith
+
+  pub cut_smaller : (rest : List ℕ) (t : Token) (after : List ℕ) → token_at rest ≡ Some (t, after) → length (skip_from false after) < length rest
+  cut_smaller rest t after e =
+      let f = token_found runs read rest t after e in
+      let some : 0 < length f.front = token_len f.is in
+      let whole : length rest ≡ length (f.front ++ after) = ap length f.cut in
+      omega (arith, length-append f.front after, skip_len false after)
+
+  -- the first token of what is left
+  first_is : (rest : List ℕ) (t : Token) (after : List ℕ) (all : List Token) → token_at rest ≡ Some (t, after) → BeginsWith rest all → (later : List Token) × (all ≡ t ∷ later) × Cuts after later
+  unfolding token_at
+  first_is rest t after all e (begins front r u ts is c all-is) =
+      let same = same_Some (u, r) (t, after) (sym (longest_again runs read rest front r u is) ∙ e) in
+      (ts, all-is ∙ ap (λ (x : Token). x ∷ ts) (ap (λ (y : Token × List ℕ). y.0) same), subst (λ x. Cuts x ts) (ap (λ (y : Token × List ℕ). y.1) same) c)
+  first_is rest t after all e (ends nothing all-is) = absurd (no_some (t, after) (ap token_at (sym nothing) ∙ e))
+
+  pub cut_more : (text : List ℕ) (before : List Token) (rest : List ℕ) (t : Token) (after : List ℕ) → IsCutSoFar text before rest → token_at rest ≡ Some (t, after) → IsCutSoFar text (before ++ t ∷ []) (skip_from false after)
+  cut_more text before rest t after so_far e =
+      let l = longest_found runs read rest t after e in
+      record {
+        more = λ later c. subst (λ ts. Cuts text ts) (sym (append_assoc before (t ∷ []) later)) (so_far.more (t ∷ later) (token l.1 (unskip after later c)));
+        only = λ all c.
+            let o = so_far.only all c in
+            let f = first_is rest t after o.0 e (token_first so_far.skips o.2) in
+            (f.0, o.1 ∙ ap (λ (ts : List Token). before ++ ts) f.1 ∙ sym (append_assoc before (t ∷ []) f.0), skipped f.2);
+        skips = skip_twice false after;
+      }
+
+  pub cut_stuck : (text : List ℕ) (before : List Token) (rest : List ℕ) → IsCutSoFar text before rest → 0 < length rest → token_at rest ≡ None → (ts : List Token) → Cuts text ts → ⊥
+  cut_stuck text before rest so_far some e ts c =
+      let o = so_far.only ts c in
+      stuck rest o.0 some e (token_first so_far.skips o.2)
+
+  one_first : (rest : List ℕ) (us : List Token) (front after : List ℕ) (t : Token) (ts : List Token) → IsLongest rest front after t → BeginsWith rest us → (later : List Token) × (us ≡ t ∷ later) × Cuts after later
+  one_first rest us front after t ts is other = first_is rest t after us (longest_again runs read rest front after t is) other
+
+  -- a text of at most n bytes, at the place of a token or at its end
+  one_from : (n : ℕ) (rest : List ℕ) (ts us : List Token) → length rest < n → BeginsWith rest ts → BeginsWith rest us → ts ≡ us
+  one_from zero rest ts us less a b = absurd (omega arith)
+  one_from (suc n) rest ts us less (ends nothing ts-is) b = ts-is ∙ sym (cut_nil rest us nothing b)
+  one_from (suc n) rest ts us less (begins front after t later is c ts-is) b =
+      let o = one_first rest us front after t later is b in
+      let some : 0 < length front = token_len is.is in
+      let whole : length rest ≡ length (front ++ after) = ap length is.cut in
+      let shorter : length (skip_from false after) < n = omega (arith, length-append front after, skip_len false after) in
+      ts-is
+      ∙ ap (λ (x : List Token). t ∷ x) (one_from n (skip_from false after) later o.0 shorter (token_first (skip_twice false after) (skipped c)) (token_first (skip_twice false after) (skipped o.2)))
+      ∙ sym o.1
+
+  -- a text is cut into at most one list of tokens
+  pub one_cut : (text : List ℕ) (ts us : List Token) → Cuts text ts → Cuts text us → ts ≡ us
+  one_cut text ts us c d = one_from (suc (length (skip_from false text))) (skip_from false text) ts us (omega arith) (token_first (skip_twice false text) (skipped c)) (token_first (skip_twice false text) (skipped d))

@@ -1,5 +1,6 @@
 -- The parts of tokens: IRIs are IRIs, and an IRI with a local part after it is one.
 use Rattle.std.proofs.Common.{◌≡◌, ℕ, ◌<◌, true, false, cond, not, ◌&&◌, ◌||◌, eqb, leb, List, [], ◌∷◌, ◌++◌, refl, sym, ap, ◌∙◌, arith, IsUtf8, inl, inr}
+use Rattle.std.specs.Prelude.{All}
 use Rattle.std.specs.List.{list_all, AllByRecursion}
 use Rattle.std.proofs.lemmas.Bool.{or_cases, and_parts, and_from, not-false, leb-true, eqb-true, agree_below_at}
 use Rattle.std.proofs.lemmas.Str.{IsUtf8-append, IsUtf8-from_ascii}
@@ -8,9 +9,8 @@ use Rattle.std.proofs.lemmas.List.Elements.{All-from_recursion}
 use Rattle.std.proofs.lemmas.List.Folds.{list_all-append}
 use Rattle.iris.specs.Iri.{is_letter, is_digit, is_scheme_byte, is_iri_byte, after_first, IsIri}
 use Rattle.lexer.specs.declared.token.Token.{Token}
-use Rattle.lexer.specs.declared.token.Token.TheVariants as token
 use Rattle.lexer.specs.Names.{is_name_byte, IsLocal}
-use Rattle.lexer.specs.Form.{IsToken, iri, name, word, sign}
+use Rattle.lexer.specs.Form.{IsToken, iri, name, word, sign, HasParts}
 use Rattle.lexer.specs.Cut.{Cuts, end, space, comment, token as token_cut}
 use Rattle.lexer.proofs.TokenLaws.{start_name, all_weaker}
 
@@ -64,9 +64,9 @@ after_more (b ∷ bs) l e all =
     ] e
 
 -- a namespace's IRI and a local part
-pub iri_more : (namespace l : List ℕ) → IsIri namespace → IsLocal l → IsIri (namespace ++ l)
-iri_more [] l is local = absurd (let e : false ≡ true = is.form in cc)
-iri_more (b ∷ bs) l is local =
+pub iri_with_local : (namespace l : List ℕ) → IsIri namespace → IsLocal l → IsIri (namespace ++ l)
+iri_with_local [] l is local = absurd (let e : false ≡ true = is.form in cc)
+iri_with_local (b ∷ bs) l is local =
     let g = and_parts (is_letter b) (after_first bs) is.form in
     let names = local_names l local in
     record {
@@ -76,21 +76,17 @@ iri_more (b ∷ bs) l is local =
 
 -- ---- tokens
 
--- what a token's parts are
-abbrev pub HasParts : Token → Type 0
-HasParts (token.Iri i) = IsIri i
-HasParts (token.Name p l) = IsLocal l
-HasParts (token.Word w) = Unit {0}
-HasParts (token.Sign s) = Unit {0}
-
 token_parts : {front : List ℕ} {t : Token} → IsToken front t → HasParts t
 token_parts (iri {i} is) = is
 token_parts (name {p} {l} prefix local) = local
 token_parts (word {w} is) = tt
 token_parts (sign s) = tt
 
-pub cut_parts : {text : List ℕ} {ts : List Token} → Cuts text ts → AllByRecursion HasParts ts
+cut_parts : {text : List ℕ} {ts : List Token} → Cuts text ts → AllByRecursion HasParts ts
 cut_parts end = tt
 cut_parts (space e c) = cut_parts c
 cut_parts (comment inner cut all at c) = cut_parts c
 cut_parts (token_cut is c) = (token_parts is.is, cut_parts c)
+
+pub tokens_have_parts : (text : List ℕ) (ts : List Token) → Cuts text ts → All HasParts ts
+tokens_have_parts text ts c = All-from_recursion HasParts ts (cut_parts c)

@@ -26,3 +26,10 @@ pub data IsToken : List ℕ → Token → Type 0 where
   variable : {m : ℕ} {v : List ℕ} → is_variable_mark m ≡ true → IsVariable v → IsToken (m ∷ v) (token.Variable v)
   word : {w : List ℕ} → IsWord w → IsToken w (token.Word w)
   sign : (s : Sign) → IsToken (sign_byte s ∷ []) (token.Sign s)
+
+-- a token's IRI is one, and its local part is one
+abbrev pub HasParts : Token → Type 0
+HasParts (token.Iri i) = IsIri i
+HasParts (token.Name p l) = IsLocal l
+HasParts (token.Word w) = Unit {0}
+HasParts (token.Sign s) = Unit {0}

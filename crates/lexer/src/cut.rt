@@ -6,6 +6,7 @@ ghost use Rattle.lexer.specs.Gives.{IsCut};
 use crate::scan::{skip, token_at};
 use crate::stop::Stop;
 use crate::token::Token;
+use iris::laws::{iris_are_read, runs_are_longest};
 use std::alloc::Global;
 
 /// The longest token at the front of a text, and what follows it.
@@ -22,6 +23,8 @@ fn longest(text: &[u8]) -> Result<(Token<'_>, &[u8]), Stop>
 fn tokens_of(alloc: Global, text: &[u8]) -> Result<Vec<Token<'_>>, Stop>
     ensures { IsCut text.now result }
 {
+    runs_are_longest();
+    iris_are_read();
     let mut tokens = Vec::new(alloc);
     let mut rest = skip(text);
     while !rest.is_empty() {

@@ -1,9 +1,27 @@
 //! Laws of the definitions.
-ghost use Rattle.std.specs.Prelude.{◌≡◌, List, ℕ};
+ghost use Rattle.std.specs.Prelude.{◌≡◌, ◌++◌, List, ℕ, All};
+ghost use Rattle.iris.specs.Iri.{IsIri};
 ghost use Rattle.lexer.specs.declared.token.Token.{Token};
+ghost use Rattle.lexer.specs.Names.{IsLocal};
+ghost use Rattle.lexer.specs.Form.{HasParts};
 ghost use Rattle.lexer.specs.Cut.{Cuts};
+
+use iris::laws::{iris_are_read, runs_are_longest};
 
 /// A text is cut into at most one list of tokens.
 pub fn one_cut()
     ensures { (text : List ℕ) (ts us : List Token) → Cuts text ts → Cuts text us → ts ≡ us }
+{
+    runs_are_longest();
+    iris_are_read();
+}
+
+/// The IRIs of a text's tokens are IRIs, and their local parts are local parts.
+pub fn tokens_have_parts()
+    ensures { (text : List ℕ) (ts : List Token) → Cuts text ts → All HasParts ts }
+{}
+
+/// An IRI with a local part after it is an IRI.
+pub fn iri_with_local()
+    ensures { (iri local : List ℕ) → IsIri iri → IsLocal local → IsIri (iri ++ local) }
 {}

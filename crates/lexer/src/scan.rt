@@ -10,6 +10,7 @@ ghost use Rattle.lexer.specs.Reading.{skip_from, local_at, name_after, name_or_w
 use crate::pieces::{IriText, LocalPart, Piece};
 use crate::token::{Sign, Token};
 use iris::front_iri;
+use iris::laws::{run_by_length, runs_are_longest};
 
 fn is_name_byte(b: u8) -> bool
     ensures { result ≡ is_name_byte b }
@@ -25,11 +26,11 @@ fn name_len(text: &[u8]) -> usize
 }
 
 /// The name bytes at the front of a text, and the rest.
-#[tactic(auto, using(iris::proofs::RunLaws::cuts))]
 fn cut_name(text: &[u8]) -> (&[u8], &[u8])
     ensures front { result.0.now ≡ run_of is_name_byte text.now }
     ensures rest { result.1.now ≡ rest_of is_name_byte text.now }
 {
+    run_by_length();
     text.split_at(name_len(text))
 }
 
@@ -41,11 +42,11 @@ fn letter_len(text: &[u8]) -> usize
 }
 
 /// The letters at the front of a text, and the rest.
-#[tactic(auto, using(iris::proofs::RunLaws::cuts))]
 fn cut_word(text: &[u8]) -> (&[u8], &[u8])
     ensures front { result.0.now ≡ run_of is_letter text.now }
     ensures rest { result.1.now ≡ rest_of is_letter text.now }
 {
+    run_by_length();
     text.split_at(letter_len(text))
 }
 
@@ -95,6 +96,7 @@ fn name_after<'a>(prefix: &'a [u8], text: &'a [u8]) -> Option<(Token<'a>, &'a [u
         return None;
     };
     let (local, rest) = local_at(text);
+    runs_are_longest();
     let name = Token::Name {
         prefix: Piece::new(prefix),
         local: LocalPart::new(local),

@@ -5,19 +5,19 @@ use Rattle.lexer.proofs.CutLaws.{cut_start, cut_more, cut_smaller, cut_stuck, cu
 use Rattle.lexer.proofs.cut.tokens_of.Goals as goal
 
 pub loop-rest-init : goal.loop-rest-init
-loop-rest-init c = rw (c.new-tokens.ensures.items, c.skip-rest.ensures) (cut_start c.args.text.now)
+loop-rest-init c = rw (c.new-tokens.ensures.items, c.skip-rest.ensures) (cut_start c.runs_are_longest.ensures c.iris_are_read.ensures c.args.text.now)
 
 pub returns-in_err-token : goal.returns-in_err-token
 returns-in_err-token c =
     let p = err_from_is_err_and c.from_residual.result c.from_residual.ensures.1 in
     let some : 0 < length c.loop-rest.rest.now = grind (arith, common_steps) in
-    is_stuck _ _ _ p.1 (p.2 ∙ c.in_err-token.ensures.none.0) (cut_stuck _ _ _ c.loop-rest.invariant some c.in_err-token.ensures.none.1)
+    is_stuck _ _ _ p.1 (p.2 ∙ c.in_err-token.ensures.none.0) (cut_stuck c.runs_are_longest.ensures c.iris_are_read.ensures _ _ _ c.loop-rest.invariant some c.in_err-token.ensures.none.1)
 
 pub loop-rest-smaller : goal.loop-rest-smaller
-loop-rest-smaller c = rw (c.skip-rest-in-loop-rest.ensures) (cut_smaller _ _ _ c.in_ok-token.ensures.found)
+loop-rest-smaller c = rw (c.skip-rest-in-loop-rest.ensures) (cut_smaller c.runs_are_longest.ensures c.iris_are_read.ensures _ _ _ c.in_ok-token.ensures.found)
 
 pub loop-rest-preserved : goal.loop-rest-preserved
-loop-rest-preserved c = rw (c.in_ok-push.ensures.items, c.skip-rest-in-loop-rest.ensures) (cut_more _ _ _ _ _ c.loop-rest.invariant c.in_ok-token.ensures.found)
+loop-rest-preserved c = rw (c.in_ok-push.ensures.items, c.skip-rest-in-loop-rest.ensures) (cut_more c.runs_are_longest.ensures c.iris_are_read.ensures _ _ _ _ _ c.loop-rest.invariant c.in_ok-token.ensures.found)
 
 pub returns : goal.returns
 returns c =
