@@ -5,8 +5,8 @@ use Rattle.std.specs.Option.{option_map_or}
 use Rattle.std.specs.Char.{to_ascii_lowercase}
 use Rattle.std.specs.Cmp.Lexicographic.{bytes_decides}
 use Rattle.std.specs.Bool.{one_answer}
+use Rattle.std.proofs.lemmas.Option.{same_Some, cond_some}
 use Rattle.iris.specs.Bracketed.{◌>>=◌}
-use Rattle.iris.proofs.BracketLaws.{bind_some, some_is, guard_some}
 use Rattle.lexer.specs.declared.token.Token.{Token}
 use Rattle.lexer.specs.declared.token.Token.TheVariants as token
 use Rattle.lexer.specs.declared.token.Sign.TheVariants as signs
@@ -14,6 +14,7 @@ use Rattle.syntax_trees.specs.declared.tree.SameSubject.{SameSubject}
 use Rattle.grammar.specs.Many.{last, next}
 use Rattle.grammar.specs.Reads.{iri, prefixed, same, ReadsTriples, ReadsBlock, empty, filled, is_keyword}
 use Rattle.grammar.specs.Reading.{triples_at, open_at, close_at, filled_at, block_at, keyword_at}
+use Rattle.grammar.proofs.ManyLaws.{bind_some}
 use Rattle.grammar.proofs.Instances.{triples_found, triples_again, at_close}
 
 pub keyword_is : (r : Bool) (w k : List ℕ) → IsTrue r ↔ (map to_ascii_lowercase w ≡ map to_ascii_lowercase k) → r ≡ is_keyword w k
@@ -21,15 +22,12 @@ keyword_is r w k h = one_answer r (is_keyword w k) h (bytes_decides (map to_asci
 
 pub ruleset keywords = (keyword_is)
 
-pub none_some : {A : Type 0} (x : A) → None ≡ Some x → ⊥
-none_some x e = absurd cc
-
 open_found : (ts rest : List Token) → open_at ts ≡ Some rest → ts ≡ token.Sign signs.OpenBrace ∷ rest
 open_found [] rest e = absurd cc
 open_found (token.Iri i ∷ ts) rest e = absurd cc
 open_found (token.Name p l ∷ ts) rest e = absurd cc
 open_found (token.Word w ∷ ts) rest e = absurd cc
-open_found (token.Sign signs.OpenBrace ∷ ts) rest e = ap (λ (r : List Token). token.Sign signs.OpenBrace ∷ r) (some_is ts rest e)
+open_found (token.Sign signs.OpenBrace ∷ ts) rest e = ap (λ (r : List Token). token.Sign signs.OpenBrace ∷ r) (same_Some ts rest e)
 open_found (token.Sign signs.CloseBrace ∷ ts) rest e = absurd cc
 open_found (token.Sign signs.Dot ∷ ts) rest e = absurd cc
 open_found (token.Sign signs.Semicolon ∷ ts) rest e = absurd cc
@@ -41,7 +39,7 @@ close_found (token.Iri i ∷ ts) rest e = absurd cc
 close_found (token.Name p l ∷ ts) rest e = absurd cc
 close_found (token.Word w ∷ ts) rest e = absurd cc
 close_found (token.Sign signs.OpenBrace ∷ ts) rest e = absurd cc
-close_found (token.Sign signs.CloseBrace ∷ ts) rest e = ap (λ (r : List Token). token.Sign signs.CloseBrace ∷ r) (some_is ts rest e)
+close_found (token.Sign signs.CloseBrace ∷ ts) rest e = ap (λ (r : List Token). token.Sign signs.CloseBrace ∷ r) (same_Some ts rest e)
 close_found (token.Sign signs.Dot ∷ ts) rest e = absurd cc
 close_found (token.Sign signs.Semicolon ∷ ts) rest e = absurd cc
 close_found (token.Sign signs.Comma ∷ ts) rest e = absurd cc
@@ -51,7 +49,7 @@ unfolding filled_at
 filled_found ts x e =
     let xs = bind_some (triples_at ts) (λ xs. close_at xs.1 >>= λ rest. Some (xs.0, rest)) x e in
     let rest = bind_some (close_at xs.0.1) (λ rest. Some (xs.0.0, rest)) x xs.2 in
-    subst (λ (y : List SameSubject × List Token). ReadsTriples ts y.0 (token.Sign signs.CloseBrace ∷ y.1)) (some_is (xs.0.0, rest.0) x rest.2)
+    subst (λ (y : List SameSubject × List Token). ReadsTriples ts y.0 (token.Sign signs.CloseBrace ∷ y.1)) (same_Some (xs.0.0, rest.0) x rest.2)
     (subst (λ (r : List Token). ReadsTriples ts xs.0.0 r) (close_found xs.0.1 rest.0 rest.1) (triples_found ts xs.0 xs.1))
 
 pub block_found : (ts : List Token) (x : List SameSubject × List Token) → block_at ts ≡ Some x → ReadsBlock ts x.0 x.1
@@ -62,7 +60,7 @@ block_found ts x e =
     (elim (close_at inside.0) as (λ o. close_at inside.0 ≡ o → option_map_or (λ rest. Some ([], rest)) o (filled_at inside.0) ≡ Some x → ReadsBlock (token.Sign signs.OpenBrace ∷ inside.0) x.0 x.1) [
       | None ↦ λ o h. filled (filled_found inside.0 x h)
       | Some rest ↦ λ o h.
-          subst (λ (y : List SameSubject × List Token). ReadsBlock (token.Sign signs.OpenBrace ∷ inside.0) y.0 y.1) (some_is ([], rest) x h)
+          subst (λ (y : List SameSubject × List Token). ReadsBlock (token.Sign signs.OpenBrace ∷ inside.0) y.0 y.1) (same_Some ([], rest) x h)
           (subst (λ (r : List Token). ReadsBlock (token.Sign signs.OpenBrace ∷ r) [] rest) (sym (close_found inside.0 rest o)) empty)
     ] refl inside.2)
 
@@ -81,5 +79,5 @@ pub keyword_found : (k : List ℕ) (ts rest : List Token) → keyword_at k ts �
 keyword_found k [] rest e = absurd cc
 keyword_found k (token.Iri i ∷ ts) rest e = absurd cc
 keyword_found k (token.Name p l ∷ ts) rest e = absurd cc
-keyword_found k (token.Word w ∷ ts) rest e = let g = guard_some (is_keyword w k) ts rest e in (w, g.0, ap (λ (r : List Token). token.Word w ∷ r) g.1)
+keyword_found k (token.Word w ∷ ts) rest e = let g = cond_some (is_keyword w k) ts rest e in (w, g.0, ap (λ (r : List Token). token.Word w ∷ r) g.1)
 keyword_found k (token.Sign s ∷ ts) rest e = absurd cc

@@ -1,7 +1,6 @@
 -- The three repetitions take tokens, and read what the grammar says.
-use Rattle.std.proofs.Common.{◌≡◌, ℕ, ◌≤◌, ◌<◌, Bool, true, false, List, [], ◌∷◌, length, Some, refl, sym, ap, ◌∙◌, subst, arith}
+use Rattle.std.proofs.Common.{◌≡◌, ℕ, ◌≤◌, ◌<◌, Bool, true, false, cond, Option, None, List, [], ◌∷◌, length, Some, refl, sym, ap, ◌∙◌, subst, arith}
 use Rattle.iris.specs.Bracketed.{◌>>=◌}
-use Rattle.iris.proofs.BracketLaws.{bind_some, some_is, chosen}
 use Rattle.lexer.specs.declared.token.Token.{Token}
 use Rattle.lexer.specs.declared.token.Token.TheVariants as token
 use Rattle.lexer.specs.declared.token.Sign.TheVariants as signs
@@ -10,13 +9,18 @@ use Rattle.syntax_trees.specs.declared.tree.Node.TheVariants as node
 use Rattle.syntax_trees.specs.declared.tree.Property.{Property}
 use Rattle.syntax_trees.specs.declared.tree.SameSubject.{SameSubject}
 use Rattle.std.proofs.lemmas.Bool.{eqb-true}
+use Rattle.std.proofs.lemmas.Option.{same_Some}
 use Rattle.grammar.specs.Reads.{ReadsName, iri, prefixed, ReadsVerb, name, type, ObjectLink, comma, no_comma, ReadsProperty, property, PropertyLink, semicolon, again, no_semicolon, ReadsSame, same, TripleLink, dot, last_dot, no_dot, ReadsTriples}
 use Rattle.grammar.specs.Many.{many}
 use Rattle.grammar.specs.Reading.{name_at, is_a, verb_at, begins_name, begins_verb, object_link, skip_semicolons, property_link, triple_link, objects_at, property_at, properties_at, same_at, triples_at}
-use Rattle.grammar.proofs.ManyLaws.{Consumes, many_takes, Sounds, many_found, Completes, many_again}
+use Rattle.grammar.proofs.ManyLaws.{bind_some, Consumes, many_takes, Sounds, many_found, Completes, many_again}
+
+chosen : {A : Type 0} (b : Bool) (o : Option A) (y : A) → cond b o None ≡ Some y → (b ≡ true) × (o ≡ Some y)
+chosen true o y e = (refl, e)
+chosen false o y e = absurd cc
 
 taken : {A : Type 0} (t : Token) (ts : List Token) (x : A) (y : A × List Token) → Some (x, ts) ≡ Some y → length y.1 < length (t ∷ ts)
-taken t ts x y e = let same : length ts ≡ length y.1 = ap (λ p. length p.1) (some_is (x, ts) y e) in omega arith
+taken t ts x y e = let same : length ts ≡ length y.1 = ap (λ p. length p.1) (same_Some (x, ts) y e) in omega arith
 
 name_takes : (ts : List Token) (x : Node × List Token) → name_at ts ≡ Some x → length x.1 < length ts
 name_takes [] x e = absurd cc
@@ -87,7 +91,7 @@ property_takes ts x e =
     let first = verb_takes ts v.0 v.1 in
     let second = many_takes name_at object_link objects_consume (length v.0.1) v.0.1 os.0 os.1 in
     let made : Property × List Token = (record { verb = v.0.0; objects = os.0.0 }, os.0.1) in
-    let same : length os.0.1 ≡ length x.1 = ap (λ (p : Property × List Token). length p.1) (some_is made x os.2) in
+    let same : length os.0.1 ≡ length x.1 = ap (λ (p : Property × List Token). length p.1) (same_Some made x os.2) in
     omega arith
 
 pub properties_consume : Consumes property_at property_link
@@ -101,7 +105,7 @@ same_takes ts x e =
     let first = name_takes ts v.0 v.1 in
     let second = many_takes property_at property_link properties_consume (length v.0.1) v.0.1 ps.0 ps.1 in
     let made : SameSubject × List Token = (record { subject = v.0.0; properties = ps.0.0 }, ps.0.1) in
-    let same : length ps.0.1 ≡ length x.1 = ap (λ (p : SameSubject × List Token). length p.1) (some_is made x ps.2) in
+    let same : length ps.0.1 ≡ length x.1 = ap (λ (p : SameSubject × List Token). length p.1) (same_Some made x ps.2) in
     omega arith
 
 pub triples_consume : Consumes same_at triple_link
@@ -111,8 +115,8 @@ triples_consume = record { item_takes = same_takes; link_takes = triple_link_tak
 
 name_found : (ts : List Token) (x : Node × List Token) → name_at ts ≡ Some x → ReadsName ts x.0 x.1
 name_found [] x e = absurd cc
-name_found (token.Iri i ∷ ts) x e = subst (λ (y : Node × List Token). ReadsName (token.Iri i ∷ ts) y.0 y.1) (some_is (node.Iri i, ts) x e) iri
-name_found (token.Name p l ∷ ts) x e = subst (λ (y : Node × List Token). ReadsName (token.Name p l ∷ ts) y.0 y.1) (some_is (node.Prefixed p l, ts) x e) prefixed
+name_found (token.Iri i ∷ ts) x e = subst (λ (y : Node × List Token). ReadsName (token.Iri i ∷ ts) y.0 y.1) (same_Some (node.Iri i, ts) x e) iri
+name_found (token.Name p l ∷ ts) x e = subst (λ (y : Node × List Token). ReadsName (token.Name p l ∷ ts) y.0 y.1) (same_Some (node.Prefixed p l, ts) x e) prefixed
 name_found (token.Word w ∷ ts) x e = absurd cc
 name_found (token.Sign s ∷ ts) x e = absurd cc
 
@@ -127,7 +131,7 @@ verb_found (token.Iri i ∷ ts) x e = name (name_found (token.Iri i ∷ ts) x e)
 verb_found (token.Name p l ∷ ts) x e = name (name_found (token.Name p l ∷ ts) x e)
 verb_found (token.Word w ∷ ts) x e =
     let g = chosen (is_a w) (Some (node.Type, ts)) x e in
-    subst (λ w. ReadsVerb (token.Word w ∷ ts) x.0 x.1) (sym (a_is w g.0)) (subst (λ (y : Node × List Token). ReadsVerb (token.Word (97 ∷ []) ∷ ts) y.0 y.1) (some_is (node.Type, ts) x g.1) type)
+    subst (λ w. ReadsVerb (token.Word w ∷ ts) x.0 x.1) (sym (a_is w g.0)) (subst (λ (y : Node × List Token). ReadsVerb (token.Word (97 ∷ []) ∷ ts) y.0 y.1) (same_Some (node.Type, ts) x g.1) type)
 verb_found (token.Sign s ∷ ts) x e = absurd cc
 
 object_link_found : (ts : List Token) → ObjectLink ts (object_link ts).0 (object_link ts).1
@@ -150,7 +154,7 @@ property_found ts x e =
     let v = bind_some (verb_at ts) (λ v. many name_at object_link v.1 >>= λ os. Some (record { verb = v.0; objects = os.0 }, os.1)) x e in
     let os = bind_some (many name_at object_link v.0.1) (λ os. Some (record { verb = v.0.0; objects = os.0 }, os.1)) x v.2 in
     let made : Property × List Token = (record { verb = v.0.0; objects = os.0.0 }, os.0.1) in
-    subst (λ (y : Property × List Token). ReadsProperty ts y.0 y.1) (some_is made x os.2)
+    subst (λ (y : Property × List Token). ReadsProperty ts y.0 y.1) (same_Some made x os.2)
     (property (verb_found ts v.0 v.1) (many_found name_at object_link objects_sound (length v.0.1) v.0.1 os.0 os.1))
 
 -- ---- what is in the grammar is read
@@ -287,7 +291,7 @@ same_found ts x e =
     let v = bind_some (name_at ts) (λ v. many property_at property_link v.1 >>= λ ps. Some (record { subject = v.0; properties = ps.0 }, ps.1)) x e in
     let ps = bind_some (many property_at property_link v.0.1) (λ ps. Some (record { subject = v.0.0; properties = ps.0 }, ps.1)) x v.2 in
     let made : SameSubject × List Token = (record { subject = v.0.0; properties = ps.0.0 }, ps.0.1) in
-    subst (λ (y : SameSubject × List Token). ReadsSame ts y.0 y.1) (some_is made x ps.2)
+    subst (λ (y : SameSubject × List Token). ReadsSame ts y.0 y.1) (same_Some made x ps.2)
     (same (name_found ts v.0 v.1) (many_found property_at property_link properties_sound (length v.0.1) v.0.1 ps.0 ps.1))
 
 same_again : {ts r : List Token} {x : SameSubject} → ReadsSame ts x r → EndsProperties r → same_at ts ≡ Some (x, r)

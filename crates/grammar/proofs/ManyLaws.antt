@@ -1,9 +1,14 @@
 -- Items one after another: reading them, whichever the item and the link are.
 use Rattle.std.proofs.Common.{◌≡◌, ℕ, zero, suc, ◌≤◌, ◌<◌, Bool, true, false, cond, List, [], ◌∷◌, ◌++◌, length, Option, Some, None, refl, sym, ap, ◌∙◌, subst, arith, append_assoc}
+use Rattle.std.proofs.lemmas.Option.{same_Some}
 use Rattle.iris.specs.Bracketed.{◌>>=◌}
-use Rattle.iris.proofs.BracketLaws.{bind_some, some_is}
 use Rattle.lexer.specs.declared.token.Token.{Token}
 use Rattle.grammar.specs.Many.{Many, last, next, many_from, many}
+
+-- a step that may fail
+pub bind_some : {A B : Type 0} (o : Option A) (f : A → Option B) (y : B) → (o >>= f) ≡ Some y → (x : A) × (o ≡ Some x) × (f x ≡ Some y)
+bind_some None f y e = absurd cc
+bind_some (Some x) f y e = (x, refl, e)
 
 module _ {A : Type 0} (item : List Token → Option (A × List Token)) (link : List Token → Bool × List Token) where
   -- an item takes a token or more, and a link puts none back
@@ -57,9 +62,6 @@ module _ {A : Type 0} (item : List Token → Option (A × List Token)) (link : L
       ap (with_front front) (unrolled c ts ∙ ap (λ (o : Option (A × List Token)). o >>= λ x. go_on (length ts) x (link x.1).0) item-is
       ∙ ap (λ (p : Bool × List Token). cond p.0 (many_from item link (length ts) p.1 >>= λ xs. Some (x ∷ xs.0, xs.1)) (Some (x ∷ [], p.1))) link-is)
 
-  pub many_none : Consumes → (front : List A) (ts : List Token) → item ts ≡ None → with_front front (many item link ts) ≡ None
-  many_none c front ts item-is = ap (with_front front) (unrolled c ts ∙ ap (λ (o : Option (A × List Token)). o >>= λ x. go_on (length ts) x (link x.1).0) item-is)
-
   pub no_front : (read : Option (List A × List Token)) → with_front [] read ≡ read
   no_front None = refl
   no_front (Some x) = refl
@@ -75,9 +77,9 @@ module _ {A : Type 0} (item : List Token → Option (A × List Token)) (link : L
         | true ↦ λ h.
             let xs = bind_some (many_from item link n (link y.0.1).1) (λ xs. Some (y.0.0 ∷ xs.0, xs.1)) x h in
             let m = many_takes c n (link y.0.1).1 xs.0 xs.1 in
-            let same : length xs.0.1 ≡ length x.1 = ap (λ (p : List A × List Token). length p.1) (some_is (y.0.0 ∷ xs.0.0, xs.0.1) x xs.2) in
+            let same : length xs.0.1 ≡ length x.1 = ap (λ (p : List A × List Token). length p.1) (same_Some (y.0.0 ∷ xs.0.0, xs.0.1) x xs.2) in
             omega arith
-        | false ↦ λ h. let same : length (link y.0.1).1 ≡ length x.1 = ap (λ (p : List A × List Token). length p.1) (some_is (y.0.0 ∷ [], (link y.0.1).1) x h) in omega arith
+        | false ↦ λ h. let same : length (link y.0.1).1 ≡ length x.1 = ap (λ (p : List A × List Token). length p.1) (same_Some (y.0.0 ∷ [], (link y.0.1).1) x h) in omega arith
       ] y.2
 
   -- what is left to read, and what was read
@@ -110,8 +112,8 @@ module _ {A : Type 0} (item : List Token → Option (A × List Token)) (link : L
       elim (link y.0.1).0 as (λ b. Link y.0.1 b (link y.0.1).1 → go_on n y.0 b ≡ Some x → Many Item Link ts x.0 x.1) [
         | true ↦ λ l h.
             let xs = bind_some (many_from item link n (link y.0.1).1) (λ xs. Some (y.0.0 ∷ xs.0, xs.1)) x h in
-            subst (λ (p : List A × List Token). Many Item Link ts p.0 p.1) (some_is (y.0.0 ∷ xs.0.0, xs.0.1) x xs.2) (next i l (many_found s n (link y.0.1).1 xs.0 xs.1))
-        | false ↦ λ l h. subst (λ (p : List A × List Token). Many Item Link ts p.0 p.1) (some_is (y.0.0 ∷ [], (link y.0.1).1) x h) (last i l)
+            subst (λ (p : List A × List Token). Many Item Link ts p.0 p.1) (same_Some (y.0.0 ∷ xs.0.0, xs.0.1) x xs.2) (next i l (many_found s n (link y.0.1).1 xs.0 xs.1))
+        | false ↦ λ l h. subst (λ (p : List A × List Token). Many Item Link ts p.0 p.1) (same_Some (y.0.0 ∷ [], (link y.0.1).1) x h) (last i l)
       ] (s.link_found y.0.1) y.2
 
   -- where a list may stop, an item may stop, and no next one begins

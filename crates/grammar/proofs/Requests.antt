@@ -5,10 +5,9 @@ use Rattle.std.specs.Option.{option_map_or}
 use Rattle.std.specs.Char.{to_ascii_lowercase}
 use Rattle.std.specs.Cmp.Lexicographic.{bytes_decides}
 use Rattle.std.proofs.lemmas.List.{append-nil, nil_from_length}
+use Rattle.std.proofs.lemmas.Option.{same_Some, none-some}
 use Rattle.iris.specs.Bracketed.{◌>>=◌}
-use Rattle.iris.proofs.BracketLaws.{bind_some, some_is}
 use Rattle.lexer.specs.Cut.{Cuts}
-use Rattle.lexer.proofs.CutLaws.{one_cut}
 use Rattle.lexer.specs.declared.token.Token.{Token}
 use Rattle.lexer.specs.declared.token.Token.TheVariants as token
 use Rattle.lexer.specs.declared.token.Sign.TheVariants as signs
@@ -22,9 +21,9 @@ use Rattle.syntax_trees.specs.declared.tree.Step.TheVariants as step
 use Rattle.syntax_trees.specs.declared.tree.Syntax.{Syntax}
 use Rattle.grammar.specs.Reads.{ReadsBlock, empty, filled, is_keyword, ReadsOperation, insert_data, ReadsRequest, nothing, prefix, last, next, Reads}
 use Rattle.grammar.specs.Reading.{Fails, triples_at, block_at, keyword_at, operation_at, namespace_at, reference_at, declared_at, ended_at, done_at, step_at, AreRead, IsRead, same_at, triple_link}
-use Rattle.grammar.proofs.ManyLaws.{many_takes}
+use Rattle.grammar.proofs.ManyLaws.{bind_some, many_takes}
 use Rattle.grammar.proofs.Instances.{triples_again, triples_consume, at_close}
-use Rattle.grammar.proofs.Blocks.{none_some, block_found, block_again, keyword_found}
+use Rattle.grammar.proofs.Blocks.{block_found, block_again, keyword_found}
 
 -- ---- operations
 
@@ -37,7 +36,7 @@ operation_found ts x e =
     let w = keyword_found (codes "INSERT") ts r.0 r.1 in
     let d = keyword_found (codes "DATA") r.0 s.0 s.1 in
     let made : Operation × List Token = (operation.InsertData b.0.0, b.0.1) in
-    subst (λ (y : Operation × List Token). ReadsOperation ts y.0 y.1) {x = made} (some_is made x b.2)
+    subst (λ (y : Operation × List Token). ReadsOperation ts y.0 y.1) {x = made} (same_Some made x b.2)
     (subst (λ (r : List Token). ReadsOperation r (operation.InsertData b.0.0) b.0.1) (sym (w.2 ∙ ap (λ (r : List Token). token.Word w.0 ∷ r) d.2)) (insert_data w.1 d.1 (block_found s.0 b.0 b.1)))
 
 operation_again : {ts rest : List Token} {x : Operation} → ReadsOperation ts x rest → operation_at ts ≡ Some (x, rest)
@@ -71,14 +70,14 @@ data StepAt : List Token → Step → List Token → Type 0 where
 namespace_found : (ts : List Token) (x : List ℕ × List Token) → namespace_at ts ≡ Some x → ts ≡ token.Name x.0 [] ∷ x.1
 namespace_found [] x e = absurd cc
 namespace_found (token.Iri i ∷ ts) x e = absurd cc
-namespace_found (token.Name p [] ∷ ts) x e = ap (λ (y : List ℕ × List Token). token.Name y.0 [] ∷ y.1) (some_is (p, ts) x e)
+namespace_found (token.Name p [] ∷ ts) x e = ap (λ (y : List ℕ × List Token). token.Name y.0 [] ∷ y.1) (same_Some (p, ts) x e)
 namespace_found (token.Name p (b ∷ l) ∷ ts) x e = absurd cc
 namespace_found (token.Word w ∷ ts) x e = absurd cc
 namespace_found (token.Sign s ∷ ts) x e = absurd cc
 
 reference_found : (ts : List Token) (x : List ℕ × List Token) → reference_at ts ≡ Some x → ts ≡ token.Iri x.0 ∷ x.1
 reference_found [] x e = absurd cc
-reference_found (token.Iri i ∷ ts) x e = ap (λ (y : List ℕ × List Token). token.Iri y.0 ∷ y.1) (some_is (i, ts) x e)
+reference_found (token.Iri i ∷ ts) x e = ap (λ (y : List ℕ × List Token). token.Iri y.0 ∷ y.1) (same_Some (i, ts) x e)
 reference_found (token.Name p l ∷ ts) x e = absurd cc
 reference_found (token.Word w ∷ ts) x e = absurd cc
 reference_found (token.Sign s ∷ ts) x e = absurd cc
@@ -90,18 +89,18 @@ declared_found w ts x is e =
     let i = bind_some (reference_at p.0.1) (λ i. Some (step.Declare p.0.0 i.0, i.1)) x p.2 in
     let cut : ts ≡ token.Name p.0.0 [] ∷ token.Iri i.0.0 ∷ i.0.1 = namespace_found ts p.0 p.1 ∙ ap (λ (r : List Token). token.Name p.0.0 [] ∷ r) (reference_found p.0.1 i.0 i.1) in
     let made : Step × List Token = (step.Declare p.0.0 i.0.0, i.0.1) in
-    subst (λ (y : Step × List Token). StepAt (token.Word w ∷ ts) y.0 y.1) (some_is made x i.2)
+    subst (λ (y : Step × List Token). StepAt (token.Word w ∷ ts) y.0 y.1) (same_Some made x i.2)
     (subst (λ (r : List Token). StepAt (token.Word w ∷ r) (step.Declare p.0.0 i.0.0) i.0.1) (sym cut) (declares is))
 
 ended_found : (ts rest : List Token) → ended_at ts ≡ Some rest → ((ts ≡ []) × (rest ≡ [])) ⊎ (ts ≡ token.Sign signs.Semicolon ∷ rest)
-ended_found [] rest e = inl (refl, sym (some_is [] rest e))
+ended_found [] rest e = inl (refl, sym (same_Some [] rest e))
 ended_found (token.Iri i ∷ ts) rest e = absurd cc
 ended_found (token.Name p l ∷ ts) rest e = absurd cc
 ended_found (token.Word w ∷ ts) rest e = absurd cc
 ended_found (token.Sign signs.OpenBrace ∷ ts) rest e = absurd cc
 ended_found (token.Sign signs.CloseBrace ∷ ts) rest e = absurd cc
 ended_found (token.Sign signs.Dot ∷ ts) rest e = absurd cc
-ended_found (token.Sign signs.Semicolon ∷ ts) rest e = inr (ap (λ (r : List Token). token.Sign signs.Semicolon ∷ r) (some_is ts rest e))
+ended_found (token.Sign signs.Semicolon ∷ ts) rest e = inr (ap (λ (r : List Token). token.Sign signs.Semicolon ∷ r) (same_Some ts rest e))
 ended_found (token.Sign signs.Comma ∷ ts) rest e = absurd cc
 
 done_found : (ts : List Token) (x : Step × List Token) → done_at ts ≡ Some x → StepAt ts x.0 x.1
@@ -111,7 +110,7 @@ done_found ts x e =
     let r = bind_some (ended_at o.0.1) (λ r. Some (step.Do o.0.0, r)) x o.2 in
     let is = operation_found ts o.0 o.1 in
     let made : Step × List Token = (step.Do o.0.0, r.0) in
-    subst (λ (y : Step × List Token). StepAt ts y.0 y.1) (some_is made x r.2)
+    subst (λ (y : Step × List Token). StepAt ts y.0 y.1) (same_Some made x r.2)
     (elim (ended_found o.0.1 r.0 r.1) [
       | inl h ↦ subst (λ (r : List Token). StepAt ts (step.Do o.0.0) r) (sym h.1) (ends (subst (λ (r : List Token). ReadsOperation ts o.0.0 r) h.0 is))
       | inr h ↦ goes_on (subst (λ (r : List Token). ReadsOperation ts o.0.0 r) h is)
@@ -176,9 +175,9 @@ no_step = refl
 
 first_is : (rest : List Token) (s : Step) (after : List Token) (all : List Step) → step_at rest ≡ Some (s, after) → BeginsWith rest all → (later : List Step) × (all ≡ s ∷ later) × ReadsRequest after later
 first_is rest s after all e (begins t r ss at request all-is) =
-    let same : (t, r) ≡ (s, after) = some_is (t, r) (s, after) (sym (step_again at) ∙ e) in
+    let same : (t, r) ≡ (s, after) = same_Some (t, r) (s, after) (sym (step_again at) ∙ e) in
     (ss, all-is ∙ ap (λ (x : Step). x ∷ ss) (ap (λ (y : Step × List Token). y.0) same), subst (λ (r : List Token). ReadsRequest r ss) (ap (λ (y : Step × List Token). y.1) same) request)
-first_is rest s after all e (is_done none all-is) = absurd (none_some (s, after) (sym no_step ∙ ap step_at (sym none) ∙ e))
+first_is rest s after all e (is_done none all-is) = absurd (none-some (s, after) (sym no_step ∙ ap step_at (sym none) ∙ e))
 
 pub read_more : (tokens : List Token) (before : List Step) (rest : List Token) (s : Step) (after : List Token) → IsReadSoFar tokens before rest → step_at rest ≡ Some (s, after) → IsReadSoFar tokens (before ++ s ∷ []) after
 read_more tokens before rest s after so_far e = record {
@@ -193,7 +192,7 @@ pub read_smaller : (rest : List Token) (s : Step) (after : List Token) → step_
 read_smaller rest s after e = step_shorter (step_found rest (s, after) e)
 
 stuck : (rest : List Token) (all : List Step) → 0 < length rest → step_at rest ≡ None → BeginsWith rest all → ⊥
-stuck rest all some e (begins s r ss at request all-is) = none_some (s, r) (sym e ∙ step_again at)
+stuck rest all some e (begins s r ss at request all-is) = none-some (s, r) (sym e ∙ step_again at)
 stuck rest all some e (is_done none all-is) = let at-end : length rest ≡ 0 = ap length none in omega arith
 
 read_stuck : (tokens : List Token) (before : List Step) (rest : List Token) → IsReadSoFar tokens before rest → 0 < length rest → step_at rest ≡ None → (ss : List Step) → ReadsRequest tokens ss → ⊥
@@ -230,14 +229,10 @@ is_read text ts (Ok ss) cut read = (
 is_read text ts (Err stop.Memory) cut read = tt
 is_read text ts (Err stop.NoReading) cut read = λ other reads. read other.steps (subst (λ (us : List Token). ReadsRequest us other.steps) (cut.1 reads.tokens reads.cut) reads.request)
 
--- a text without tokens has no reading
-pub no_cut : (text : List ℕ) → ((us : List Token) → Cuts text us → ⊥) → (other : Syntax) → Reads text other → ⊥
-no_cut text none other reads = none reads.tokens reads.cut
-
 -- ---- one reading
 
 done_only : (ts : List Token) (us : List Step) → ts ≡ [] → BeginsWith ts us → us ≡ []
-done_only ts us none (begins s rest later at request us-is) = absurd (none_some (s, rest) (sym no_step ∙ ap step_at (sym none) ∙ step_again at))
+done_only ts us none (begins s rest later at request us-is) = absurd (none-some (s, rest) (sym no_step ∙ ap step_at (sym none) ∙ step_again at))
 done_only ts us none (is_done same us-is) = us-is
 
 one_from : (n : ℕ) (ts : List Token) (ss us : List Step) → length ts < n → BeginsWith ts ss → BeginsWith ts us → ss ≡ us
@@ -252,8 +247,8 @@ one_request : (ts : List Token) (ss us : List Step) → ReadsRequest ts ss → R
 one_request ts ss us a b = one_from (suc (length ts)) ts ss us (omega arith) (first_step a) (first_step b)
 
 -- a text has at most one reading
-pub one_reading : (text : List ℕ) (s t : Syntax) → Reads text s → Reads text t → s ≡ t
-one_reading text s t a b =
+pub one_reading : ((text : List ℕ) (ts us : List Token) → Cuts text ts → Cuts text us → ts ≡ us) → (text : List ℕ) (s t : Syntax) → Reads text s → Reads text t → s ≡ t
+one_reading one_cut text s t a b =
     let tokens : a.tokens ≡ b.tokens = one_cut text a.tokens b.tokens a.cut b.cut in
     let steps : s.steps ≡ t.steps = one_request b.tokens s.steps t.steps (subst (λ (ts : List Token). ReadsRequest ts s.steps) tokens a.request) b.request in
     let bytes : s.length ≡ t.length = a.bytes ∙ sym b.bytes in

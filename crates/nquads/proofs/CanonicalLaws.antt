@@ -6,11 +6,11 @@ use Rattle.std.specs.Ordering.{eq_by_cmp}
 use Rattle.sets.specs.Sets.{set_of, has}
 use Rattle.sets.proofs.SetLaws.{list_any-append, has-set_of, sorted-set_of, same_set}
 use Rattle.datasets.specs.declared.quad.Quad.{Quad}
-use Rattle.datasets.specs.Dataset.{Dataset, quad_order}
+use Rattle.datasets.specs.Dataset.{Dataset, quad_order, names_of}
 use Rattle.terms.specs.declared.term.Term.{Term}
 use Rattle.terms.specs.Term.{text_cmp, term_order}
-use Rattle.terms.specs.TermLaws.{text_total, text_exact, term_total, term_exact}
-use Rattle.terms.proofs.DataSetLaws.{quads_total, quads_exact, any-set_of, names_of-set_of}
+use Rattle.terms.specs.TermLaws.{text_total, text_exact}
+use Rattle.terms.specs.DataSet.{in_named}
 use Rattle.nquads.specs.Canonical.{quad_text, graph_line, is_empty_graph, lines_of, ended, canonical}
 
 pub any-map : {A B : Type 0} (p : B → Bool) (f : A → B) (xs : List A) → list_any p (map f xs) ≡ list_any (λ x. p (f x)) xs
@@ -33,22 +33,30 @@ has-lines quads names tag t =
     list_any-append e (map (quad_text tag) quads) (map (graph_line tag) (filter (is_empty_graph quads) names))
     ∙ (λ i. any-map e (quad_text tag) quads i || (any-map e (graph_line tag) (filter (is_empty_graph quads) names) ∙ any-filter (λ g. e (graph_line tag g)) (is_empty_graph quads) names) i)
 
-same_lines : (quads : List (Quad Term)) (names : List Term) (tag : ℕ) (t : List ℕ)
-    → has text_cmp (lines_of quads names tag) t ≡ has text_cmp (lines_of (set_of (quad_order term_order) quads) (set_of term_order names) tag) t
-same_lines quads names tag t =
-    let e : List ℕ → Bool = eq_by_cmp text_cmp t in
-    has-lines quads names tag t
-    ∙ sym (has-lines (set_of (quad_order term_order) quads) (set_of term_order names) tag t
-    ∙ (λ i. any-set_of quads_total quads_exact (λ q. e (quad_text tag q)) quads i
-    || (any-set_of term_total term_exact (λ g. is_empty_graph (set_of (quad_order term_order) quads) g && e (graph_line tag g)) names
-    ∙ (λ j. list_any (λ g. not (names_of-set_of g quads j) && e (graph_line tag g)) names)) i))
+-- by the laws of sets and of names
+module _
+    (alike_quads : (test : Quad Term → Bool) (quads : List (Quad Term)) → list_any test (set_of (quad_order term_order) quads) ≡ list_any test quads)
+    (alike_names : (test : Term → Bool) (names : List Term) → list_any test (set_of term_order names) ≡ list_any test names)
+    (named : (name : Term) (quads : List (Quad Term)) → has term_order (names_of quads) name ≡ list_any (in_named name) quads) where
+  same_names : (g : Term) (qs : List (Quad Term)) → has term_order (names_of (set_of (quad_order term_order) qs)) g ≡ has term_order (names_of qs) g
+  same_names g qs = named g (set_of (quad_order term_order) qs) ∙ alike_quads (in_named g) qs ∙ sym (named g qs)
 
-pub canonical_is : (d : Dataset Term) (quads : List (Quad Term)) (names : List Term) (tag : ℕ) → set_of (quad_order term_order) quads ≡ d.quads → set_of term_order names ≡ d.names
-    → flat_map ended (set_of text_cmp (lines_of quads names tag)) ≡ canonical d tag
-canonical_is d quads names tag q n =
-    ap (flat_map ended)
-    (same_set text_total text_exact _ _ (sorted-set_of text_total (lines_of quads names tag))
-    (sorted-set_of text_total (lines_of (set_of (quad_order term_order) quads) (set_of term_order names) tag))
-    (λ t. has-set_of text_total t (lines_of quads names tag) ∙ same_lines quads names tag t
-    ∙ sym (has-set_of text_total t (lines_of (set_of (quad_order term_order) quads) (set_of term_order names) tag))))
-    ∙ (λ i. flat_map ended (set_of text_cmp (lines_of (q i) (n i) tag)))
+  same_lines : (quads : List (Quad Term)) (names : List Term) (tag : ℕ) (t : List ℕ)
+      → has text_cmp (lines_of quads names tag) t ≡ has text_cmp (lines_of (set_of (quad_order term_order) quads) (set_of term_order names) tag) t
+  same_lines quads names tag t =
+      let e : List ℕ → Bool = eq_by_cmp text_cmp t in
+      has-lines quads names tag t
+      ∙ sym (has-lines (set_of (quad_order term_order) quads) (set_of term_order names) tag t
+      ∙ (λ i. alike_quads (λ q. e (quad_text tag q)) quads i
+      || (alike_names (λ g. is_empty_graph (set_of (quad_order term_order) quads) g && e (graph_line tag g)) names
+      ∙ (λ j. list_any (λ g. not (same_names g quads j) && e (graph_line tag g)) names)) i))
+
+  pub canonical_is : (d : Dataset Term) (quads : List (Quad Term)) (names : List Term) (tag : ℕ) → set_of (quad_order term_order) quads ≡ d.quads → set_of term_order names ≡ d.names
+      → flat_map ended (set_of text_cmp (lines_of quads names tag)) ≡ canonical d tag
+  canonical_is d quads names tag q n =
+      ap (flat_map ended)
+      (same_set text_total text_exact _ _ (sorted-set_of text_total (lines_of quads names tag))
+      (sorted-set_of text_total (lines_of (set_of (quad_order term_order) quads) (set_of term_order names) tag))
+      (λ t. has-set_of text_total t (lines_of quads names tag) ∙ same_lines quads names tag t
+      ∙ sym (has-set_of text_total t (lines_of (set_of (quad_order term_order) quads) (set_of term_order names) tag))))
+      ∙ (λ i. flat_map ended (set_of text_cmp (lines_of (q i) (n i) tag)))

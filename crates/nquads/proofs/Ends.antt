@@ -1,9 +1,8 @@
 -- The first line is the run of bytes before a line end.
-use Rattle.std.proofs.Common.{◌≡◌, ℕ, ◌+◌, Bool, true, false, cond, not, ◌||◌, eqb, List, [], ◌∷◌, length, take, drop, refl, sym, ap, ◌∙◌, length-append}
+use Rattle.std.proofs.Common.{◌≡◌, ℕ, Bool, true, false, cond, not, ◌||◌, eqb, List, [], ◌∷◌, ◌++◌, refl, ap, ◌∙◌}
 use Rattle.std.proofs.lemmas.Bool.{eqb-true}
-use Rattle.std.specs.List.{onto_first, prefix_len}
-use Rattle.iris.specs.Runs.{run_of, rest_of}
-use Rattle.iris.proofs.RunLaws.{run-rest, take-prefix, drop-prefix}
+use Rattle.std.specs.List.{onto_first, list_all}
+use Rattle.iris.specs.Runs.{run_of, rest_of, RunsAreLongest}
 use Rattle.nquads.specs.Lines.{lines, lines_after, is_inner, lines_at_end}
 
 -- a byte, in the shape of the definition
@@ -24,12 +23,8 @@ pub lines_first : (text : List ℕ) → lines text ≡ run_of is_inner text ∷ 
 lines_first [] = refl
 lines_first (b ∷ bs) = first_line_at b bs (lines_first bs)
 
-pub cut_at_end : (text : List ℕ) → (take (prefix_len is_inner text) text ≡ run_of is_inner text) × (drop (prefix_len is_inner text) text ≡ rest_of is_inner text)
-cut_at_end text = (take-prefix is_inner text, drop-prefix is_inner text)
-
-pub line_length : (text : List ℕ) → length (run_of is_inner text) + length (rest_of is_inner text) ≡ length text
-line_length text = sym (length-append (run_of is_inner text) (rest_of is_inner text)) ∙ ap length (run-rest is_inner text)
-
-pub ruleset first_lines = (lines_first, line_length)
-
-pub ruleset drops = (drop-prefix)
+-- a line that is ended by LF is the first
+pub first_is_ended : RunsAreLongest → (line rest : List ℕ) → list_all is_inner line ≡ true → lines (line ++ 10 ∷ rest) ≡ line ∷ lines rest
+first_is_ended runs line rest inner =
+    let cut = (runs is_inner (line ++ 10 ∷ rest) line (10 ∷ rest)).1 (record { cut = refl; all = inner; stops = refl }) in
+    lines_first (line ++ 10 ∷ rest) ∙ (λ i. cut.0 i ∷ lines_at_end (cut.1 i))

@@ -7,18 +7,16 @@ use Rattle.std.specs.Option.{option_to_list}
 use Rattle.datasets.specs.declared.quad.Quad.{Quad}
 use Rattle.datasets.specs.Dataset.{Dataset, names_of}
 use Rattle.terms.specs.declared.term.Term.{Term}
-use Rattle.terms.specs.DataSet.{dataset_of}
-use Rattle.terms.proofs.DataSetLaws.{quad_pushed}
+use Rattle.terms.specs.DataSet.{dataset_of, ListsGrowAsDatasets}
 use Rattle.nquads.specs.declared.stop.Line.{Line}
 use Rattle.nquads.specs.declared.stop.Line.TheVariants.{Nothing, Statement}
 use Rattle.nquads.specs.declared.fault.BaseFault.{BaseFault}
 use Rattle.nquads.specs.declared.fault.BaseFault.TheVariants as fault
 use Rattle.nquads.specs.Lines.{lines}
 use Rattle.nquads.specs.Line.{IsLine}
-use Rattle.nquads.specs.Reading.{line_of}
+use Rattle.nquads.specs.Reading.{line_of, LinesAreRead}
 use Rattle.nquads.specs.Spelled.{AreLines, none, more, stated, Spells, IsBad, IsFirstBad}
 use Rattle.nquads.specs.Whole.{keep, read_from, no_quads, Faults, Reads}
-use Rattle.nquads.proofs.LineLaws.{line_found, line_again}
 
 names_step : (q : Quad Term) (front : List (Quad Term)) (last : Quad Term) → names_of (front ++ last ∷ []) ≡ names_of front ++ option_to_list last.graph → (n : Option Term) → q.graph ≡ n
     → names_of ((q ∷ front) ++ last ∷ []) ≡ names_of (q ∷ front) ++ option_to_list last.graph
@@ -35,9 +33,6 @@ names_of-push (x ∷ front) q = names_step x front q (names_of-push front q) x.g
 
 abbrev of : List (Quad Term) → Dataset Term
 of qs = dataset_of qs (names_of qs)
-
-kept : (front : List (Quad Term)) (q : Quad Term) → keep (of front) (Statement q) ≡ of (front ++ q ∷ [])
-kept front q = sym (quad_pushed front (names_of front) q) ∙ ap (dataset_of (front ++ q ∷ [])) (sym (names_of-push front q))
 
 -- what the lines say, read after some quads
 abbrev Found : List (List ℕ) → List (Quad Term) → Dataset Term → Type 0
@@ -57,52 +52,6 @@ err_is : (x y : ℕ) → failed x ≡ failed y → x ≡ y
 unfolding failed
 err_is x y e = cc
 
--- ---- what is read is spelled
-
-line_then : (l : List ℕ) (ls : List (List ℕ)) (front : List (Quad Term)) (n : ℕ) (d : Dataset Term) (said : Line)
-    → ((front : List (Quad Term)) → read_from (of front) (n + 1) ls ≡ Ok d → Found ls front d)
-    → IsLine l said → read_from (keep (of front) said) (n + 1) ls ≡ Ok d → Found (l ∷ ls) front d
-line_then l ls front n d Nothing later is h = let r = later front h in (Nothing ∷ r.0, more is r.1, r.2)
-line_then l ls front n d (Statement q) later is h =
-    let r = later (front ++ q ∷ []) (ap (λ x. read_from x (n + 1) ls) (sym (kept front q)) ∙ h) in
-    (Statement q ∷ r.0, more is r.1, r.2 ∙ ap of (append_assoc front (q ∷ []) (stated r.0)))
-
-lines_found : (ls : List (List ℕ)) (front : List (Quad Term)) (n : ℕ) (d : Dataset Term) → read_from (of front) n ls ≡ Ok d → Found ls front d
-unfolding done
-lines_found [] front n d e = ([], none, sym (ok_is (of front) d e) ∙ ap of (sym (append-nil front)))
-lines_found (l ∷ ls) front n d e =
-    elim (line_of l) as (λ o. line_of l ≡ o → option_map_or (λ said. read_from (keep (of front) said) (n + 1) ls) o (Err (n + 1)) ≡ Ok d → Found (l ∷ ls) front d) [
-      | None ↦ λ o h. absurd cc
-      | Some said ↦ λ o h. line_then l ls front n d said (λ front e. lines_found ls front (n + 1) d e) (line_found l said o) h
-    ] refl e
-
-no_quads-of : no_quads ≡ of []
-no_quads-of = refl
-
-pub whole_found : (text : List ℕ) (d : Dataset Term) → read_from no_quads 0 (lines text) ≡ Ok d → Spells text d
-whole_found text d e =
-    let r = lines_found (lines text) [] 0 d e in
-    record { said = r.0; each = r.1; quads = ap (λ (x : Dataset Term). x.quads) r.2; names = ap (λ (x : Dataset Term). x.names) r.2 }
-
--- ---- what is spelled is read
-
-lines_again : {ls : List (List ℕ)} {said : List Line} (front : List (Quad Term)) (n : ℕ) → AreLines ls said → read_from (of front) n ls ≡ Ok (of (front ++ stated said))
-lines_again front n none = ap (λ (qs : List (Quad Term)). let r : Result (Dataset Term) ℕ = Ok (of qs) in r) (sym (append-nil front))
-lines_again front n (more {line = l} {said = Nothing} {later = ls} is others) = rw (line_again l Nothing is) (lines_again front (n + 1) others)
-lines_again front n (more {line = l} {said = Statement q} {later = ls} {rest = rest} is others) =
-    rw (line_again l (Statement q) is, kept front q) (lines_again (front ++ q ∷ []) (n + 1) others ∙ ap (λ (qs : List (Quad Term)). let r : Result (Dataset Term) ℕ = Ok (of qs) in r) (append_assoc front (q ∷ []) (stated rest)))
-
-whole_again : (text : List ℕ) (d : Dataset Term) → Spells text d → read_from no_quads 0 (lines text) ≡ Ok d
-whole_again text d is =
-    let same : of (stated is.said) ≡ d = λ i. record { quads = sym is.quads i; names = sym is.names i } in
-    lines_again [] 0 is.each ∙ ap (λ (x : Dataset Term). let r : Result (Dataset Term) ℕ = Ok x in r) same
-
-pub one_dataset : (text : List ℕ) (d e : Dataset Term) → Spells text d → Spells text e → d ≡ e
-unfolding done
-one_dataset text d e p q = ok_is d e (sym (whole_again text d p) ∙ whole_again text e q)
-
--- ---- the first bad line
-
 -- the line after which n lines come
 record BadAfter (ls : List (List ℕ)) (m n : ℕ) : Type 0 where
   before : List Line
@@ -114,27 +63,6 @@ record BadAfter (ls : List (List ℕ)) (m n : ℕ) : Type 0 where
   here : IsBad bad
   number : n ≡ m + length front + 1
 
-pub bad_line : (l : List ℕ) → line_of l ≡ None → IsBad l
-bad_line l e said is = absurd (let f : None ≡ Some said = sym e ∙ line_again l said is in cc)
-
-lines_bad : (ls : List (List ℕ)) (d : Dataset Term) (m n : ℕ) → read_from d m ls ≡ Err n → BadAfter ls m n
-unfolding failed
-lines_bad [] d m n e = absurd cc
-lines_bad (l ∷ ls) d m n e =
-    elim (line_of l) as (λ o. line_of l ≡ o → option_map_or (λ said. read_from (keep d said) (m + 1) ls) o (Err (m + 1)) ≡ Err n → BadAfter (l ∷ ls) m n) [
-      | None ↦ λ o h. let number : m + 1 ≡ n = err_is (m + 1) n h in record { before = []; bad = l; after = ls; front = []; cut = refl; good = none; here = bad_line l o; number = omega arith }
-      | Some said ↦ λ o h. let b = lines_bad ls (keep d said) (m + 1) n h in
-          let number : n ≡ m + 1 + length b.front + 1 = b.number in
-          let longer : length (l ∷ b.front) ≡ length b.front + 1 = omega arith in
-          record { before = said ∷ b.before; bad = b.bad; after = b.after; front = l ∷ b.front; cut = ap (λ (t : List (List ℕ)). l ∷ t) b.cut; good = more (line_found l said o) b.good; here = b.here; number = omega arith }
-    ] refl e
-
-pub whole_bad : (text : List ℕ) (n : ℕ) → read_from no_quads 0 (lines text) ≡ Err n → IsFirstBad text n
-whole_bad text n e =
-    let b = lines_bad (lines text) no_quads 0 n e in
-    let number : n ≡ 0 + length b.front + 1 = b.number in
-    record { before = b.before; bad = b.bad; after = b.after; front = b.front; cut = b.cut; good = b.good; here = b.here; number = omega arith }
-
 -- a line that is read isn't bad
 pub no_bad_in : (front : List (List ℕ)) (bad : List ℕ) (after : List (List ℕ)) (said : List Line) → IsBad bad → AreLines (front ++ bad ∷ after) said → ⊥
 no_bad_in [] bad after [] here all = elim all [ ]
@@ -145,25 +73,91 @@ no_bad_in (l ∷ front) bad after (s ∷ said) here (more is others) = no_bad_in
 pub bad_line_spells_none : (text : List ℕ) (n : ℕ) (d : Dataset Term) → IsFirstBad text n → Spells text d → ⊥
 bad_line_spells_none text n d b is = no_bad_in b.front b.bad b.after is.said b.here (subst (λ ls. AreLines ls is.said) b.cut is.each)
 
--- ---- what the function returned
-
-pub is_spelled : (text : List ℕ) (r : Result (Dataset Term) BaseFault) → Reads r (read_from no_quads 0 (lines text)) → IfOk r (λ d. Spells text d)
-is_spelled text (Ok d) h = whole_found text d h
-is_spelled text (Err e) h = tt
-
-pub is_only : (text : List ℕ) (r : Result (Dataset Term) BaseFault) → Reads r (read_from no_quads 0 (lines text)) → (d : Dataset Term) → Spells text d → Reads r (Ok d)
-is_only text (Ok d) h e is = sym (whole_again text e is) ∙ h
-is_only text (Err fault.OutOfMemory) h e is = tt
-is_only text (Err (fault.BadLine n)) h e is = sym (whole_again text e is) ∙ h
-is_only text (Err fault.TooLong) h e is = h
-is_only text (Err fault.Device) h e is = h
-
-pub is_first_bad : (text : List ℕ) (r : Result (Dataset Term) BaseFault) → Reads r (read_from no_quads 0 (lines text)) → (n : ℕ) → IsErrOf r (fault.BadLine n) → IsFirstBad text n
-is_first_bad text r h n e = whole_bad text n (subst (λ r. Reads r (read_from no_quads 0 (lines text))) e h)
-
 -- the line that reading stopped at
 pub stopped : (e : BaseFault) (line : List ℕ) (later : List (List ℕ)) (d : Dataset Term) (n : ℕ) → Faults e (n + 1) (line_of line) → Reads (Err e) (read_from d n (line ∷ later))
 stopped fault.OutOfMemory line later d n h = tt
 stopped (fault.BadLine m) line later d n h = rw (h.1, h.0) refl
 stopped fault.TooLong line later d n h = h
 stopped fault.Device line later d n h = h
+
+-- ---- by the law of lines
+
+module _ (read : LinesAreRead) where
+  -- the first bad line
+  pub bad_line : (l : List ℕ) → line_of l ≡ None → IsBad l
+  bad_line l e said is = absurd (let f : None ≡ Some said = sym e ∙ (read l said).1 is in cc)
+
+  lines_bad : (ls : List (List ℕ)) (d : Dataset Term) (m n : ℕ) → read_from d m ls ≡ Err n → BadAfter ls m n
+  unfolding failed
+  lines_bad [] d m n e = absurd cc
+  lines_bad (l ∷ ls) d m n e =
+      elim (line_of l) as (λ o. line_of l ≡ o → option_map_or (λ said. read_from (keep d said) (m + 1) ls) o (Err (m + 1)) ≡ Err n → BadAfter (l ∷ ls) m n) [
+        | None ↦ λ o h. let number : m + 1 ≡ n = err_is (m + 1) n h in record { before = []; bad = l; after = ls; front = []; cut = refl; good = none; here = bad_line l o; number = omega arith }
+        | Some said ↦ λ o h. let b = lines_bad ls (keep d said) (m + 1) n h in
+            let number : n ≡ m + 1 + length b.front + 1 = b.number in
+            let longer : length (l ∷ b.front) ≡ length b.front + 1 = omega arith in
+            record { before = said ∷ b.before; bad = b.bad; after = b.after; front = l ∷ b.front; cut = ap (λ (t : List (List ℕ)). l ∷ t) b.cut; good = more ((read l said).0 o) b.good; here = b.here; number = omega arith }
+      ] refl e
+
+  pub whole_bad : (text : List ℕ) (n : ℕ) → read_from no_quads 0 (lines text) ≡ Err n → IsFirstBad text n
+  whole_bad text n e =
+      let b = lines_bad (lines text) no_quads 0 n e in
+      let number : n ≡ 0 + length b.front + 1 = b.number in
+      record { before = b.before; bad = b.bad; after = b.after; front = b.front; cut = b.cut; good = b.good; here = b.here; number = omega arith }
+
+  pub is_first_bad : (text : List ℕ) (r : Result (Dataset Term) BaseFault) → Reads r (read_from no_quads 0 (lines text)) → (n : ℕ) → IsErrOf r (fault.BadLine n) → IsFirstBad text n
+  is_first_bad text r h n e = whole_bad text n (subst (λ r. Reads r (read_from no_quads 0 (lines text))) e h)
+
+  -- ---- and by that of adding
+
+  module _ (grows : ListsGrowAsDatasets) where
+    kept : (front : List (Quad Term)) (q : Quad Term) → keep (of front) (Statement q) ≡ of (front ++ q ∷ [])
+    kept front q = sym (grows front (names_of front) q) ∙ ap (dataset_of (front ++ q ∷ [])) (sym (names_of-push front q))
+
+    line_then : (l : List ℕ) (ls : List (List ℕ)) (front : List (Quad Term)) (n : ℕ) (d : Dataset Term) (said : Line)
+        → ((front : List (Quad Term)) → read_from (of front) (n + 1) ls ≡ Ok d → Found ls front d)
+        → IsLine l said → read_from (keep (of front) said) (n + 1) ls ≡ Ok d → Found (l ∷ ls) front d
+    line_then l ls front n d Nothing later is h = let r = later front h in (Nothing ∷ r.0, more is r.1, r.2)
+    line_then l ls front n d (Statement q) later is h =
+        let r = later (front ++ q ∷ []) (ap (λ x. read_from x (n + 1) ls) (sym (kept front q)) ∙ h) in
+        (Statement q ∷ r.0, more is r.1, r.2 ∙ ap of (append_assoc front (q ∷ []) (stated r.0)))
+
+    lines_found : (ls : List (List ℕ)) (front : List (Quad Term)) (n : ℕ) (d : Dataset Term) → read_from (of front) n ls ≡ Ok d → Found ls front d
+    unfolding done
+    lines_found [] front n d e = ([], none, sym (ok_is (of front) d e) ∙ ap of (sym (append-nil front)))
+    lines_found (l ∷ ls) front n d e =
+        elim (line_of l) as (λ o. line_of l ≡ o → option_map_or (λ said. read_from (keep (of front) said) (n + 1) ls) o (Err (n + 1)) ≡ Ok d → Found (l ∷ ls) front d) [
+          | None ↦ λ o h. absurd cc
+          | Some said ↦ λ o h. line_then l ls front n d said (λ front e. lines_found ls front (n + 1) d e) ((read l said).0 o) h
+        ] refl e
+
+    pub whole_found : (text : List ℕ) (d : Dataset Term) → read_from no_quads 0 (lines text) ≡ Ok d → Spells text d
+    whole_found text d e =
+        let r = lines_found (lines text) [] 0 d e in
+        record { said = r.0; each = r.1; quads = ap (λ (x : Dataset Term). x.quads) r.2; names = ap (λ (x : Dataset Term). x.names) r.2 }
+
+    lines_again : {ls : List (List ℕ)} {said : List Line} (front : List (Quad Term)) (n : ℕ) → AreLines ls said → read_from (of front) n ls ≡ Ok (of (front ++ stated said))
+    lines_again front n none = ap (λ (qs : List (Quad Term)). let r : Result (Dataset Term) ℕ = Ok (of qs) in r) (sym (append-nil front))
+    lines_again front n (more {line = l} {said = Nothing} {later = ls} is others) = rw ((read l Nothing).1 is) (lines_again front (n + 1) others)
+    lines_again front n (more {line = l} {said = Statement q} {later = ls} {rest = rest} is others) =
+        rw ((read l (Statement q)).1 is, kept front q) (lines_again (front ++ q ∷ []) (n + 1) others ∙ ap (λ (qs : List (Quad Term)). let r : Result (Dataset Term) ℕ = Ok (of qs) in r) (append_assoc front (q ∷ []) (stated rest)))
+
+    whole_again : (text : List ℕ) (d : Dataset Term) → Spells text d → read_from no_quads 0 (lines text) ≡ Ok d
+    whole_again text d is =
+        let same : of (stated is.said) ≡ d = λ i. record { quads = sym is.quads i; names = sym is.names i } in
+        lines_again [] 0 is.each ∙ ap (λ (x : Dataset Term). let r : Result (Dataset Term) ℕ = Ok x in r) same
+
+    pub one_dataset : (text : List ℕ) (d e : Dataset Term) → Spells text d → Spells text e → d ≡ e
+    unfolding done
+    one_dataset text d e p q = ok_is d e (sym (whole_again text d p) ∙ whole_again text e q)
+
+    pub is_spelled : (text : List ℕ) (r : Result (Dataset Term) BaseFault) → Reads r (read_from no_quads 0 (lines text)) → IfOk r (λ d. Spells text d)
+    is_spelled text (Ok d) h = whole_found text d h
+    is_spelled text (Err e) h = tt
+
+    pub is_only : (text : List ℕ) (r : Result (Dataset Term) BaseFault) → Reads r (read_from no_quads 0 (lines text)) → (d : Dataset Term) → Spells text d → Reads r (Ok d)
+    is_only text (Ok d) h e is = sym (whole_again text e is) ∙ h
+    is_only text (Err fault.OutOfMemory) h e is = tt
+    is_only text (Err (fault.BadLine n)) h e is = sym (whole_again text e is) ∙ h
+    is_only text (Err fault.TooLong) h e is = h
+    is_only text (Err fault.Device) h e is = h

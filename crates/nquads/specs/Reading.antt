@@ -1,5 +1,5 @@
 -- Reading a line from left to right.
-use Rattle.std.specs.Prelude.{ℕ, ◌≡◌, ◌==◌, Bool, true, List, [], ◌∷◌, Option, Some, None, Result, Ok, Err, if◌then◌else◌}
+use Rattle.std.specs.Prelude.{ℕ, ◌≡◌, ◌↔◌, ◌==◌, Bool, true, List, [], ◌∷◌, Option, Some, None, Result, Ok, Err, if◌then◌else◌}
 use Rattle.std.specs.Str.{is_utf8}
 use Rattle.std.specs.List.{starts_with}
 use Rattle.iris.specs.Runs.{rest_of}
@@ -10,7 +10,7 @@ use Rattle.nquads.specs.declared.stop.Line.{Line}
 use Rattle.nquads.specs.declared.stop.Line.TheVariants.{Nothing, Statement}
 use Rattle.nquads.specs.declared.stop.Stop.{Stop}
 use Rattle.nquads.specs.declared.stop.Stop.TheVariants as stop
-use Rattle.nquads.specs.Line.{is_blank, graph_mark}
+use Rattle.nquads.specs.Line.{is_blank, graph_mark, IsLine}
 
 -- What a function returned, seen by view, is what reading gives, unless memory ran out.
 abbrev pub Fails : {Y : Type 0} → Stop → Option Y → Type 0
@@ -48,3 +48,7 @@ line_of line =
     if is_utf8 line then
     (if starts_with nat_eq line graph_mark then None else if ends line then Some Nothing else triple_at line)
     else None
+
+-- the law of this reading: it gives what the line says
+abbrev pub LinesAreRead : Type 0
+LinesAreRead = (line : List ℕ) (said : Line) → (line_of line ≡ Some said) ↔ IsLine line said

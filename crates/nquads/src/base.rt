@@ -7,12 +7,14 @@ ghost use Rattle.nquads.specs.Whole.{Faults};
 ghost use Rattle.nquads.specs.Reading.{line_of};
 
 use crate::fault::BaseFault;
+use crate::laws::lines_are_read;
 use crate::lines::first_line;
 use crate::reader::{read_lines, said};
 use crate::watched::Watched;
 use std::alloc::Global;
 use std::io::Read;
 use terms::DataSet;
+use terms::laws::lists_grow_as_datasets;
 
 /// The most bytes of a base.
 const MOST_BYTES: usize = 1_073_741_824;
@@ -97,6 +99,8 @@ fn answer(alloc: Global, bytes: &[u8], limit: usize) -> Result<DataSet, BaseFaul
     ensures answer { (text : List ℕ) → IsFront limit text bytes.now → IsAnswer limit text result }
     ensures device { is_device result ≡ false }
 {
+    lines_are_read();
+    lists_grow_as_datasets();
     if bytes.len() <= limit {
         return read_lines(alloc, bytes);
     }

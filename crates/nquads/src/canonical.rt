@@ -13,6 +13,7 @@ use sets::{Exact, set_of};
 use std::alloc::{AllocError, Global};
 use std::cmp::Ordering;
 use std::marker::Model;
+use terms::laws::{quads_name_their_graphs, sets_pass_alike};
 use terms::{DataSet, Term, canonical};
 
 /// A line of a canonical text, without its end. Contracts see its bytes, and lines are ordered by them.
@@ -152,6 +153,7 @@ fn has_quads(quads: &[Quad<Term>], name: &Term) -> bool
 fn is_empty_graph(quads: &[Quad<Term>], name: &Term) -> bool
     ensures { result ≡ is_empty_graph quads.now name.now }
 {
+    quads_name_their_graphs();
     !has_quads(quads, name)
 }
 
@@ -189,6 +191,8 @@ fn joined(alloc: Global, lines: &[TextLine]) -> Result<Vec<u8>, AllocError>
 pub fn canonical_text(alloc: Global, dataset: &DataSet, tag: u32) -> Result<Vec<u8>, AllocError>
     ensures { IfOk result (λ text. text.items ≡ canonical_of dataset.now tag) }
 {
+    sets_pass_alike();
+    quads_name_their_graphs();
     let quads = dataset.quads();
     let mut lines = quad_lines(alloc, quads, tag)?;
     push_graph_lines(alloc, &mut lines, quads, dataset.names(), tag)?;

@@ -8,6 +8,7 @@ ghost use Rattle.iris.specs.Bracketed.{iri_at};
 
 use crate::stop::{Line, Stop};
 use datasets::Quad;
+use iris::laws::run_by_length;
 use iris::{Iri, is_utf8};
 use std::alloc::Global;
 use terms::Term;
@@ -26,10 +27,10 @@ fn blank_len(text: &[u8]) -> usize
 }
 
 /// What follows the blanks at the front of a text.
-#[tactic(auto, using(crate::proofs::Ends::drops))]
 fn skip_blanks(text: &[u8]) -> &[u8]
     ensures { result.now ≡ rest_of is_blank text.now }
 {
+    run_by_length();
     let (_, rest) = text.split_at(blank_len(text));
     rest
 }

@@ -5,6 +5,8 @@ ghost use Rattle.iris.specs.Runs.{run_of, rest_of};
 ghost use Rattle.nquads.specs.Lines.{lines, is_inner, lines_at_end};
 ghost use Rattle.nquads.specs.Cut.{later_lines, later_length};
 
+use iris::laws::run_by_length;
+
 fn is_inner(b: u8) -> bool
     ensures { result ≡ is_inner b }
 {
@@ -20,11 +22,12 @@ fn line_len(text: &[u8]) -> usize
 }
 
 /// The bytes before the first line end, and the rest.
-#[tactic(auto, using(crate::proofs::Ends::cut_at_end))]
 fn before_end(text: &[u8]) -> (&[u8], &[u8])
     ensures front { result.0.now ≡ run_of is_inner text.now }
     ensures rest { result.1.now ≡ rest_of is_inner text.now }
+    ensures length { length result.0.now + length result.1.now ≡ length text.now }
 {
+    run_by_length();
     text.split_at(line_len(text))
 }
 
@@ -41,7 +44,7 @@ fn after_end(rest: &[u8]) -> Option<&[u8]>
 }
 
 /// The first line of a text, and the text after its end.
-#[tactic(auto, using(crate::proofs::Ends::first_lines))]
+#[tactic(auto, using(crate::proofs::Ends::lines_first))]
 pub fn first_line(text: &[u8]) -> (&[u8], Option<&[u8]>)
     ensures cut { lines text.now ≡ result.0.now ∷ later_lines result.1 }
     ensures shorter { length result.0.now + later_length result.1 ≤ length text.now }

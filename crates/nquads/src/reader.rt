@@ -8,11 +8,13 @@ ghost use Rattle.nquads.specs.Reading.{line_of};
 ghost use Rattle.nquads.specs.Whole.{Faults, Reads, read_from, no_quads, keep};
 
 use crate::fault::BaseFault;
+use crate::laws::lines_are_read;
 use crate::line::line_of;
 use crate::lines::first_line;
 use crate::stop::{Line, Stop};
 use std::alloc::{AllocError, Global};
 use terms::DataSet;
+use terms::laws::lists_grow_as_datasets;
 
 /// Puts what a line says into the dataset.
 fn keep(dataset: &mut DataSet, said: Line) -> Result<(), AllocError>
@@ -59,5 +61,7 @@ pub fn read_bytes(alloc: Global, bytes: &[u8]) -> Result<DataSet, BaseFault>
     // The first line that says nothing a line may say.
     ensures bad { (n : ℕ) → IsErrOf result (BaseFault.BadLine n) → IsFirstBad bytes.now n }
 {
+    lines_are_read();
+    lists_grow_as_datasets();
     read_lines(alloc, bytes)
 }

@@ -5,6 +5,7 @@ ghost use Rattle.nquads.specs.Tag.{mark_of, has_mark, is_marked, IsTagOf};
 
 use datasets::Quad;
 use std::alloc::{AllocError, Global};
+use terms::laws::sets_pass_alike;
 use terms::{DataSet, Term};
 
 /// How the label of a made node begins.
@@ -45,6 +46,7 @@ fn is_any_marked(quads: &[Quad<Term>], mark: &[u8]) -> bool
 pub fn tag(alloc: Global, dataset: &DataSet) -> Result<u32, AllocError>
     ensures { IfOk result (λ tag. IsTagOf dataset.now tag) }
 {
+    sets_pass_alike();
     let quads = dataset.quads();
     for tag in 1..u32::MAX {
         let mark = mark_of(alloc, tag)?;

@@ -3,12 +3,11 @@ use Rattle.std.specs.Prelude.{ℕ, Bool, ◌&&◌}
 use Rattle.std.proofs.Common.{◌≡◌, true, false, cond, eqb, List, [], ◌∷◌, ◌++◌, None, refl, sym, ap, ◌∙◌, subst, append_assoc, IsUtf8}
 use Rattle.std.specs.List.{list_all}
 use lib.Utf8.{encode}
-use Rattle.std.proofs.lemmas.Bool.{eqb-true}
+use Rattle.std.proofs.lemmas.Bool.{eqb-true, and_parts}
 use Rattle.std.proofs.lemmas.List.Folds.{list_all-append}
 use Rattle.std.proofs.lemmas.Str.{IsUtf8-append}
 use Rattle.iris.specs.Iri.{is_iri, is_iri_byte, is_scheme_byte, is_letter, after_first, IsIri}
 use Rattle.iris.specs.Bracketed.{IriAt}
-use Rattle.iris.proofs.BracketLaws.{both}
 use Rattle.datasets.specs.declared.quad.Quad.{Quad}
 use Rattle.terms.specs.declared.term.Term.{Term}
 use Rattle.terms.specs.declared.term.Term.TheVariants.{Iri, Literal, Blank, Made}
@@ -33,19 +32,19 @@ inner_byte p b lf cr passes = rw (other_byte p 10 b lf passes, other_byte p 13 b
 
 inner_all : (bs : List ℕ) → list_all is_iri_byte bs ≡ true → list_all is_inner bs ≡ true
 inner_all [] e = refl
-inner_all (b ∷ bs) e = let h = both (is_iri_byte b) (list_all is_iri_byte bs) e in rw (inner_byte is_iri_byte b refl refl h.0) (inner_all bs h.1)
+inner_all (b ∷ bs) e = let h = and_parts (is_iri_byte b) (list_all is_iri_byte bs) e in rw (inner_byte is_iri_byte b refl refl h.0) (inner_all bs h.1)
 
 inner_after : (bs : List ℕ) → after_first bs ≡ true → list_all is_inner bs ≡ true
 inner_after [] e = absurd cc
 inner_after (b ∷ bs) e =
     elim (eqb b 58) as (λ t. eqb b 58 ≡ t → cond t (list_all is_iri_byte bs) (is_scheme_byte b && after_first bs) ≡ true → (is_inner b && list_all is_inner bs) ≡ true) [
       | true ↦ λ t h. rw (inner_byte (λ x. eqb x 58) b refl refl t) (inner_all bs h)
-      | false ↦ λ t h. let g = both (is_scheme_byte b) (after_first bs) h in rw (inner_byte is_scheme_byte b refl refl g.0) (inner_after bs g.1)
+      | false ↦ λ t h. let g = and_parts (is_scheme_byte b) (after_first bs) h in rw (inner_byte is_scheme_byte b refl refl g.0) (inner_after bs g.1)
     ] refl e
 
 inner_iri : (bs : List ℕ) → is_iri bs ≡ true → list_all is_inner bs ≡ true
 inner_iri [] e = absurd cc
-inner_iri (b ∷ bs) e = let h = both (is_letter b) (after_first bs) e in rw (inner_byte is_letter b refl refl h.0) (inner_after bs h.1)
+inner_iri (b ∷ bs) e = let h = and_parts (is_letter b) (after_first bs) e in rw (inner_byte is_letter b refl refl h.0) (inner_after bs h.1)
 
 -- ---- the line of a triple
 

@@ -1,43 +1,36 @@
 -- What is written spells the dataset again, and what is spelled can be written so.
 use Rattle.std.specs.Prelude.{ℕ, Bool, ◌||◌, map}
-use Rattle.std.proofs.Common.{◌≡◌, false, List, [], ◌∷◌, ◌++◌, Option, Some, None, refl, sym, ap, ◌∙◌, subst, append_assoc}
-use Rattle.std.specs.List.{list_any, flat_map, AllByRecursion}
+use Rattle.std.proofs.Common.{◌≡◌, true, false, List, [], ◌∷◌, ◌++◌, Option, Some, None, refl, sym, ap, ◌∙◌, subst, append_assoc}
+use Rattle.std.specs.List.{list_all, list_any, flat_map, AllByRecursion}
 use Rattle.std.specs.List.Sorted.{IsStrictlySortedBy}
 use Rattle.std.specs.Ordering.{eq_by_cmp}
+use Rattle.std.specs.Cmp.{IsTotalOrder}
 use Rattle.std.proofs.lemmas.List.{append-nil}
 use Rattle.std.proofs.lemmas.List.Elements.{All-from_recursion, recursion_from_All}
 use Rattle.std.proofs.lemmas.Str.{IsUtf8-nil}
-use Rattle.iris.proofs.RunLaws.{run-is, rest-is}
 use Rattle.sets.specs.Sets.{set_of}
 use Rattle.sets.proofs.SetLaws.{has-set_of, sorted-set_of, same_set}
 use Rattle.datasets.specs.declared.quad.Quad.{Quad}
 use Rattle.datasets.specs.Dataset.{Dataset, quad_order, names_of}
+use Rattle.datasets.specs.Id.{quad_exact, quad_total}
 use Rattle.terms.specs.declared.term.Term.{Term}
 use Rattle.terms.specs.Term.{term_order, text_cmp}
-use Rattle.terms.specs.TermLaws.{text_total, text_exact}
-use Rattle.terms.proofs.DataSetLaws.{quads_total, quads_exact, any-set_of}
+use Rattle.terms.specs.TermLaws.{term_total, term_exact}
 use Rattle.nquads.specs.declared.stop.Line.{Line}
 use Rattle.nquads.specs.declared.stop.Line.TheVariants.{Nothing, Statement}
 use Rattle.nquads.specs.Lines.{lines, is_inner}
 use Rattle.nquads.specs.Line.{at_end, Says, nothing, triple, IsLine}
-use Rattle.nquads.specs.Reading.{line_of}
+use Rattle.nquads.specs.Reading.{line_of, LinesAreRead}
 use Rattle.nquads.specs.Spelled.{AreLines, none, more, stated, Spells}
 use Rattle.nquads.specs.Canonical.{quad_text, lines_of, ended, canonical}
-use Rattle.nquads.proofs.Ends.{lines_first}
-use Rattle.nquads.proofs.LineLaws.{line_again}
-use Rattle.nquads.proofs.WholeLaws.{one_dataset}
 use Rattle.nquads_laws.specs.Plain.{IsPlainQuad, IsPlain}
 use Rattle.nquads_laws.proofs.SetLists.{all_set_of}
 use Rattle.nquads_laws.proofs.LineTexts.{IsWhole, whole_quad}
 
+quads_total : IsTotalOrder (quad_order term_order)
+quads_total = quad_total term_total
+
 -- ---- the lines of a text that is joined of lines with their ends
-
-lines_end : (line rest : List ℕ) (said : Line) → IsWhole line said → lines (line ++ 10 ∷ rest) ≡ line ∷ lines rest
-lines_end line rest said is =
-    lines_first (line ++ 10 ∷ rest) ∙ rw (run-is is_inner line (10 ∷ rest) is.inner refl, rest-is is_inner line (10 ∷ rest) is.inner refl) refl
-
-lines_ended : (line rest : List ℕ) (said : Line) → IsWhole line said → lines (ended line ++ rest) ≡ line ∷ lines rest
-lines_ended line rest said is = ap lines (append_assoc line (10 ∷ []) rest) ∙ lines_end line rest said is
 
 empty_line : IsLine [] Nothing
 empty_line = record { utf8 = IsUtf8-nil; says = nothing (at_end (record { blanks = []; cut = refl; each = refl })) refl }
@@ -55,12 +48,6 @@ record IsGood (line : List ℕ) : Type 0 where
   said : Line
   whole : IsWhole line said
 
-all_lines : (ls : List (List ℕ)) → AllByRecursion IsGood ls → AreLines (lines (flat_map ended ls)) (said_by ls)
-all_lines [] good = more empty_line none
-all_lines (l ∷ ls) good =
-    let first = good.0 in
-    rw (lines_ended l (flat_map ended ls) first.said first.whole, line_again l first.said first.whole.is) (more first.whole.is (all_lines ls good.1))
-
 -- ---- the statements of such a text
 
 abbrev passes : (Quad Term → Bool) → Option Line → Bool
@@ -77,26 +64,9 @@ any-said : (p : Quad Term → Bool) (ls : List (List ℕ)) → list_any p (state
 any-said p [] = refl
 any-said p (l ∷ ls) = any-onto p (line_of l) (said_by ls) ∙ ap (λ b. passes p (line_of l) || b) (any-said p ls)
 
-any-texts : (p : Quad Term → Bool) (tag : ℕ) (qs : List (Quad Term)) → AllByRecursion IsPlainQuad qs
-    → list_any (λ l. passes p (line_of l)) (map (quad_text tag) qs) ≡ list_any p qs
-any-texts p tag [] plain = refl
-any-texts p tag (q ∷ qs) plain =
-    let is = whole_quad tag q plain.0 in
-    rw (line_again (quad_text tag q) (Statement q) is.is) (ap (λ b. p q || b) (any-texts p tag qs plain.1))
-
 good_texts : (tag : ℕ) (qs : List (Quad Term)) → AllByRecursion IsPlainQuad qs → AllByRecursion IsGood (map (quad_text tag) qs)
 good_texts tag [] plain = tt
 good_texts tag (q ∷ qs) plain = (record { said = Statement q; whole = whole_quad tag q plain.0 }, good_texts tag qs plain.1)
-
-same_quads : (tag : ℕ) (qs : List (Quad Term)) → AllByRecursion IsPlainQuad qs → IsStrictlySortedBy (quad_order term_order) qs
-    → qs ≡ set_of (quad_order term_order) (stated (said_by (set_of text_cmp (map (quad_text tag) qs))))
-same_quads tag qs plain rises =
-    let ls : List (List ℕ) = set_of text_cmp (map (quad_text tag) qs) in
-    same_set quads_total quads_exact qs (set_of (quad_order term_order) (stated (said_by ls))) rises (sorted-set_of quads_total (stated (said_by ls)))
-    (λ q. let is : Quad Term → Bool = eq_by_cmp (quad_order term_order) q in
-    sym (has-set_of quads_total q (stated (said_by ls)) ∙ any-said is ls
-    ∙ any-set_of text_total text_exact (λ l. passes is (line_of l)) (map (quad_text tag) qs)
-    ∙ any-texts is tag qs plain))
 
 -- ---- what lines say is plain
 
@@ -117,8 +87,6 @@ no_names : (qs : List (Quad Term)) → AllByRecursion IsPlainQuad qs → names_o
 no_names [] plain = refl
 no_names (q ∷ qs) plain = let default = plain.0 in rw (default.graph) (no_names qs plain.1)
 
--- ---- the laws
-
 pub spelled_plain : (text : List ℕ) (d : Dataset Term) → Spells text d → IsPlain d
 spelled_plain text d is =
     let plain = plain_stated is.each in
@@ -128,23 +96,55 @@ spelled_plain text d is =
       names = is.names ∙ ap (set_of term_order) (no_names (stated is.said) plain);
     }
 
-pub plain_spelled : (d : Dataset Term) (tag : ℕ) → IsPlain d → Spells (canonical d tag) d
-plain_spelled d tag is =
-    let plain = recursion_from_All IsPlainQuad d.quads is.quads in
-    let texts : List (List ℕ) = map (quad_text tag) d.quads in
-    let same : lines_of d.quads d.names tag ≡ texts = ap (λ (names : List Term). lines_of d.quads names tag) is.names ∙ append-nil texts in
-    let good = all_set_of text_cmp IsGood texts (good_texts tag d.quads plain) in
-    let each = all_lines (set_of text_cmp texts) good in
-    record {
-      said = said_by (set_of text_cmp texts);
-      each = subst (λ (ls : List (List ℕ)). AreLines (lines (flat_map ended (set_of text_cmp ls))) (said_by (set_of text_cmp texts))) (sym same) each;
-      quads = same_quads tag d.quads plain is.rises;
-      names = is.names ∙ sym (ap (set_of term_order) (no_names (stated (said_by (set_of text_cmp texts))) (plain_stated each)));
-    }
+-- ---- by the laws of lines and of sets
 
-pub again : (text : List ℕ) (d : Dataset Term) (tag : ℕ) → Spells text d → Spells (canonical d tag) d
-again text d tag is = plain_spelled d tag (spelled_plain text d is)
+module _
+    (ended_first : (line rest : List ℕ) → list_all is_inner line ≡ true → lines (line ++ 10 ∷ rest) ≡ line ∷ lines rest)
+    (read : LinesAreRead)
+    (alike : (test : List ℕ → Bool) (texts : List (List ℕ)) → list_any test (set_of text_cmp texts) ≡ list_any test texts) where
+  lines_ended : (line rest : List ℕ) (said : Line) → IsWhole line said → lines (ended line ++ rest) ≡ line ∷ lines rest
+  lines_ended line rest said is = ap lines (append_assoc line (10 ∷ []) rest) ∙ ended_first line rest is.inner
 
-pub differ : (d e : Dataset Term) (tag other : ℕ) → IsPlain d → IsPlain e → canonical d tag ≡ canonical e other → d ≡ e
-differ d e tag other p q same =
-    one_dataset (canonical e other) d e (subst (λ (text : List ℕ). Spells text d) same (plain_spelled d tag p)) (plain_spelled e other q)
+  all_lines : (ls : List (List ℕ)) → AllByRecursion IsGood ls → AreLines (lines (flat_map ended ls)) (said_by ls)
+  all_lines [] good = more empty_line none
+  all_lines (l ∷ ls) good =
+      let first = good.0 in
+      rw (lines_ended l (flat_map ended ls) first.said first.whole, (read l first.said).1 first.whole.is) (more first.whole.is (all_lines ls good.1))
+
+  any-texts : (p : Quad Term → Bool) (tag : ℕ) (qs : List (Quad Term)) → AllByRecursion IsPlainQuad qs
+      → list_any (λ l. passes p (line_of l)) (map (quad_text tag) qs) ≡ list_any p qs
+  any-texts p tag [] plain = refl
+  any-texts p tag (q ∷ qs) plain =
+      let is = whole_quad tag q plain.0 in
+      rw ((read (quad_text tag q) (Statement q)).1 is.is) (ap (λ b. p q || b) (any-texts p tag qs plain.1))
+
+  same_quads : (tag : ℕ) (qs : List (Quad Term)) → AllByRecursion IsPlainQuad qs → IsStrictlySortedBy (quad_order term_order) qs
+      → qs ≡ set_of (quad_order term_order) (stated (said_by (set_of text_cmp (map (quad_text tag) qs))))
+  same_quads tag qs plain rises =
+      let ls : List (List ℕ) = set_of text_cmp (map (quad_text tag) qs) in
+      same_set quads_total (quad_exact term_order term_exact) qs (set_of (quad_order term_order) (stated (said_by ls))) rises (sorted-set_of quads_total (stated (said_by ls)))
+      (λ q. let is : Quad Term → Bool = eq_by_cmp (quad_order term_order) q in
+      sym (has-set_of quads_total q (stated (said_by ls)) ∙ any-said is ls
+      ∙ alike (λ l. passes is (line_of l)) (map (quad_text tag) qs)
+      ∙ any-texts is tag qs plain))
+
+  pub plain_spelled : (d : Dataset Term) (tag : ℕ) → IsPlain d → Spells (canonical d tag) d
+  plain_spelled d tag is =
+      let plain = recursion_from_All IsPlainQuad d.quads is.quads in
+      let texts : List (List ℕ) = map (quad_text tag) d.quads in
+      let same : lines_of d.quads d.names tag ≡ texts = ap (λ (names : List Term). lines_of d.quads names tag) is.names ∙ append-nil texts in
+      let good = all_set_of text_cmp IsGood texts (good_texts tag d.quads plain) in
+      let each = all_lines (set_of text_cmp texts) good in
+      record {
+        said = said_by (set_of text_cmp texts);
+        each = subst (λ (ls : List (List ℕ)). AreLines (lines (flat_map ended (set_of text_cmp ls))) (said_by (set_of text_cmp texts))) (sym same) each;
+        quads = same_quads tag d.quads plain is.rises;
+        names = is.names ∙ sym (ap (set_of term_order) (no_names (stated (said_by (set_of text_cmp texts))) (plain_stated each)));
+      }
+
+  pub again : (text : List ℕ) (d : Dataset Term) (tag : ℕ) → Spells text d → Spells (canonical d tag) d
+  again text d tag is = plain_spelled d tag (spelled_plain text d is)
+
+  pub differ : ((text : List ℕ) (d e : Dataset Term) → Spells text d → Spells text e → d ≡ e) → (d e : Dataset Term) (tag other : ℕ) → IsPlain d → IsPlain e → canonical d tag ≡ canonical e other → d ≡ e
+  differ one_dataset d e tag other p q same =
+      one_dataset (canonical e other) d e (subst (λ (text : List ℕ). Spells text d) same (plain_spelled d tag p)) (plain_spelled e other q)

@@ -3,10 +3,9 @@ use Rattle.std.proofs.Common.{◌≡◌, ℕ, ◌+◌, ◌-◌, ◌⊎◌, inl, 
 use Rattle.std.specs.Prelude.{◌&&◌, not, IsUtf8}
 use Rattle.std.specs.List.{onto_first}
 use Rattle.std.specs.Str.{IsCharBoundary}
-use Rattle.std.proofs.lemmas.Bool.{eqb-true}
+use Rattle.std.proofs.lemmas.Bool.{eqb-true, and_parts}
 use Rattle.std.proofs.lemmas.List.{take_at, drop_at, append-nil, nil_from_length}
 use Rattle.std.proofs.lemmas.Str.{IsCharBoundary-before_ascii, IsCharBoundary-after_ascii, IsCharBoundary-end}
-use Rattle.iris.proofs.BracketLaws.{both}
 use Rattle.terms.specs.declared.term.Term.{Term}
 use Rattle.meaning.specs.declared.update.Operation.{Operation}
 use Rattle.meaning.specs.declared.reply.Refusal.{Refusal}
@@ -23,10 +22,10 @@ separator_is (a ∷ b ∷ []) e = absurd cc
 separator_is (a ∷ b ∷ c ∷ []) e = absurd cc
 separator_is (a ∷ b ∷ c ∷ d ∷ []) e = absurd cc
 separator_is (a ∷ b ∷ c ∷ d ∷ f ∷ bs) e =
-    let e4 = both (eqb a 45 && eqb b 45 && eqb c 45 && eqb d 45) (eqb f 10) e in
-    let e3 = both (eqb a 45 && eqb b 45 && eqb c 45) (eqb d 45) e4.0 in
-    let e2 = both (eqb a 45 && eqb b 45) (eqb c 45) e3.0 in
-    let e1 = both (eqb a 45) (eqb b 45) e2.0 in
+    let e4 = and_parts (eqb a 45 && eqb b 45 && eqb c 45 && eqb d 45) (eqb f 10) e in
+    let e3 = and_parts (eqb a 45 && eqb b 45 && eqb c 45) (eqb d 45) e4.0 in
+    let e2 = and_parts (eqb a 45 && eqb b 45) (eqb c 45) e3.0 in
+    let e1 = and_parts (eqb a 45) (eqb b 45) e2.0 in
     λ i. eqb-true a 45 e1.0 i ∷ eqb-true b 45 e1.1 i ∷ eqb-true c 45 e2.1 i ∷ eqb-true d 45 e3.1 i ∷ eqb-true f 10 e4.1 i ∷ bs
 
 line_is : (bs : List ℕ) → is_separator bs ≡ true → bs ≡ 45 ∷ 45 ∷ 45 ∷ 45 ∷ 10 ∷ []
@@ -244,7 +243,3 @@ checked_next text found rest request (b ∷ after) c goes_on so_far request-is a
 pub nothing_checked : (text : List ℕ) (cs : List Request) → length text ≡ 0 → cs ≡ [] → AreChecked (requests text) cs
 nothing_checked text cs zero nothing =
     subst (λ (x : List ℕ). AreChecked (requests x) cs) (sym (nil_from_length text zero)) (subst (λ (cs : List Request). AreChecked [] cs) (sym nothing) none)
-
-pub some_checked : (text : List ℕ) → eqb (length text) 0 ≡ false → requests text ≡ texts_of (whole_lines text)
-some_checked [] e = absurd cc
-some_checked (b ∷ bs) e = refl

@@ -1,16 +1,17 @@
 -- The names of a reading are IRIs: the tokens of a text have such parts, and each production keeps them.
 use Rattle.std.proofs.Common.{◌≡◌, ℕ, ◌<◌, Bool, true, false, cond, ltb, List, [], ◌∷◌, ◌++◌, map, Option, Some, None, refl}
-use Rattle.std.specs.Prelude.{IfSome, bytes_eq}
+use Rattle.std.specs.Prelude.{All, IfSome, bytes_eq}
 use Rattle.std.specs.Option.{option_map}
 use Rattle.std.specs.List.{flat_map, list_all, AllByRecursion}
 use Rattle.std.proofs.lemmas.Bool.{and_parts, ltb-true}
 use Rattle.std.proofs.lemmas.Str.{IsUtf8-from_ascii}
 use Rattle.std.proofs.lemmas.Str.Ascii.{IsAscii-from_all}
-use Rattle.std.proofs.lemmas.List.Elements.{All-from_recursion}
+use Rattle.std.proofs.lemmas.List.Elements.{All-from_recursion, recursion_from_All}
 use Rattle.iris.specs.Iri.{IsIri}
 use Rattle.lexer.specs.Names.{IsLocal}
 use Rattle.lexer.specs.declared.token.Token.{Token}
-use Rattle.lexer.proofs.IriLaws.{iri_more, HasParts, cut_parts}
+use Rattle.lexer.specs.Form.{HasParts}
+use Rattle.lexer.specs.Cut.{Cuts}
 use Rattle.syntax_trees.specs.declared.tree.Node.{Node}
 use Rattle.syntax_trees.specs.declared.tree.Node.TheVariants as node
 use Rattle.syntax_trees.specs.declared.tree.Property.{Property}
@@ -156,34 +157,36 @@ namespace_named : (ds : List Declaration) → AllByRecursion IsDeclared ds → (
 namespace_named [] all p = tt
 namespace_named (d ∷ ds) all p = later_named (namespace_of ds p) (cond (bytes_eq d.prefix p) (Some d.iri) None) (namespace_named ds all.1 p) (elim (bytes_eq d.prefix p) as (λ t. IfSome (cond t (Some d.iri) None) IsIri) [ true ↦ all.0 | false ↦ tt ])
 
-local_named : (o : Option (List ℕ)) (l : List ℕ) → IfSome o IsIri → IsLocal l → IfSome (option_map (λ namespace. namespace ++ l) o) IsIri
-local_named None l is local = tt
-local_named (Some namespace) l is local = iri_more namespace l is local
-
 small_bytes : (bs : List ℕ) → list_all (λ b. ltb b 128) bs ≡ true → AllByRecursion (λ b. b < 128) bs
 small_bytes [] e = tt
 small_bytes (b ∷ bs) e = let h = and_parts (ltb b 128) (list_all (λ b. ltb b 128) bs) e in (ltb-true b 128 h.0, small_bytes bs h.1)
 
-pub rdf_iri : IsIri rdf_type
+rdf_iri : IsIri rdf_type
 rdf_iri = record {
   utf8 = IsUtf8-from_ascii rdf_type (IsAscii-from_all rdf_type (All-from_recursion (λ b. b < 128) rdf_type (small_bytes rdf_type refl)));
   form = refl;
 }
 
-node_named : (ds : List Declaration) → AllByRecursion IsDeclared ds → (n : Node) → HasForm n → IsNamed ds n
-node_named ds all (node.Iri i) form = form
-node_named ds all (node.Prefixed p l) form = local_named (namespace_of ds p) l (namespace_named ds all p) form
-node_named ds all node.Type form = rdf_iri
+-- by the laws of tokens
+module _ (iri_with_local : (iri local : List ℕ) → IsIri iri → IsLocal local → IsIri (iri ++ local)) (tokens_have_parts : (text : List ℕ) (ts : List Token) → Cuts text ts → All HasParts ts) where
+  local_named : (o : Option (List ℕ)) (l : List ℕ) → IfSome o IsIri → IsLocal l → IfSome (option_map (λ namespace. namespace ++ l) o) IsIri
+  local_named None l is local = tt
+  local_named (Some namespace) l is local = iri_with_local namespace l is local
 
-steps_named : (ds : List Declaration) → AllByRecursion IsDeclared ds → (steps : List Step) → AllByRecursion StepForm steps → AreNamed ds steps
-steps_named ds all [] forms = tt
-steps_named ds all (step.Declare p i ∷ steps) forms =
-    let d : Declaration = record { prefix = p; iri = i } in
-    steps_named (ds ++ d ∷ []) (all_append IsDeclared ds (d ∷ []) all (forms.0, tt)) steps forms.1
-steps_named ds all (step.Do x ∷ steps) forms = (
-  all_weaker TripleForm (λ t. IsNamed ds t.subject × IsNamed ds t.verb × IsNamed ds t.object) (λ t is. (node_named ds all t.subject is.0, node_named ds all t.verb is.1, node_named ds all t.object is.2)) (triples_of x) (operation_triples x forms.0),
-  steps_named ds all steps forms.1,
-)
+  node_named : (ds : List Declaration) → AllByRecursion IsDeclared ds → (n : Node) → HasForm n → IsNamed ds n
+  node_named ds all (node.Iri i) form = form
+  node_named ds all (node.Prefixed p l) form = local_named (namespace_of ds p) l (namespace_named ds all p) form
+  node_named ds all node.Type form = rdf_iri
 
-pub names_are_iris : (text : List ℕ) (syntax : Syntax) → Reads text syntax → AreNamed [] syntax.steps
-names_are_iris text syntax reads = steps_named [] tt syntax.steps (request_has reads.request (cut_parts reads.cut))
+  steps_named : (ds : List Declaration) → AllByRecursion IsDeclared ds → (steps : List Step) → AllByRecursion StepForm steps → AreNamed ds steps
+  steps_named ds all [] forms = tt
+  steps_named ds all (step.Declare p i ∷ steps) forms =
+      let d : Declaration = record { prefix = p; iri = i } in
+      steps_named (ds ++ d ∷ []) (all_append IsDeclared ds (d ∷ []) all (forms.0, tt)) steps forms.1
+  steps_named ds all (step.Do x ∷ steps) forms = (
+    all_weaker TripleForm (λ t. IsNamed ds t.subject × IsNamed ds t.verb × IsNamed ds t.object) (λ t is. (node_named ds all t.subject is.0, node_named ds all t.verb is.1, node_named ds all t.object is.2)) (triples_of x) (operation_triples x forms.0),
+    steps_named ds all steps forms.1,
+  )
+
+  pub names_are_iris : (text : List ℕ) (syntax : Syntax) → Reads text syntax → AreNamed [] syntax.steps
+  names_are_iris text syntax reads = steps_named [] tt syntax.steps (request_has reads.request (recursion_from_All HasParts reads.tokens (tokens_have_parts text reads.tokens reads.cut)))

@@ -17,7 +17,6 @@ use Rattle.syntax_trees.specs.declared.tree.Step.{Step}
 use Rattle.syntax_trees.specs.declared.tree.Step.TheVariants as step
 use Rattle.syntax_trees.specs.declared.tree.Syntax.{Syntax}
 use Rattle.grammar.specs.Reads.{Reads, IsParsed}
-use Rattle.grammar.proofs.Requests.{one_reading}
 use Rattle.rules.specs.declared.names.Declaration.{Declaration}
 use Rattle.rules.specs.Names.{iri_of}
 use Rattle.rules.specs.Translation.{Triple, triples_of, quad_of, term_of, translated_after, translated}
@@ -150,18 +149,20 @@ kind_is refusal.BlankInDelete = refl
 kind_is refusal.LabelReused = refl
 kind_is refusal.Limit = refl
 
-not_both : (text : List ℕ) (operations : List (Operation Term)) (k : Refusal) → IsAccepted text operations → IsRefusal text k → ⊥
-not_both text operations k a r = clash (has_fault k a.syntax) (holds_means a.syntax a.reads (λ other reads. one_reading text other a.syntax reads a.reads) r.holds) (a.free k)
+-- where a text has at most one reading
+module _ (one_reading : (text : List ℕ) (s t : Syntax) → Reads text s → Reads text t → s ≡ t) where
+  not_both : (text : List ℕ) (operations : List (Operation Term)) (k : Refusal) → IsAccepted text operations → IsRefusal text k → ⊥
+  not_both text operations k a r = clash (has_fault k a.syntax) (holds_means a.syntax a.reads (λ other reads. one_reading text other a.syntax reads a.reads) r.holds) (a.free k)
 
--- a text is at most one request
-pub one_answer : (text : List ℕ) (c d : Result (List (Operation Term)) Refusal) → IsChecked text c → IsChecked text d → c ≡ d
-one_answer text (Ok x) (Ok y) a b =
-    let steps : translated a.syntax.steps ≡ translated b.syntax.steps = ap (λ (s : Syntax). translated s.steps) (one_reading text a.syntax b.syntax a.reads b.reads) in
-    ap (λ (z : List (Operation Term)). let r : Result (List (Operation Term)) Refusal = Ok z in r) (a.is ∙ steps ∙ sym b.is)
-one_answer text (Ok x) (Err k) a b = absurd (not_both text x k a b)
-one_answer text (Err k) (Ok y) a b = absurd (not_both text y k b a)
-one_answer text (Err k) (Err j) a b =
-    elim (cases_order (place_of k) (place_of j)) [
-      | inl e ↦ ap (λ (z : Refusal). let r : Result (List (Operation Term)) Refusal = Err z in r) (sym (kind_is k) ∙ ap kind_at e ∙ kind_is j)
-      | inr h ↦ elim h [ inl lt ↦ absurd (b.first k lt a.holds) | inr lt ↦ absurd (a.first j lt b.holds) ]
-    ]
+  -- a text is at most one request
+  pub one_answer : (text : List ℕ) (c d : Result (List (Operation Term)) Refusal) → IsChecked text c → IsChecked text d → c ≡ d
+  one_answer text (Ok x) (Ok y) a b =
+      let steps : translated a.syntax.steps ≡ translated b.syntax.steps = ap (λ (s : Syntax). translated s.steps) (one_reading text a.syntax b.syntax a.reads b.reads) in
+      ap (λ (z : List (Operation Term)). let r : Result (List (Operation Term)) Refusal = Ok z in r) (a.is ∙ steps ∙ sym b.is)
+  one_answer text (Ok x) (Err k) a b = absurd (not_both text x k a b)
+  one_answer text (Err k) (Ok y) a b = absurd (not_both text y k b a)
+  one_answer text (Err k) (Err j) a b =
+      elim (cases_order (place_of k) (place_of j)) [
+        | inl e ↦ ap (λ (z : Refusal). let r : Result (List (Operation Term)) Refusal = Err z in r) (sym (kind_is k) ∙ ap kind_at e ∙ kind_is j)
+        | inr h ↦ elim h [ inl lt ↦ absurd (b.first k lt a.holds) | inr lt ↦ absurd (a.first j lt b.holds) ]
+      ]

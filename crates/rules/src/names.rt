@@ -4,6 +4,7 @@ ghost use Rattle.iris.specs.Iri.{IsIri};
 ghost use Rattle.rules.specs.Names.{namespace_of, iri_of};
 
 use iris::Iri;
+use lexer::laws::iri_with_local;
 use lexer::{IriText, LocalPart, Piece};
 use std::alloc::{AllocError, Global};
 use syntax_trees::Node;
@@ -58,6 +59,7 @@ fn joined(
 {
     let mut text = Vec::from_slice(alloc, namespace.as_bytes())?;
     text.extend_from_slice(local.as_bytes())?;
+    iri_with_local();
     iri_from(alloc, text.as_slice())
 }
 

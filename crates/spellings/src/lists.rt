@@ -57,6 +57,7 @@ fn iris_alone(rt: HostRuntime) -> Result<(), Fail> {
         assert_eq!(rt; found.is_some(), *is_one, "{text:?}");
         if let Some(iri) = found {
             assert!(rt; iri.as_str() == *text, "{text:?}");
+            assert!(rt; iri.copied(rt.alloc())?.as_str() == *text, "{text:?}");
         }
     }
     Ok(())

@@ -10,7 +10,7 @@ use Rattle.std.specs.Ordering.{eq_by_cmp}
 use Rattle.std.specs.Cmp.{IsTotalOrder}
 use Rattle.std.proofs.lemmas.List.{append-nil}
 use Rattle.sets.specs.Sets.{placed, with, set_of, has}
-use Rattle.sets.proofs.SetLaws.{list_any-append, has-with, has-set_of, sorted-set_of, sorted-with, same_set, set_of-set}
+use Rattle.sets.proofs.SetLaws.{list_any-append, has-with, has-set_of, sorted-set_of, sorted-with, same_set}
 use Rattle.datasets.specs.declared.quad.Quad.{Quad}
 use Rattle.datasets.specs.Dataset.{Dataset, IsDataset, quad_order, names_of}
 use Rattle.datasets.specs.Id.{quad_exact, quad_total}
@@ -80,10 +80,6 @@ quads_total = quad_total term_total
 pub quads_exact : (a b : Quad Term) → quad_order term_order a b ≡ Equal → a ≡ b
 quads_exact = quad_exact term_order term_exact
 
--- a set of quads names the graphs that its list names
-pub names_of-set_of : (g : Term) (qs : List (Quad Term)) → has term_order (names_of (set_of (quad_order term_order) qs)) g ≡ has term_order (names_of qs) g
-names_of-set_of g qs = any_named g (set_of (quad_order term_order) qs) ∙ any-set_of quads_total quads_exact (in_named g) qs ∙ sym (any_named g qs)
-
 -- two lists are a dataset if each quad's graph has its name
 pub IsDataset-of : (quads : List (Quad Term)) (names : List Term) → ((g : Term) → has term_order (names_of quads) g ≡ true → has term_order names g ≡ true)
     → IsDataset term_order (dataset_of quads names)
@@ -93,13 +89,6 @@ IsDataset-of quads names named = record {
   named = λ g h. has-set_of term_total g names
       ∙ named g (any_named g quads ∙ sym (any-set_of quads_total quads_exact (in_named g) quads) ∙ sym (any_named g (set_of (quad_order term_order) quads)) ∙ h);
 }
-
--- a dataset's lists are the dataset
-pub dataset_of-is : (d : Dataset Term) → IsDataset term_order d → dataset_of d.quads d.names ≡ d
-dataset_of-is d is =
-    let q : set_of (quad_order term_order) d.quads ≡ d.quads = set_of-set quads_total quads_exact d.quads is.quads in
-    let n : set_of term_order d.names ≡ d.names = set_of-set term_total term_exact d.names is.names in
-    λ i. record { quads = q i; names = n i }
 
 -- ---- one more
 

@@ -1,6 +1,7 @@
 -- Datasets of terms (RDF 1.1 Concepts, section 4): a set of quads, and a set of graph names with the name of each quad's graph. A named
 -- graph may be empty.
-use Rattle.std.specs.Prelude.{Bool, false, List, Option, Some, None}
+use Rattle.std.specs.Prelude.{◌≡◌, Bool, false, List, [], ◌∷◌, ◌++◌, Option, Some, None}
+use Rattle.std.specs.Option.{option_to_list}
 use Rattle.std.specs.Ordering.{eq_by_cmp}
 use Rattle.sets.specs.Sets.{set_of, with}
 use Rattle.datasets.specs.declared.quad.Quad.{Quad}
@@ -31,3 +32,7 @@ with_quad q d = record { quads = with (quad_order term_order) q d.quads; names =
 -- the dataset with one more graph
 abbrev pub with_graph : Term → Dataset Term → Dataset Term
 with_graph g d = record d { names = with term_order g d.names }
+
+-- the law of adding: lists with one more are the dataset with one more
+abbrev pub ListsGrowAsDatasets : Type 0
+ListsGrowAsDatasets = (quads : List (Quad Term)) (names : List Term) (q : Quad Term) → dataset_of (quads ++ q ∷ []) (names ++ option_to_list q.graph) ≡ with_quad q (dataset_of quads names)

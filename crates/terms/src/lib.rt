@@ -5,6 +5,7 @@
 #![tactic(auto)]
 
 mod dataset;
+pub mod laws;
 mod literal;
 mod order;
 mod term;

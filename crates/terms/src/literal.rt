@@ -44,16 +44,6 @@ impl Model for Blank {
     ghost invariant = { λ b. is_label (string_bytes b.label) ≡ true };
 }
 
-/// The same IRI again.
-pub fn iri_copied(alloc: Global, iri: &Iri) -> Result<Iri, AllocError>
-    ensures { IfOk result (λ copy. copy ≡ iri.now) }
-{
-    match Iri::check(alloc, iri.as_str())? {
-        Some(copy) => Ok(copy),
-        None => unreachable!(),
-    }
-}
-
 /// The same tag again.
 fn tag_copied(tag: &Option<String>) -> Result<Option<String>, AllocError>
     ensures { IfOk result (λ copy. tag_bytes copy ≡ tag_bytes tag.now) }
@@ -71,7 +61,7 @@ impl Literal {
     {
         Ok(Literal {
             lexical: self.lexical.clone()?,
-            datatype: iri_copied(alloc, &self.datatype)?,
+            datatype: self.datatype.copied(alloc)?,
             tag: tag_copied(&self.tag)?,
         })
     }

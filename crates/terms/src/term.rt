@@ -1,7 +1,7 @@
 //! Terms. Contracts see the text parts as bytes, so `≡` of two terms says that they are the same term.
 ghost use Rattle.std.specs.Prelude.{◌≡◌, IfOk};
 
-use crate::literal::{Blank, Literal, iri_copied};
+use crate::literal::{Blank, Literal};
 use iris::Iri;
 use std::alloc::{AllocError, Global};
 
@@ -27,7 +27,7 @@ impl Term {
         ensures { IfOk result (λ copy. copy ≡ self.now) }
     {
         match self {
-            Term::Iri(iri) => Ok(Term::Iri(iri_copied(alloc, iri)?)),
+            Term::Iri(iri) => Ok(Term::Iri(iri.copied(alloc)?)),
             Term::Literal(literal) => Ok(Term::Literal(literal.copied(alloc)?)),
             Term::Blank(blank) => Ok(Term::Blank(blank.copied()?)),
             Term::Made {

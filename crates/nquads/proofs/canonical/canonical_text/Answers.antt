@@ -11,4 +11,4 @@ returns c =
     c.in_ok-text.ensures
     ∙ ap (flat_map ended) (c.as_slice.ensures.value ∙ c.set_of.ensures ∙ ap (set_of text_cmp)
     (c.in_ok-push_graph_lines.ensures ∙ ap (λ (ls : List (List ℕ)). ls ++ map (graph_line c.args.tag) (filter (is_empty_graph c.quads-quads.result.now) c.names.result.now)) c.in_ok-lines.ensures))
-    ∙ canonical_is c.args.dataset.now c.quads-quads.result.now c.names.result.now c.args.tag c.quads-quads.ensures.quads c.names.ensures.names
+    ∙ canonical_is c.sets_pass_alike.ensures.quads c.sets_pass_alike.ensures.names c.quads_name_their_graphs.ensures c.args.dataset.now c.quads-quads.result.now c.names.result.now c.args.tag c.quads-quads.ensures.quads c.names.ensures.names
