@@ -7,7 +7,7 @@ use Rattle.lexer.specs.declared.stop.Stop.TheVariants as stop
 use Rattle.lexer.specs.Gives.{IsCut}
 use Rattle.std.specs.List.{list_all}
 use Rattle.std.proofs.lemmas.Bool.{eqb-true, and_parts, not-false}
-use Rattle.std.proofs.lemmas.Option.{same_Some}
+use Rattle.std.proofs.lemmas.Option.{same_Some, none-some}
 use Rattle.std.proofs.lemmas.List.{append-nil, nil_from_length}
 use Rattle.iris.specs.Runs.{run_of, rest_of, RunsAreLongest}
 use Rattle.iris.specs.Bracketed.{IrisAreRead}
@@ -19,7 +19,7 @@ use Rattle.lexer.specs.Names.{IsPrefix, IsWord}
 use Rattle.lexer.specs.Form.{IsToken, iri, name, variable, word, sign, sign_byte}
 use Rattle.lexer.specs.Cut.{is_space, is_inner, is_line_end, AtLineEnd, IsLongest, Cuts, end, space, comment, token}
 use Rattle.lexer.specs.Reading.{skip_from, token_at}
-use Rattle.lexer.proofs.TokenLaws.{of_marks, run-rest, all-run, token_found, longest_found, longest_again, none_begins, no_some}
+use Rattle.lexer.proofs.TokenLaws.{of_marks, run-rest, all-run, token_found, longest_found, longest_again, none_begins}
 
 -- ---- white space and comments
 
@@ -214,7 +214,7 @@ module _ (runs : RunsAreLongest) (read : IrisAreRead) where
   first_is rest t after all e (begins front r u ts is c all-is) =
       let same = same_Some (u, r) (t, after) (sym (longest_again runs read rest front r u is) ∙ e) in
       (ts, all-is ∙ ap (λ (x : Token). x ∷ ts) (ap (λ (y : Token × List ℕ). y.0) same), subst (λ x. Cuts x ts) (ap (λ (y : Token × List ℕ). y.1) same) c)
-  first_is rest t after all e (ends nothing all-is) = absurd (no_some (t, after) (ap token_at (sym nothing) ∙ e))
+  first_is rest t after all e (ends nothing all-is) = absurd (none-some (t, after) (ap token_at (sym nothing) ∙ e))
 
   pub cut_more : (text : List ℕ) (before : List Token) (rest : List ℕ) (t : Token) (after : List ℕ) → IsCutSoFar text before rest → token_at rest ≡ Some (t, after) → IsCutSoFar text (before ++ t ∷ []) (skip_from false after)
   cut_more text before rest t after so_far e =

@@ -5,7 +5,7 @@ use Rattle.std.specs.Option.{option_map}
 use Rattle.std.specs.List.{list_all}
 use Rattle.std.proofs.lemmas.Bool.{eqb-true, and_parts, or_cases}
 use Rattle.std.proofs.lemmas.List.{take_at, drop_at}
-use Rattle.std.proofs.lemmas.Option.{same_Some, cond_some}
+use Rattle.std.proofs.lemmas.Option.{same_Some, none-some, cond_some}
 use Rattle.iris.specs.Iri.{is_letter, is_digit}
 use Rattle.iris.specs.Runs.{run_of, rest_of, IsRun, RunsAreLongest}
 use Rattle.iris.specs.Bracketed.{iri_at, IrisAreRead}
@@ -165,9 +165,6 @@ mark_reached bs = of_marks (λ m. token_at (m ∷ bs) ≡ variable_at bs) refl r
 start_reached : (b : ℕ) (bs : List ℕ) → is_variable_start b ≡ true → variable_at (b ∷ bs) ≡ Some (token.Variable (run_of is_variable_byte (b ∷ bs)), rest_of is_variable_byte (b ∷ bs))
 unfolding variable_at
 start_reached b bs h = rw h refl
-
-pub no_some : {A : Type 0} (x : A) → None ≡ Some x → ⊥
-no_some x e = absurd cc
 
 -- ---- by the laws of runs, and of IRIs in angle brackets
 
@@ -394,4 +391,4 @@ module _ (runs : RunsAreLongest) where
     pub none_begins : (text front rest : List ℕ) (t : Token) → token_at text ≡ None → text ≡ front ++ rest → IsToken front t → ⊥
     none_begins text front rest t e cut is =
         let x = reached rest is in
-        no_some (x.t, x.rest) (sym e ∙ ap token_at cut ∙ x.found)
+        none-some (x.t, x.rest) (sym e ∙ ap token_at cut ∙ x.found)
