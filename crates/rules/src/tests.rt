@@ -1,7 +1,7 @@
 //! Texts and blocks with the answers that the standard and this program's limits give them.
 
 use crate::{BlockFault, Checked, checked, split};
-use meaning::Refusal;
+use meaning::{Operation, Place, Plan, Refusal, Slot, TriplePattern};
 use std::alloc::{AllocError, Global};
 use terms::Term;
 
@@ -44,6 +44,47 @@ fn texts(rt: HostRuntime) -> Result<(), AllocError> {
         ),
         ("PREFIX:<a:> INSERT DATA { }", Err(Refusal::Syntax)),
         ("# c\rINSERT DATA { } # }", Ok(1)),
+        ("DELETE DATA { <a:b> <a:c> <a:d> }", Ok(1)),
+        ("DELETE { ?s ?p ?o } WHERE { ?s ?p ?o }", Ok(1)),
+        (
+            "delete { $s <a:b> ?o } insert { } where { ?s <a:b> $o . } ; INSERT { ?s a ?_ } WHERE { ?s ?p_1 ?_ }",
+            Ok(2),
+        ),
+        ("DELETE { ?s ?p ?o }", Err(Refusal::Syntax)),
+        ("DELETE WHERE { ?s ?p ?o }", Err(Refusal::Syntax)),
+        ("INSERT { ?s ?p ?o } WHERE { }", Err(Refusal::Syntax)),
+        (
+            "INSERT { ?s ?p ?o } WHERE { ?s ?p ?o , ?q }",
+            Err(Refusal::Syntax),
+        ),
+        (
+            "INSERT { ?s ?p ?o } WHERE { ?s ?p ?o ; ?p ?q }",
+            Err(Refusal::Syntax),
+        ),
+        (
+            "INSERT { ?s ?p ?o } WHERE { ?s ?p ?o . ?s ?p ?q }",
+            Err(Refusal::Syntax),
+        ),
+        (
+            "INSERT { ?s ?p ?o } DELETE { ?s ?p ?o } WHERE { ?s ?p ?o }",
+            Err(Refusal::Syntax),
+        ),
+        (
+            "INSERT { ? <a:b> <a:c> } WHERE { ?s ?p ?o }",
+            Err(Refusal::Syntax),
+        ),
+        (
+            "INSERT DATA { ?s <a:b> <a:c> }",
+            Err(Refusal::VariableInData),
+        ),
+        (
+            "DELETE DATA { <a:b> <a:c> $o }",
+            Err(Refusal::VariableInData),
+        ),
+        (
+            "INSERT DATA { ?s <a:b> <a:c> } ; INSERT { x:y ?p ?o } WHERE { ?s ?p ?o }",
+            Err(Refusal::Prefix),
+        ),
     ] {
         assert!(rt; answer(alloc, text)? == want);
     }
@@ -72,5 +113,34 @@ fn blocks(rt: HostRuntime) -> Result<(), BlockFault> {
     assert!(rt; matches!(&terms[0], Term::Iri(iri) if iri.as_str() == "http://e/b"));
     assert!(rt; matches!(&terms[1], Term::Iri(iri) if iri.as_str() == RDF_TYPE));
     assert!(rt; matches!(split(alloc, &[255]), Err(BlockFault::BadUtf8)));
+    Ok(())
+}
+
+#[test]
+fn variables(rt: HostRuntime) -> Result<(), AllocError> {
+    let alloc = rt.alloc();
+    let text = "DELETE { ?b <a:p> ?a } INSERT { $a a ?c } WHERE { $b <a:p> ?a }";
+    let Ok(operations) = checked(alloc, text)? else {
+        assert!(rt; false);
+        return Ok(());
+    };
+    let Operation::Modify(modify) = &operations.as_slice()[0];
+    assert!(rt; modify.width == 2);
+    assert!(rt;
+        matches!(
+            &modify.pattern,
+            Plan::Triple(TriplePattern {
+                subject: Place::Variable(1),
+                predicate: Place::Term(_),
+                object: Place::Variable(0),
+            })
+        )
+    );
+    for (quads, want) in [(&modify.delete, (1, 0)), (&modify.insert, (0, 2))] {
+        let quad = &quads.as_slice()[0];
+        assert!(rt;
+            matches!((&quad.subject, &quad.object), (Slot::Variable(s), Slot::Variable(o)) if (*s, *o) == want)
+        );
+    }
     Ok(())
 }
