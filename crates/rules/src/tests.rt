@@ -1,7 +1,7 @@
 //! Texts and blocks with the answers that the standard and this program's limits give them.
 
 use crate::{BlockFault, Checked, checked, split};
-use meaning::{Operation, Place, Plan, Refusal, Slot, TriplePattern};
+use meaning::{Operation, Place, Plan, QuadTemplate, Refusal, Slot};
 use std::alloc::{AllocError, Global};
 use terms::Term;
 
@@ -116,31 +116,38 @@ fn blocks(rt: HostRuntime) -> Result<(), BlockFault> {
     Ok(())
 }
 
+/// The numbers of the variables that are a quad's subject and object.
+fn ends(quad: &QuadTemplate<Term>) -> Option<(u32, u32)> {
+    match (&quad.subject, &quad.object) {
+        (Slot::Variable(subject), Slot::Variable(object)) => Some((*subject, *object)),
+        _ => None,
+    }
+}
+
 #[test]
 fn variables(rt: HostRuntime) -> Result<(), AllocError> {
     let alloc = rt.alloc();
     let text = "DELETE { ?b <a:p> ?a } INSERT { $a a ?c } WHERE { $b <a:p> ?a }";
-    let Ok(operations) = checked(alloc, text)? else {
-        assert!(rt; false);
-        return Ok(());
-    };
-    let Operation::Modify(modify) = &operations.as_slice()[0];
-    assert!(rt; modify.width == 2);
-    assert!(rt;
-        matches!(
-            &modify.pattern,
-            Plan::Triple(TriplePattern {
-                subject: Place::Variable(1),
-                predicate: Place::Term(_),
-                object: Place::Variable(0),
-            })
-        )
-    );
-    for (quads, want) in [(&modify.delete, (1, 0)), (&modify.insert, (0, 2))] {
-        let quad = &quads.as_slice()[0];
-        assert!(rt;
-            matches!((&quad.subject, &quad.object), (Slot::Variable(s), Slot::Variable(o)) if (*s, *o) == want)
-        );
+    let request: Checked = checked(alloc, text)?;
+    assert!(rt; request.is_ok());
+    if let Ok(operations) = request {
+        assert!(rt; operations.len() == 1);
+        for operation in operations.as_slice() {
+            let Operation::Modify(modify) = operation;
+            assert!(rt; modify.width == 2);
+            let Plan::Triple(pattern) = &modify.pattern else {
+                return Err(AllocError);
+            };
+            assert!(rt; matches!(pattern.subject, Place::Variable(1)));
+            assert!(rt; matches!(pattern.object, Place::Variable(0)));
+            assert!(rt; modify.delete.len() == 1 && modify.insert.len() == 1);
+            for quad in modify.delete.as_slice() {
+                assert!(rt; ends(quad) == Some((1, 0)));
+            }
+            for quad in modify.insert.as_slice() {
+                assert!(rt; ends(quad) == Some((0, 2)));
+            }
+        }
     }
     Ok(())
 }
