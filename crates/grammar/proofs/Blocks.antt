@@ -12,7 +12,7 @@ use Rattle.lexer.specs.declared.token.Token.TheVariants as token
 use Rattle.lexer.specs.declared.token.Sign.TheVariants as signs
 use Rattle.syntax_trees.specs.declared.tree.SameSubject.{SameSubject}
 use Rattle.grammar.specs.Many.{last, next}
-use Rattle.grammar.specs.Reads.{iri, prefixed, same, ReadsTriples, ReadsBlock, empty, filled, is_keyword}
+use Rattle.grammar.specs.Reads.{variable, iri, prefixed, same, ReadsTriples, ReadsBlock, empty, filled, is_keyword}
 use Rattle.grammar.specs.Reading.{triples_at, open_at, close_at, filled_at, block_at, keyword_at}
 use Rattle.grammar.proofs.ManyLaws.{bind_some}
 use Rattle.grammar.proofs.Instances.{triples_found, triples_again, at_close}
@@ -23,26 +23,12 @@ keyword_is r w k h = one_answer r (is_keyword w k) h (bytes_decides (map to_asci
 pub ruleset keywords = (keyword_is)
 
 open_found : (ts rest : List Token) → open_at ts ≡ Some rest → ts ≡ token.Sign signs.OpenBrace ∷ rest
-open_found [] rest e = absurd cc
-open_found (token.Iri i ∷ ts) rest e = absurd cc
-open_found (token.Name p l ∷ ts) rest e = absurd cc
-open_found (token.Word w ∷ ts) rest e = absurd cc
 open_found (token.Sign signs.OpenBrace ∷ ts) rest e = ap (λ (r : List Token). token.Sign signs.OpenBrace ∷ r) (same_Some ts rest e)
-open_found (token.Sign signs.CloseBrace ∷ ts) rest e = absurd cc
-open_found (token.Sign signs.Dot ∷ ts) rest e = absurd cc
-open_found (token.Sign signs.Semicolon ∷ ts) rest e = absurd cc
-open_found (token.Sign signs.Comma ∷ ts) rest e = absurd cc
+open_found ts rest e = absurd cc
 
 close_found : (ts rest : List Token) → close_at ts ≡ Some rest → ts ≡ token.Sign signs.CloseBrace ∷ rest
-close_found [] rest e = absurd cc
-close_found (token.Iri i ∷ ts) rest e = absurd cc
-close_found (token.Name p l ∷ ts) rest e = absurd cc
-close_found (token.Word w ∷ ts) rest e = absurd cc
-close_found (token.Sign signs.OpenBrace ∷ ts) rest e = absurd cc
 close_found (token.Sign signs.CloseBrace ∷ ts) rest e = ap (λ (r : List Token). token.Sign signs.CloseBrace ∷ r) (same_Some ts rest e)
-close_found (token.Sign signs.Dot ∷ ts) rest e = absurd cc
-close_found (token.Sign signs.Semicolon ∷ ts) rest e = absurd cc
-close_found (token.Sign signs.Comma ∷ ts) rest e = absurd cc
+close_found ts rest e = absurd cc
 
 filled_found : (ts : List Token) (x : List SameSubject × List Token) → filled_at ts ≡ Some x → ReadsTriples ts x.0 (token.Sign signs.CloseBrace ∷ x.1)
 unfolding filled_at
@@ -65,8 +51,10 @@ block_found ts x e =
     ] refl inside.2)
 
 no_close : {ts rest : List Token} {xs : List SameSubject} → ReadsTriples ts xs rest → close_at ts ≡ None
+no_close (last (same variable properties) l) = refl
 no_close (last (same iri properties) l) = refl
 no_close (last (same prefixed properties) l) = refl
+no_close (next (same variable properties) l m) = refl
 no_close (next (same iri properties) l m) = refl
 no_close (next (same prefixed properties) l m) = refl
 
@@ -76,8 +64,10 @@ block_again empty = refl
 block_again (filled {ts} {rest} {xs} triples) = rw (no_close triples, triples_again triples at_close) refl
 
 pub keyword_found : (k : List ℕ) (ts rest : List Token) → keyword_at k ts ≡ Some rest → (w : List ℕ) × (is_keyword w k ≡ true) × (ts ≡ token.Word w ∷ rest)
-keyword_found k [] rest e = absurd cc
-keyword_found k (token.Iri i ∷ ts) rest e = absurd cc
-keyword_found k (token.Name p l ∷ ts) rest e = absurd cc
 keyword_found k (token.Word w ∷ ts) rest e = let g = cond_some (is_keyword w k) ts rest e in (w, g.0, ap (λ (r : List Token). token.Word w ∷ r) g.1)
-keyword_found k (token.Sign s ∷ ts) rest e = absurd cc
+keyword_found k ts rest e = absurd cc
+
+-- a block begins with no keyword
+pub block_no_keyword : {ts rest : List Token} {xs : List SameSubject} (k : List ℕ) → ReadsBlock ts xs rest → keyword_at k ts ≡ None
+block_no_keyword k empty = refl
+block_no_keyword k (filled triples) = refl

@@ -1,4 +1,5 @@
 pub mod ManyLaws
 pub mod Instances
 pub mod Blocks
+pub mod Operations
 pub mod Requests

@@ -1,9 +1,7 @@
 -- Requests: what a step of the loop reads is in the grammar, and what is in it is read.
-use Rattle.std.proofs.Common.{◌≡◌, ℕ, zero, suc, ◌<◌, true, false, List, [], ◌∷◌, ◌++◌, length, Some, None, Result, Ok, Err, refl, sym, ap, ◌∙◌, subst, map, arith, append_assoc, ◌⊎◌, inl, inr}
-use Rattle.std.specs.Prelude.{codes, bytes_eq}
+use Rattle.std.proofs.Common.{◌≡◌, ℕ, zero, suc, ◌<◌, true, List, [], ◌∷◌, ◌++◌, length, Some, None, Result, Ok, Err, refl, sym, ap, ◌∙◌, subst, arith, append_assoc, ◌⊎◌, inl, inr}
+use Rattle.std.specs.Prelude.{codes}
 use Rattle.std.specs.Option.{option_map_or}
-use Rattle.std.specs.Char.{to_ascii_lowercase}
-use Rattle.std.specs.Cmp.Lexicographic.{bytes_decides}
 use Rattle.std.proofs.lemmas.List.{append-nil, nil_from_length}
 use Rattle.std.proofs.lemmas.Option.{same_Some, none-some}
 use Rattle.iris.specs.Bracketed.{◌>>=◌}
@@ -13,51 +11,15 @@ use Rattle.lexer.specs.declared.token.Token.TheVariants as token
 use Rattle.lexer.specs.declared.token.Sign.TheVariants as signs
 use Rattle.lexer.specs.declared.stop.Stop.{Stop}
 use Rattle.lexer.specs.declared.stop.Stop.TheVariants as stop
-use Rattle.syntax_trees.specs.declared.tree.SameSubject.{SameSubject}
 use Rattle.syntax_trees.specs.declared.tree.Operation.{Operation}
-use Rattle.syntax_trees.specs.declared.tree.Operation.TheVariants as operation
 use Rattle.syntax_trees.specs.declared.tree.Step.{Step}
 use Rattle.syntax_trees.specs.declared.tree.Step.TheVariants as step
 use Rattle.syntax_trees.specs.declared.tree.Syntax.{Syntax}
-use Rattle.grammar.specs.Reads.{ReadsBlock, empty, filled, is_keyword, ReadsOperation, insert_data, ReadsRequest, nothing, prefix, last, next, Reads}
-use Rattle.grammar.specs.Reading.{Fails, triples_at, block_at, keyword_at, operation_at, namespace_at, reference_at, declared_at, ended_at, done_at, step_at, AreRead, IsRead, same_at, triple_link}
-use Rattle.grammar.proofs.ManyLaws.{bind_some, many_takes}
-use Rattle.grammar.proofs.Instances.{triples_again, triples_consume, at_close}
-use Rattle.grammar.proofs.Blocks.{block_found, block_again, keyword_found}
-
--- ---- operations
-
-operation_found : (ts : List Token) (x : Operation × List Token) → operation_at ts ≡ Some x → ReadsOperation ts x.0 x.1
-unfolding operation_at
-operation_found ts x e =
-    let r = bind_some (keyword_at (codes "INSERT") ts) (λ r. keyword_at (codes "DATA") r >>= λ s. block_at s >>= λ b. Some (operation.InsertData b.0, b.1)) x e in
-    let s = bind_some (keyword_at (codes "DATA") r.0) (λ s. block_at s >>= λ b. Some (operation.InsertData b.0, b.1)) x r.2 in
-    let b = bind_some (block_at s.0) (λ b. Some (operation.InsertData b.0, b.1)) x s.2 in
-    let w = keyword_found (codes "INSERT") ts r.0 r.1 in
-    let d = keyword_found (codes "DATA") r.0 s.0 s.1 in
-    let made : Operation × List Token = (operation.InsertData b.0.0, b.0.1) in
-    subst (λ (y : Operation × List Token). ReadsOperation ts y.0 y.1) {x = made} (same_Some made x b.2)
-    (subst (λ (r : List Token). ReadsOperation r (operation.InsertData b.0.0) b.0.1) (sym (w.2 ∙ ap (λ (r : List Token). token.Word w.0 ∷ r) d.2)) (insert_data w.1 d.1 (block_found s.0 b.0 b.1)))
-
-operation_again : {ts rest : List Token} {x : Operation} → ReadsOperation ts x rest → operation_at ts ≡ Some (x, rest)
-unfolding operation_at
-operation_again (insert_data {w} {d} {ts} {rest} {xs} is-insert is-data block) = rw (is-insert, is-data, block_again block) refl
-
-block_shorter : {ts rest : List Token} {xs : List SameSubject} → ReadsBlock ts xs rest → length rest < length ts
-unfolding triples_at
-block_shorter empty = omega arith
-block_shorter (filled {ts} {rest} {xs} triples) =
-    let taken = many_takes same_at triple_link triples_consume (length ts) ts (xs, token.Sign signs.CloseBrace ∷ rest) (triples_again triples at_close) in
-    omega arith
-
-operation_shorter : {ts rest : List Token} {x : Operation} → ReadsOperation ts x rest → length rest < length ts
-operation_shorter (insert_data {w} {d} {ts} {rest} {xs} is-insert is-data block) = let shorter = block_shorter block in omega arith
-
-other_keyword : (w k j : List ℕ) → is_keyword w k ≡ true → is_keyword k j ≡ false → is_keyword w j ≡ false
-other_keyword w k j is apart = ap (λ (l : List ℕ). bytes_eq l (map to_ascii_lowercase j)) ((bytes_decides (map to_ascii_lowercase w) (map to_ascii_lowercase k)).0 is) ∙ apart
-
-no_prefix : {ts rest : List Token} {x : Operation} → ReadsOperation ts x rest → keyword_at (codes "PREFIX") ts ≡ None
-no_prefix (insert_data {w} {d} {ts} {rest} {xs} is-insert is-data block) = rw (other_keyword w (codes "INSERT") (codes "PREFIX") is-insert refl) refl
+use Rattle.grammar.specs.Reads.{is_keyword, ReadsOperation, ReadsRequest, nothing, prefix, last, next, Reads}
+use Rattle.grammar.specs.Reading.{Fails, keyword_at, operation_at, namespace_at, reference_at, declared_at, ended_at, done_at, step_at, AreRead, IsRead}
+use Rattle.grammar.proofs.ManyLaws.{bind_some}
+use Rattle.grammar.proofs.Blocks.{keyword_found}
+use Rattle.grammar.proofs.Operations.{operation_found, operation_again, operation_shorter, no_prefix, no_tokens}
 
 -- ---- steps
 
@@ -68,19 +30,12 @@ data StepAt : List Token → Step → List Token → Type 0 where
   goes_on : {ts rest : List Token} {x : Operation} → ReadsOperation ts x (token.Sign signs.Semicolon ∷ rest) → StepAt ts (step.Do x) rest
 
 namespace_found : (ts : List Token) (x : List ℕ × List Token) → namespace_at ts ≡ Some x → ts ≡ token.Name x.0 [] ∷ x.1
-namespace_found [] x e = absurd cc
-namespace_found (token.Iri i ∷ ts) x e = absurd cc
 namespace_found (token.Name p [] ∷ ts) x e = ap (λ (y : List ℕ × List Token). token.Name y.0 [] ∷ y.1) (same_Some (p, ts) x e)
-namespace_found (token.Name p (b ∷ l) ∷ ts) x e = absurd cc
-namespace_found (token.Word w ∷ ts) x e = absurd cc
-namespace_found (token.Sign s ∷ ts) x e = absurd cc
+namespace_found ts x e = absurd cc
 
 reference_found : (ts : List Token) (x : List ℕ × List Token) → reference_at ts ≡ Some x → ts ≡ token.Iri x.0 ∷ x.1
-reference_found [] x e = absurd cc
 reference_found (token.Iri i ∷ ts) x e = ap (λ (y : List ℕ × List Token). token.Iri y.0 ∷ y.1) (same_Some (i, ts) x e)
-reference_found (token.Name p l ∷ ts) x e = absurd cc
-reference_found (token.Word w ∷ ts) x e = absurd cc
-reference_found (token.Sign s ∷ ts) x e = absurd cc
+reference_found ts x e = absurd cc
 
 declared_found : (w : List ℕ) (ts : List Token) (x : Step × List Token) → is_keyword w (codes "PREFIX") ≡ true → declared_at ts ≡ Some x → StepAt (token.Word w ∷ ts) x.0 x.1
 unfolding declared_at
@@ -94,14 +49,8 @@ declared_found w ts x is e =
 
 ended_found : (ts rest : List Token) → ended_at ts ≡ Some rest → ((ts ≡ []) × (rest ≡ [])) ⊎ (ts ≡ token.Sign signs.Semicolon ∷ rest)
 ended_found [] rest e = inl (refl, sym (same_Some [] rest e))
-ended_found (token.Iri i ∷ ts) rest e = absurd cc
-ended_found (token.Name p l ∷ ts) rest e = absurd cc
-ended_found (token.Word w ∷ ts) rest e = absurd cc
-ended_found (token.Sign signs.OpenBrace ∷ ts) rest e = absurd cc
-ended_found (token.Sign signs.CloseBrace ∷ ts) rest e = absurd cc
-ended_found (token.Sign signs.Dot ∷ ts) rest e = absurd cc
 ended_found (token.Sign signs.Semicolon ∷ ts) rest e = inr (ap (λ (r : List Token). token.Sign signs.Semicolon ∷ r) (same_Some ts rest e))
-ended_found (token.Sign signs.Comma ∷ ts) rest e = absurd cc
+ended_found ts rest e = absurd cc
 
 done_found : (ts : List Token) (x : Step × List Token) → done_at ts ≡ Some x → StepAt ts x.0 x.1
 unfolding done_at
@@ -136,9 +85,6 @@ step_shorter (ends is) = operation_shorter is
 step_shorter (goes_on is) = let shorter = operation_shorter is in omega arith
 
 -- ---- the loop
-
-no_tokens : {x : Operation} {rest : List Token} → ReadsOperation [] x rest → ⊥
-no_tokens is = elim is [ ]
 
 nothing_left : {ss : List Step} → ReadsRequest [] ss → ss ≡ []
 nothing_left nothing = refl

@@ -28,7 +28,7 @@ pub data ReadsNode : List Token → Node → List Token → Type 0 where
 
 -- Verb = variable | Iri | 'a'
 pub data ReadsVerb : List Token → Node → List Token → Type 0 where
-  node : {ts rest : List Token} {x : Node} → ReadsNode ts x rest → ReadsVerb ts x rest
+  is_node : {ts rest : List Token} {x : Node} → ReadsNode ts x rest → ReadsVerb ts x rest
   type : {rest : List Token} → ReadsVerb (token.Word (97 ∷ []) ∷ rest) node.Type rest
 
 -- Objects = Object { ',' Object }

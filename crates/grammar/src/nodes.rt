@@ -1,18 +1,19 @@
-//! Names, verbs, and what links objects.
+//! Nodes, verbs, and what links objects.
 ghost use Rattle.std.specs.Prelude.{◌≡◌};
-ghost use Rattle.grammar.specs.Reading.{Gives, name_at, verb_at, is_a, begins_name, begins_verb, object_link, skip_semicolons, property_link, triple_link};
+ghost use Rattle.grammar.specs.Reading.{Gives, node_at, verb_at, is_a, begins_node, begins_verb, object_link, skip_semicolons, property_link, triple_link};
 
 use lexer::{LocalPart, Piece, Sign, Stop, Token};
 use syntax_trees::Node;
 
-/// The name at the front of the tokens, and what follows it.
-pub fn name_at<'t, 'a>(tokens: &'t [Token<'a>]) -> Result<(Node<'a>, &'t [Token<'a>]), Stop>
-    ensures { Gives (λ x. (x.0, x.1.now)) result (name_at tokens.now) }
+/// The variable or name at the front of the tokens, and what follows it.
+pub fn node_at<'t, 'a>(tokens: &'t [Token<'a>]) -> Result<(Node<'a>, &'t [Token<'a>]), Stop>
+    ensures { Gives (λ x. (x.0, x.1.now)) result (node_at tokens.now) }
 {
     let [first, rest @ ..] = tokens else {
         return Err(Stop::NoReading);
     };
     match first {
+        Token::Variable(variable) => Ok((Node::Variable(variable.again()), rest)),
         Token::Iri(iri) => Ok((Node::Iri(iri.again()), rest)),
         Token::Name { prefix, local } => Ok((named(prefix, local), rest)),
         _ => Err(Stop::NoReading),
@@ -45,6 +46,7 @@ pub fn verb_at<'t, 'a>(tokens: &'t [Token<'a>]) -> Result<(Node<'a>, &'t [Token<
         return Err(Stop::NoReading);
     };
     match first {
+        Token::Variable(variable) => Ok((Node::Variable(variable.again()), rest)),
         Token::Iri(iri) => Ok((Node::Iri(iri.again()), rest)),
         Token::Name { prefix, local } => Ok((named(prefix, local), rest)),
         Token::Word(word) if is_a(word) => Ok((Node::Type, rest)),
@@ -52,11 +54,14 @@ pub fn verb_at<'t, 'a>(tokens: &'t [Token<'a>]) -> Result<(Node<'a>, &'t [Token<
     }
 }
 
-fn begins_name(tokens: &[Token<'_>]) -> bool
-    ensures { result ≡ begins_name tokens.now }
+fn begins_node(tokens: &[Token<'_>]) -> bool
+    ensures { result ≡ begins_node tokens.now }
 {
     match tokens {
-        [first, ..] => matches!(first, Token::Iri(_) | Token::Name { .. }),
+        [first, ..] => matches!(
+            first,
+            Token::Variable(_) | Token::Iri(_) | Token::Name { .. }
+        ),
         [] => false,
     }
 }
@@ -68,7 +73,7 @@ fn begins_verb(tokens: &[Token<'_>]) -> bool
         return false;
     };
     match first {
-        Token::Iri(_) | Token::Name { .. } => true,
+        Token::Variable(_) | Token::Iri(_) | Token::Name { .. } => true,
         Token::Word(word) => is_a(word),
         Token::Sign(_) => false,
     }
@@ -124,7 +129,7 @@ pub fn triple_link<'t, 'a>(tokens: &'t [Token<'a>]) -> (bool, &'t [Token<'a>])
         return (false, tokens);
     };
     match first {
-        Token::Sign(Sign::Dot) => (begins_name(rest), rest),
+        Token::Sign(Sign::Dot) => (begins_node(rest), rest),
         _ => (false, tokens),
     }
 }

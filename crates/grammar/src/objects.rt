@@ -2,7 +2,7 @@
 ghost use Rattle.std.specs.Prelude.{◌≡◌};
 ghost use Rattle.grammar.specs.Reading.{Gives, objects_at, property_at, properties_at, same_at, triples_at};
 
-use crate::nodes::{name_at, object_link, property_link, triple_link, verb_at};
+use crate::nodes::{node_at, object_link, property_link, triple_link, verb_at};
 use lexer::{Stop, Token};
 use sets::Items;
 use std::alloc::Global;
@@ -26,8 +26,8 @@ fn objects_at<'t, 'a>(
     let mut rest = tokens;
     let mut goes_on = true;
     while goes_on {
-        let (name, after) = name_at(rest)?;
-        found.push(name)?;
+        let (node, after) = node_at(rest)?;
+        found.push(node)?;
         let (next, after) = object_link(after);
         goes_on = next;
         rest = kept(after);
@@ -76,7 +76,7 @@ fn same_at<'t, 'a>(
 ) -> Result<(SameSubject<'a>, &'t [Token<'a>]), Stop>
     ensures { Gives (λ x. (x.0, x.1.now)) result (same_at tokens.now) }
 {
-    let (subject, rest) = name_at(tokens)?;
+    let (subject, rest) = node_at(tokens)?;
     let (properties, rest) = properties_at(alloc, rest)?;
     Ok((
         SameSubject {

@@ -1,32 +1,15 @@
-//! Operations, declarations of prefixes, and requests.
-ghost use Rattle.std.specs.Prelude.{◌≡◌, MatchOption, IfOk, None, Some, codes};
+//! Declarations of prefixes, and requests.
+ghost use Rattle.std.specs.Prelude.{◌≡◌, MatchOption, IfOk, None, Some};
 ghost use Rattle.grammar.specs.Reads.{IsParsed};
-ghost use Rattle.grammar.specs.Reading.{Gives, namespace_at, reference_at, declared_at, ended_at, operation_at, done_at, step_at, AreRead, IsRead};
+ghost use Rattle.grammar.specs.Reading.{Gives, namespace_at, reference_at, declared_at, ended_at, done_at, step_at, AreRead, IsRead};
 
-use crate::block::{after_keyword, block_at};
+use crate::block::after_keyword;
 use crate::objects::kept;
+use crate::operation::operation_at;
 use lexer::{IriText, Piece, Sign, Stop, Token, tokens};
 use sets::Items;
 use std::alloc::{AllocError, Global};
-use syntax_trees::{Operation, Step, Syntax};
-
-/// `'INSERT' 'DATA' '{' [Triples] '}'`
-#[tactic(auto, unfolding(crate::specs::Reading::operation_at))]
-fn operation_at<'t, 'a>(
-    alloc: Global,
-    tokens: &'t [Token<'a>],
-) -> Result<(Operation<'a>, &'t [Token<'a>]), Stop>
-    ensures { Gives (λ x. (x.0, x.1.now)) result (operation_at tokens.now) }
-{
-    let Some(rest) = after_keyword(b"INSERT", tokens) else {
-        return Err(Stop::NoReading);
-    };
-    let Some(rest) = after_keyword(b"DATA", rest) else {
-        return Err(Stop::NoReading);
-    };
-    let (triples, rest) = block_at(alloc, rest)?;
-    Ok((Operation::InsertData(triples), rest))
-}
+use syntax_trees::{Step, Syntax};
 
 /// The prefix that a namespace declares, and what follows it.
 fn namespace_at<'t, 'a>(tokens: &'t [Token<'a>]) -> Result<(Piece<'a>, &'t [Token<'a>]), Stop>

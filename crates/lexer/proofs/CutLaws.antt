@@ -16,10 +16,10 @@ use Rattle.lexer.specs.declared.token.Token.{Token}
 use Rattle.lexer.specs.declared.token.Sign.{Sign}
 use Rattle.lexer.specs.declared.token.Sign.TheVariants as signs
 use Rattle.lexer.specs.Names.{IsPrefix, IsWord}
-use Rattle.lexer.specs.Form.{IsToken, iri, name, word, sign, sign_byte}
+use Rattle.lexer.specs.Form.{IsToken, iri, name, variable, word, sign, sign_byte}
 use Rattle.lexer.specs.Cut.{is_space, is_inner, is_line_end, AtLineEnd, IsLongest, Cuts, end, space, comment, token}
 use Rattle.lexer.specs.Reading.{skip_from, token_at}
-use Rattle.lexer.proofs.TokenLaws.{run-rest, all-run, token_found, longest_found, longest_again, none_begins}
+use Rattle.lexer.proofs.TokenLaws.{of_marks, run-rest, all-run, token_found, longest_found, longest_again, none_begins}
 
 -- ---- white space and comments
 
@@ -70,6 +70,7 @@ name_start (b ∷ p) l rest is = letter_start b ((p ++ 58 ∷ l) ++ rest) is.0
 token_start : {front : List ℕ} {t : Token} (rest : List ℕ) → IsToken front t → skip_from false (front ++ rest) ≡ front ++ rest
 token_start rest (iri is) = refl
 token_start rest (name {p} {l} prefix local) = name_start p l rest prefix
+token_start rest (variable {m} {v} mark is) = of_marks (λ m. skip_from false (m ∷ (v ++ rest)) ≡ m ∷ (v ++ rest)) refl refl m mark
 token_start rest (word {w} is) = word_start w rest is
 token_start rest (sign s) = sign_start s rest
 
@@ -147,6 +148,7 @@ word_len (b ∷ bs) is = omega arith
 token_len : {front : List ℕ} {t : Token} → IsToken front t → 0 < length front
 token_len (iri {i} is) = omega arith
 token_len (name {p} {l} prefix local) = omega (arith, length-append p (58 ∷ l))
+token_len (variable {m} {v} mark is) = omega arith
 token_len (word {w} is) = word_len w is
 token_len (sign s) = omega arith
 

@@ -10,7 +10,7 @@ use Rattle.std.proofs.lemmas.List.Folds.{list_all-append}
 use Rattle.iris.specs.Iri.{is_letter, is_digit, is_scheme_byte, is_iri_byte, after_first, IsIri}
 use Rattle.lexer.specs.declared.token.Token.{Token}
 use Rattle.lexer.specs.Names.{is_name_byte, IsLocal}
-use Rattle.lexer.specs.Form.{IsToken, iri, name, word, sign, HasParts}
+use Rattle.lexer.specs.Form.{IsToken, iri, name, variable, word, sign, HasParts}
 use Rattle.lexer.specs.Cut.{Cuts, end, space, comment, token as token_cut}
 use Rattle.lexer.proofs.TokenLaws.{start_name, all_weaker}
 
@@ -79,6 +79,7 @@ iri_with_local (b ∷ bs) l is local =
 token_parts : {front : List ℕ} {t : Token} → IsToken front t → HasParts t
 token_parts (iri {i} is) = is
 token_parts (name {p} {l} prefix local) = local
+token_parts (variable {m} {v} mark is) = tt
 token_parts (word {w} is) = tt
 token_parts (sign s) = tt
 

@@ -3,7 +3,7 @@ use Rattle.std.proofs.Common.{◌≡◌, ℕ, ◌≤◌, ◌<◌, Bool, true, fa
 use Rattle.std.specs.Prelude.{unwrap_or}
 use Rattle.std.specs.Option.{option_map}
 use Rattle.std.specs.List.{list_all}
-use Rattle.std.proofs.lemmas.Bool.{eqb-true, and_parts}
+use Rattle.std.proofs.lemmas.Bool.{eqb-true, and_parts, or_cases}
 use Rattle.std.proofs.lemmas.List.{take_at, drop_at}
 use Rattle.std.proofs.lemmas.Option.{same_Some, none-some, cond_some}
 use Rattle.iris.specs.Iri.{is_letter, is_digit}
@@ -13,10 +13,10 @@ use Rattle.lexer.specs.declared.token.Token.{Token}
 use Rattle.lexer.specs.declared.token.Token.TheVariants as token
 use Rattle.lexer.specs.declared.token.Sign.{Sign}
 use Rattle.lexer.specs.declared.token.Sign.TheVariants as signs
-use Rattle.lexer.specs.Names.{is_name_byte, is_local_start, IsPrefix, IsLocal, IsWord}
-use Rattle.lexer.specs.Form.{sign_byte, IsToken, iri, name, word, sign}
+use Rattle.lexer.specs.Names.{is_name_byte, is_local_start, is_variable_start, is_variable_byte, IsPrefix, IsLocal, IsVariable, IsWord}
+use Rattle.lexer.specs.Form.{sign_byte, is_variable_mark, IsToken, iri, name, variable, word, sign}
 use Rattle.lexer.specs.Cut.{IsLongest}
-use Rattle.lexer.specs.Reading.{local_at, name_after, name_or_word, sign_of, token_at}
+use Rattle.lexer.specs.Reading.{local_at, name_after, name_or_word, variable_at, sign_of, token_at}
 
 -- ---- lists
 
@@ -42,6 +42,13 @@ letter_name b h = ap (λ t. ((t || is_digit b) || eqb b 95) || eqb b 45) h
 
 pub start_name : (b : ℕ) → is_local_start b ≡ true → is_name_byte b ≡ true
 start_name b h = ap (λ t. t || eqb b 45) h
+
+or_true : (b : Bool) → (b || true) ≡ true
+or_true true = refl
+or_true false = refl
+
+start_variable : (b : ℕ) → is_variable_start b ≡ true → is_variable_byte b ≡ true
+start_variable b h = elim (is_letter b) as (λ t. (t || eqb b 95) ≡ true → ((t || is_digit b) || eqb b 95) ≡ true) [ true ↦ λ h. refl | false ↦ λ h. ap (λ t. is_digit b || t) h ∙ or_true (is_digit b) ] h
 
 -- ---- signs
 
@@ -143,6 +150,22 @@ sign_at signs.Comma r = refl
 sign_reached : (s : Sign) (r : List ℕ) → Reached (sign_byte s ∷ []) r (token.Sign s)
 sign_reached s r = record { t = token.Sign s; rest = r; found = sign_at s r; front = sign_byte s ∷ []; cut = refl; is = sign s; longer = omega arith; same = λ e. refl }
 
+-- a fact of both marks of a variable
+pub of_marks : (P : ℕ → Type 0) → P 63 → P 36 → (m : ℕ) → is_variable_mark m ≡ true → P m
+of_marks P question dollar m mark =
+    elim (or_cases (eqb m 63) (eqb m 36) mark) [
+      | inl h ↦ subst P (sym (eqb-true m 63 h)) question
+      | inr h ↦ subst P (sym (eqb-true m 36 h)) dollar
+    ]
+
+mark_reached : (bs : List ℕ) (m : ℕ) → is_variable_mark m ≡ true → token_at (m ∷ bs) ≡ variable_at bs
+unfolding token_at
+mark_reached bs = of_marks (λ m. token_at (m ∷ bs) ≡ variable_at bs) refl refl
+
+start_reached : (b : ℕ) (bs : List ℕ) → is_variable_start b ≡ true → variable_at (b ∷ bs) ≡ Some (token.Variable (run_of is_variable_byte (b ∷ bs)), rest_of is_variable_byte (b ∷ bs))
+unfolding variable_at
+start_reached b bs h = rw h refl
+
 -- ---- by the laws of runs, and of IRIs in angle brackets
 
 module _ (runs : RunsAreLongest) where
@@ -204,6 +227,38 @@ module _ (runs : RunsAreLongest) where
             let n = name_found (run_of is_name_byte text) (rest_of is_name_byte text) t rest (prefix_is b bs h) (o ∙ ap (λ (y : Token × List ℕ). let r : Option (Token × List ℕ) = Some y in r) e) in
             record { front = n.front; cut = sym (run-rest is_name_byte text) ∙ n.cut; is = n.is }
       ] refl e
+
+  variable_is : (b : ℕ) (bs : List ℕ) → is_variable_start b ≡ true → IsVariable (run_of is_variable_byte (b ∷ bs))
+  variable_is b bs h = rw (start_variable b h) (h, all-run is_variable_byte bs)
+
+  variable_found : (m : ℕ) (bs : List ℕ) (t : Token) (rest : List ℕ) → is_variable_mark m ≡ true → variable_at bs ≡ Some (t, rest) → Found (m ∷ bs) t rest
+  unfolding variable_at
+  variable_found m [] t rest mark e = absurd cc
+  variable_found m (b ∷ bs) t rest mark e =
+      let v : List ℕ = run_of is_variable_byte (b ∷ bs) in
+      let g = cond_some (is_variable_start b) (token.Variable v, rest_of is_variable_byte (b ∷ bs)) (t, rest) e in
+      record {
+        front = m ∷ v;
+        cut = ap (λ (r : List ℕ). m ∷ r) (sym (run-rest is_variable_byte (b ∷ bs)) ∙ ap (λ (r : List ℕ). v ++ r) (ap (λ (x : Token × List ℕ). x.1) g.1));
+        is = subst (λ t. IsToken (m ∷ v) t) (ap (λ (x : Token × List ℕ). x.0) g.1) (variable mark (variable_is b bs g.0));
+      }
+
+  variable_reached : (m : ℕ) (v r : List ℕ) → is_variable_mark m ≡ true → IsVariable v → Reached (m ∷ v) r (token.Variable v)
+  variable_reached m [] r mark is = absurd is
+  variable_reached m (b ∷ bs) r mark is =
+      let text : List ℕ = b ∷ bs ++ r in
+      let v : List ℕ = run_of is_variable_byte text in
+      let longer : length (b ∷ bs) ≤ length v = run_longer is_variable_byte (b ∷ bs) r (rw (start_variable b is.0) is.1) in
+      record {
+        t = token.Variable v;
+        rest = rest_of is_variable_byte text;
+        found = mark_reached text m mark ∙ start_reached b (bs ++ r) is.0;
+        front = m ∷ v;
+        cut = ap (λ (r : List ℕ). m ∷ r) (sym (run-rest is_variable_byte text));
+        is = variable mark (variable_is b (bs ++ r) is.0);
+        longer = omega (arith, longer);
+        same = λ e. ap token.Variable (let tails : v ≡ b ∷ bs = cc in tails);
+      }
 
   name_runs : (p l r : List ℕ) → list_all is_name_byte p ≡ true → (run_of is_name_byte (p ++ 58 ∷ (l ++ r)) ≡ p) × (rest_of is_name_byte (p ++ 58 ∷ (l ++ r)) ≡ 58 ∷ (l ++ r))
   name_runs p l r all = (runs is_name_byte (p ++ 58 ∷ (l ++ r)) p (58 ∷ (l ++ r))).1 (record { cut = refl; all = all; stops = refl })
@@ -275,28 +330,33 @@ module _ (runs : RunsAreLongest) where
     unfolding token_at
     token_found [] t rest e = absurd cc
     token_found (b ∷ bs) t rest e =
-        let others : Option (Token × List ℕ) = cond (eqb b 60) (option_map iri_token (iri_at (b ∷ bs))) (option_map (sign_token bs) (sign_of b)) in
+        let last : Option (Token × List ℕ) = cond (eqb b 60) (option_map iri_token (iri_at (b ∷ bs))) (option_map (sign_token bs) (sign_of b)) in
+        let others : Option (Token × List ℕ) = cond (is_variable_mark b) (variable_at bs) last in
         elim (is_letter b) as (λ l. is_letter b ≡ l → cond l (Some (name_or_word (b ∷ bs))) (cond (eqb b 58) (name_after [] (b ∷ bs)) others) ≡ Some (t, rest) → Found (b ∷ bs) t rest) [
           | true ↦ λ l e. letter_found b bs t rest l (same_Some (name_or_word (b ∷ bs)) (t, rest) e)
           | false ↦ λ l e. elim (eqb b 58) as (λ c. cond c (name_after [] (b ∷ bs)) others ≡ Some (t, rest) → Found (b ∷ bs) t rest) [
             | true ↦ λ e. let n = name_found [] (b ∷ bs) t rest tt e in record { front = n.front; cut = n.cut; is = n.is }
-            | false ↦ λ e. elim (eqb b 60) as (λ c. cond c (option_map iri_token (iri_at (b ∷ bs))) (option_map (sign_token bs) (sign_of b)) ≡ Some (t, rest) → Found (b ∷ bs) t rest) [
-              | true ↦ λ e.
-                  let x = map_some iri_token (iri_at (b ∷ bs)) (t, rest) e in
-                  let i = (read (b ∷ bs) x.0.0 x.0.1).0 x.1 in
-                  let iri-text : List ℕ = 60 ∷ (x.0.0 ++ 62 ∷ []) in
-                  let whole : b ∷ bs ≡ iri-text ++ x.0.1 = i.cut ∙ ap (λ (r : List ℕ). 60 ∷ r) (sym (append_assoc x.0.0 (62 ∷ []) x.0.1)) in
-                  record { front = iri-text; cut = whole ∙ ap (λ (r : List ℕ). iri-text ++ r) (ap (λ (x : Token × List ℕ). x.1) x.2); is = subst (λ t. IsToken iri-text t) (ap (λ (x : Token × List ℕ). x.0) x.2) (iri i.is) }
-              | false ↦ λ e.
-                  let x = map_some (sign_token bs) (sign_of b) (t, rest) e in
-                  record { front = sign_byte x.0 ∷ []; cut = ap (λ (y : ℕ). y ∷ bs) (sign_found b x.0 x.1) ∙ ap (λ (r : List ℕ). sign_byte x.0 ∷ r) (ap (λ (x : Token × List ℕ). x.1) x.2); is = subst (λ t. IsToken (sign_byte x.0 ∷ []) t) (ap (λ (x : Token × List ℕ). x.0) x.2) (sign x.0) }
-            ] e
+            | false ↦ λ e. elim (is_variable_mark b) as (λ m. is_variable_mark b ≡ m → cond m (variable_at bs) last ≡ Some (t, rest) → Found (b ∷ bs) t rest) [
+              | true ↦ λ m e. variable_found b bs t rest m e
+              | false ↦ λ m e. elim (eqb b 60) as (λ c. cond c (option_map iri_token (iri_at (b ∷ bs))) (option_map (sign_token bs) (sign_of b)) ≡ Some (t, rest) → Found (b ∷ bs) t rest) [
+                | true ↦ λ e.
+                    let x = map_some iri_token (iri_at (b ∷ bs)) (t, rest) e in
+                    let i = (read (b ∷ bs) x.0.0 x.0.1).0 x.1 in
+                    let iri-text : List ℕ = 60 ∷ (x.0.0 ++ 62 ∷ []) in
+                    let whole : b ∷ bs ≡ iri-text ++ x.0.1 = i.cut ∙ ap (λ (r : List ℕ). 60 ∷ r) (sym (append_assoc x.0.0 (62 ∷ []) x.0.1)) in
+                    record { front = iri-text; cut = whole ∙ ap (λ (r : List ℕ). iri-text ++ r) (ap (λ (x : Token × List ℕ). x.1) x.2); is = subst (λ t. IsToken iri-text t) (ap (λ (x : Token × List ℕ). x.0) x.2) (iri i.is) }
+                | false ↦ λ e.
+                    let x = map_some (sign_token bs) (sign_of b) (t, rest) e in
+                    record { front = sign_byte x.0 ∷ []; cut = ap (λ (y : ℕ). y ∷ bs) (sign_found b x.0 x.1) ∙ ap (λ (r : List ℕ). sign_byte x.0 ∷ r) (ap (λ (x : Token × List ℕ). x.1) x.2); is = subst (λ t. IsToken (sign_byte x.0 ∷ []) t) (ap (λ (x : Token × List ℕ). x.0) x.2) (sign x.0) }
+              ] e
+            ] refl e
           ] e
         ] refl e
 
     reached : {f : List ℕ} {u : Token} (r : List ℕ) → IsToken f u → Reached f r u
     reached r (iri {i} is) = iri_reached i r (iri is) ((read (60 ∷ (i ++ 62 ∷ r)) i r).1 (record { cut = refl; is = is }))
     reached r (name {p} {l} prefix local) = name_reached p l r prefix local (token_name p l r prefix)
+    reached r (variable {m} {v} mark is) = variable_reached m v r mark is
     reached r (word {w} is) = word_reached w r is
     reached r (sign s) = sign_reached s r
 

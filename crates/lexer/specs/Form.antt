@@ -31,5 +31,6 @@ pub data IsToken : List ℕ → Token → Type 0 where
 abbrev pub HasParts : Token → Type 0
 HasParts (token.Iri i) = IsIri i
 HasParts (token.Name p l) = IsLocal l
+HasParts (token.Variable v) = Unit {0}
 HasParts (token.Word w) = Unit {0}
 HasParts (token.Sign s) = Unit {0}

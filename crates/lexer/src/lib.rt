@@ -1,4 +1,4 @@
-//! The tokens of a request: IRIs, prefixed names, words and signs, as slices of its text.
+//! The tokens of a request: IRIs, prefixed names, variables, words and signs, as slices of its text.
 //!
 //! Stands on `iris`. Used above: `tokens` gives the one list of tokens that the text is cut into, or there is none.
 #![tactic(auto)]

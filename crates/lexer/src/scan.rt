@@ -3,9 +3,9 @@ ghost use Rattle.std.specs.Prelude.{◌≡◌, ◌≤◌, ◌∷◌, length, Mat
 ghost use Rattle.std.specs.List.{prefix_len};
 ghost use Rattle.iris.specs.Iri.{is_letter};
 ghost use Rattle.iris.specs.Runs.{run_of, rest_of};
-ghost use Rattle.lexer.specs.Names.{is_name_byte, is_local_start};
+ghost use Rattle.lexer.specs.Names.{is_name_byte, is_local_start, is_variable_start, is_variable_byte};
 ghost use Rattle.lexer.specs.Cut.{is_inner, is_space};
-ghost use Rattle.lexer.specs.Reading.{skip_from, local_at, name_after, name_or_word, sign_of, token_at};
+ghost use Rattle.lexer.specs.Reading.{skip_from, local_at, name_after, name_or_word, variable_at, sign_of, token_at};
 
 use crate::pieces::{IriText, LocalPart, Piece};
 use crate::token::{Sign, Token};
@@ -48,6 +48,28 @@ fn cut_word(text: &[u8]) -> (&[u8], &[u8])
 {
     run_by_length();
     text.split_at(letter_len(text))
+}
+
+fn is_variable_byte(b: u8) -> bool
+    ensures { result ≡ is_variable_byte b }
+{
+    b.is_ascii_alphanumeric() || b == b'_'
+}
+
+fn variable_len(text: &[u8]) -> usize
+    ensures within { result ≤ length text.now }
+    ensures run { result ≡ prefix_len is_variable_byte text.now }
+{
+    text.iter().take_while(|b| is_variable_byte(**b)).count()
+}
+
+/// The bytes of a variable at the front of a text, and the rest.
+fn cut_variable(text: &[u8]) -> (&[u8], &[u8])
+    ensures front { result.0.now ≡ run_of is_variable_byte text.now }
+    ensures rest { result.1.now ≡ rest_of is_variable_byte text.now }
+{
+    run_by_length();
+    text.split_at(variable_len(text))
 }
 
 /// What follows white space and comments.
@@ -104,6 +126,26 @@ fn name_after<'a>(prefix: &'a [u8], text: &'a [u8]) -> Option<(Token<'a>, &'a [u
     Some((name, rest))
 }
 
+fn is_variable_start(b: u8) -> bool
+    ensures { result ≡ is_variable_start b }
+{
+    b.is_ascii_alphabetic() || b == b'_'
+}
+
+/// The variable whose mark stands before a text, and what follows it.
+#[tactic(auto, unfolding(crate::specs::Reading::variable_at))]
+fn variable_at(text: &[u8]) -> Option<(Token<'_>, &[u8])>
+    ensures { MatchOption result (variable_at text.now ≡ None) (λ x. variable_at text.now ≡ Some (x.0, x.1.now)) }
+{
+    match text {
+        [first, ..] if is_variable_start(*first) => {
+            let (name, rest) = cut_variable(text);
+            Some((Token::Variable(Piece::new(name)), rest))
+        }
+        _ => None,
+    }
+}
+
 fn sign_of(b: u8) -> Option<Sign>
     ensures { result ≡ sign_of b }
 {
@@ -143,6 +185,7 @@ pub fn token_at(text: &[u8]) -> Option<(Token<'_>, &[u8])>
     match *first {
         b'A'..=b'Z' | b'a'..=b'z' => Some(name_or_word(text)),
         b':' => name_after(&[], text),
+        b'?' | b'$' => variable_at(after),
         b'<' => {
             let (iri, after) = front_iri(text)?;
             Some((Token::Iri(IriText::new(iri)), after))

@@ -1,9 +1,10 @@
 -- The names of a reading are IRIs: the tokens of a text have such parts, and each production keeps them.
-use Rattle.std.proofs.Common.{◌≡◌, ℕ, ◌<◌, Bool, true, false, cond, ltb, List, [], ◌∷◌, ◌++◌, map, Option, Some, None, refl}
+use Rattle.std.proofs.Common.{◌≡◌, ℕ, ◌<◌, Bool, true, false, cond, ltb, List, [], ◌∷◌, ◌++◌, map, Option, Some, None, refl, subst}
 use Rattle.std.specs.Prelude.{All, IfSome, bytes_eq}
 use Rattle.std.specs.Option.{option_map}
 use Rattle.std.specs.List.{flat_map, list_all, AllByRecursion}
 use Rattle.std.proofs.lemmas.Bool.{and_parts, ltb-true}
+use Rattle.std.proofs.lemmas.Option.{same_Some}
 use Rattle.std.proofs.lemmas.Str.{IsUtf8-from_ascii}
 use Rattle.std.proofs.lemmas.Str.Ascii.{IsAscii-from_all}
 use Rattle.std.proofs.lemmas.List.Elements.{All-from_recursion, recursion_from_All}
@@ -16,16 +17,17 @@ use Rattle.syntax_trees.specs.declared.tree.Node.{Node}
 use Rattle.syntax_trees.specs.declared.tree.Node.TheVariants as node
 use Rattle.syntax_trees.specs.declared.tree.Property.{Property}
 use Rattle.syntax_trees.specs.declared.tree.SameSubject.{SameSubject}
+use Rattle.syntax_trees.specs.declared.tree.Triple.{Triple}
 use Rattle.syntax_trees.specs.declared.tree.Operation.{Operation}
 use Rattle.syntax_trees.specs.declared.tree.Operation.TheVariants as operation
 use Rattle.syntax_trees.specs.declared.tree.Step.{Step}
 use Rattle.syntax_trees.specs.declared.tree.Step.TheVariants as step
 use Rattle.syntax_trees.specs.declared.tree.Syntax.{Syntax}
 use Rattle.grammar.specs.Many.{Many, last as last_item, next as next_item}
-use Rattle.grammar.specs.Reads.{ReadsName, iri, prefixed, ReadsVerb, name, type, ObjectLink, comma, no_comma, ReadsProperty, property, PropertyLink, semicolon, again, no_semicolon, ReadsSame, same, TripleLink, dot, last_dot, no_dot, ReadsBlock, empty, filled, ReadsOperation, insert_data, ReadsRequest, nothing, prefix, last, next, Reads}
+use Rattle.grammar.specs.Reads.{ReadsNode, variable, iri, prefixed, ReadsVerb, is_node, type, ObjectLink, comma, no_comma, ReadsProperty, property, PropertyLink, semicolon, again, no_semicolon, ReadsSame, same, TripleLink, dot, last_dot, no_dot, ReadsBlock, empty, filled, ReadsChange, delete, insert, both, only_object, only_property, only_triple, ReadsOperation, insert_data, delete_data, modify, ReadsRequest, nothing, prefix, last, next, Reads}
 use Rattle.rules.specs.declared.names.Declaration.{Declaration}
 use Rattle.rules.specs.Names.{later, namespace_of, rdf_type}
-use Rattle.rules.specs.Translation.{Triple, triples_of_property, triples_of_subject, triples_of}
+use Rattle.rules.specs.Translation.{triples_of_property, triples_of_subject, triples_of, operation_triples}
 use Rattle.rules.specs.Named.{IsNamed, AreNamed}
 
 -- ---- lists
@@ -52,6 +54,7 @@ abbrev HasForm : Node → Type 0
 HasForm (node.Iri i) = IsIri i
 HasForm (node.Prefixed p l) = IsLocal l
 HasForm node.Type = Unit {0}
+HasForm (node.Variable v) = Unit {0}
 
 abbrev PropertyForm : Property → Type 0
 PropertyForm p = HasForm p.verb × AllByRecursion HasForm p.objects
@@ -59,15 +62,17 @@ PropertyForm p = HasForm p.verb × AllByRecursion HasForm p.objects
 abbrev SameForm : SameSubject → Type 0
 SameForm x = HasForm x.subject × AllByRecursion PropertyForm x.properties
 
+abbrev TripleForm : Triple → Type 0
+TripleForm t = HasForm t.subject × HasForm t.verb × HasForm t.object
+
 abbrev OperationForm : Operation → Type 0
 OperationForm (operation.InsertData xs) = AllByRecursion SameForm xs
+OperationForm (operation.DeleteData xs) = AllByRecursion SameForm xs
+OperationForm (operation.Modify xs ys p) = AllByRecursion SameForm xs × AllByRecursion SameForm ys × TripleForm p
 
 abbrev StepForm : Step → Type 0
 StepForm (step.Declare p i) = IsIri i
 StepForm (step.Do x) = OperationForm x
-
-abbrev TripleForm : Triple → Type 0
-TripleForm t = HasForm t.subject × HasForm t.verb × HasForm t.object
 
 -- ---- productions
 
@@ -85,12 +90,13 @@ many_has P item link (next_item {ts} {r} {u} {s} {x} {xs} i l m) parts =
     let t = many_has P item link m (link r u true l h.1) in
     ((h.0, t.0), t.1)
 
-name_has : {ts r : List Token} {x : Node} → ReadsName ts x r → Parts ts → HasForm x × Parts r
-name_has iri parts = parts
-name_has prefixed parts = parts
+node_has : {ts r : List Token} {x : Node} → ReadsNode ts x r → Parts ts → HasForm x × Parts r
+node_has variable parts = parts
+node_has iri parts = parts
+node_has prefixed parts = parts
 
 verb_has : {ts r : List Token} {x : Node} → ReadsVerb ts x r → Parts ts → HasForm x × Parts r
-verb_has (name n) parts = name_has n parts
+verb_has (is_node n) parts = node_has n parts
 verb_has type parts = parts
 
 object_link_has : {ts r : List Token} {b : Bool} → ObjectLink ts b r → Parts ts → Parts r
@@ -100,7 +106,7 @@ object_link_has no_comma parts = parts
 property_has : {ts r : List Token} {x : Property} → ReadsProperty ts x r → Parts ts → PropertyForm x × Parts r
 property_has (property verb objects) parts =
     let v = verb_has verb parts in
-    let os = many_has HasForm (λ ts r x i p. name_has i p) (λ ts r b l p. object_link_has l p) objects v.1 in
+    let os = many_has HasForm (λ ts r x i p. node_has i p) (λ ts r b l p. object_link_has l p) objects v.1 in
     ((v.0, os.0), os.1)
 
 property_link_has : {ts r : List Token} {b : Bool} → PropertyLink ts b r → Parts ts → Parts r
@@ -110,7 +116,7 @@ property_link_has no_semicolon parts = parts
 
 same_has : {ts r : List Token} {x : SameSubject} → ReadsSame ts x r → Parts ts → SameForm x × Parts r
 same_has (same subject properties) parts =
-    let s = name_has subject parts in
+    let s = node_has subject parts in
     let ps = many_has PropertyForm (λ ts r x i p. property_has i p) (λ ts r b l p. property_link_has l p) properties s.1 in
     ((s.0, ps.0), ps.1)
 
@@ -123,8 +129,36 @@ block_has : {ts r : List Token} {xs : List SameSubject} → ReadsBlock ts xs r �
 block_has empty parts = (tt, parts.1.1)
 block_has (filled triples) parts = let xs = many_has SameForm (λ ts r x i p. same_has i p) (λ ts r b l p. triple_link_has l p) triples parts.1 in (xs.0, xs.1.1)
 
+change_has : {ts r : List Token} {xs ys : List SameSubject} → ReadsChange ts xs ys r → Parts ts → AllByRecursion SameForm xs × AllByRecursion SameForm ys × Parts r
+change_has (delete word block) parts = let b = block_has block parts.1 in (b.0, tt, b.1)
+change_has (insert word block) parts = let b = block_has block parts.1 in (tt, b.0, b.1)
+change_has (both word block insert_word more) parts =
+    let b = block_has block parts.1 in
+    let c = block_has more b.1.1 in
+    (b.0, c.0, c.1)
+
+object_form : (s v : Node) (xs : List Node) (p : Triple) → HasForm s → HasForm v → AllByRecursion HasForm xs → only_object s v xs ≡ Some p → TripleForm p
+object_form s v [] p s-form v-form forms e = absurd cc
+object_form s v (x ∷ y ∷ xs) p s-form v-form forms e = absurd cc
+object_form s v (x ∷ []) p s-form v-form forms e = subst TripleForm (same_Some (record { subject = s; verb = v; object = x }) p e) (s-form, v-form, forms.0)
+
+property_form : (s : Node) (qs : List Property) (p : Triple) → HasForm s → AllByRecursion PropertyForm qs → only_property s qs ≡ Some p → TripleForm p
+property_form s [] p s-form forms e = absurd cc
+property_form s (q ∷ r ∷ qs) p s-form forms e = absurd cc
+property_form s (q ∷ []) p s-form forms e = object_form s q.verb q.objects p s-form forms.0.0 forms.0.1 e
+
+triple_form : (xs : List SameSubject) (p : Triple) → AllByRecursion SameForm xs → only_triple xs ≡ Some p → TripleForm p
+triple_form [] p forms e = absurd cc
+triple_form (x ∷ y ∷ xs) p forms e = absurd cc
+triple_form (x ∷ []) p forms e = property_form x.subject x.properties p forms.0.0 forms.0.1 e
+
 operation_has : {ts r : List Token} {x : Operation} → ReadsOperation ts x r → Parts ts → OperationForm x × Parts r
-operation_has (insert_data insert data_word block) parts = block_has block parts.1.1
+operation_has (insert_data word data_word block) parts = block_has block parts.1.1
+operation_has (delete_data word data_word block) parts = block_has block parts.1.1
+operation_has (modify {zs = zs} {p = p} change word block only) parts =
+    let c = change_has change parts in
+    let z = block_has block c.2.1 in
+    ((c.0, c.1, triple_form zs p z.0 only), z.1)
 
 request_has : {ts : List Token} {steps : List Step} → ReadsRequest ts steps → Parts ts → AllByRecursion StepForm steps
 request_has nothing parts = tt
@@ -141,8 +175,14 @@ property_triples subject form p forms =
 subject_triples : (x : SameSubject) → SameForm x → AllByRecursion TripleForm (triples_of_subject x)
 subject_triples x forms = all_flat PropertyForm TripleForm (triples_of_property x.subject) (property_triples x.subject forms.0) x.properties forms.1
 
-operation_triples : (x : Operation) → OperationForm x → AllByRecursion TripleForm (triples_of x)
-operation_triples (operation.InsertData xs) forms = all_flat SameForm TripleForm triples_of_subject subject_triples xs forms
+subjects_triples : (xs : List SameSubject) → AllByRecursion SameForm xs → AllByRecursion TripleForm (triples_of xs)
+subjects_triples xs forms = all_flat SameForm TripleForm triples_of_subject subject_triples xs forms
+
+triples_form : (x : Operation) → OperationForm x → AllByRecursion TripleForm (operation_triples x)
+triples_form (operation.InsertData xs) forms = subjects_triples xs forms
+triples_form (operation.DeleteData xs) forms = subjects_triples xs forms
+triples_form (operation.Modify xs ys p) forms =
+    all_append TripleForm (triples_of xs ++ triples_of ys) (p ∷ []) (all_append TripleForm (triples_of xs) (triples_of ys) (subjects_triples xs forms.0) (subjects_triples ys forms.1)) (forms.2, tt)
 
 -- ---- names
 
@@ -177,6 +217,7 @@ module _ (iri_with_local : (iri local : List ℕ) → IsIri iri → IsLocal loca
   node_named ds all (node.Iri i) form = form
   node_named ds all (node.Prefixed p l) form = local_named (namespace_of ds p) l (namespace_named ds all p) form
   node_named ds all node.Type form = rdf_iri
+  node_named ds all (node.Variable v) form = tt
 
   steps_named : (ds : List Declaration) → AllByRecursion IsDeclared ds → (steps : List Step) → AllByRecursion StepForm steps → AreNamed ds steps
   steps_named ds all [] forms = tt
@@ -184,7 +225,7 @@ module _ (iri_with_local : (iri local : List ℕ) → IsIri iri → IsLocal loca
       let d : Declaration = record { prefix = p; iri = i } in
       steps_named (ds ++ d ∷ []) (all_append IsDeclared ds (d ∷ []) all (forms.0, tt)) steps forms.1
   steps_named ds all (step.Do x ∷ steps) forms = (
-    all_weaker TripleForm (λ t. IsNamed ds t.subject × IsNamed ds t.verb × IsNamed ds t.object) (λ t is. (node_named ds all t.subject is.0, node_named ds all t.verb is.1, node_named ds all t.object is.2)) (triples_of x) (operation_triples x forms.0),
+    all_weaker TripleForm (λ t. IsNamed ds t.subject × IsNamed ds t.verb × IsNamed ds t.object) (λ t is. (node_named ds all t.subject is.0, node_named ds all t.verb is.1, node_named ds all t.object is.2)) (operation_triples x) (triples_form x forms.0),
     steps_named ds all steps forms.1,
   )
 

@@ -1,17 +1,24 @@
 -- What a request is refused for, and its translation where it is refused for nothing.
-use Rattle.std.proofs.Common.{◌≡◌, ℕ, suc, ◌<◌, ◌^◌, Bool, true, false, ◌||◌, List, [], ◌∷◌, ◌++◌, length, map, Option, Some, None, Result, Ok, Err, refl, sym, ap, ◌∙◌, subst, arith, eqb, cond, inl, inr}
+use Rattle.std.proofs.Common.{◌≡◌, ℕ, ◌<◌, ◌^◌, Bool, true, false, ◌||◌, List, [], ◌∷◌, ◌++◌, length, map, Option, Some, None, Result, Ok, Err, refl, sym, ap, ◌∙◌, subst, arith, eqb, cond, inl, inr}
 use Rattle.std.proofs.lemmas.Bool.{cases_order}
-use Rattle.std.specs.Prelude.{nat_lt, IfOk, unwrap_or}
-use Rattle.std.specs.Option.{option_map}
+use Rattle.std.proofs.lemmas.Grind.{flat_map-append}
+use Rattle.std.proofs.lemmas.List.{append-nil}
+use Rattle.std.specs.Prelude.{nat_lt, IfOk, unwrap_or, ◌==◌}
 use Rattle.std.specs.List.{list_any, flat_map}
 use Rattle.std.specs.declared.alloc.AllocError.{AllocError}
 use Rattle.terms.specs.declared.term.Term.{Term}
 use Rattle.terms.specs.declared.term.Term.TheVariants as term
+use Rattle.meaning.specs.declared.update.Place.TheVariants as place
+use Rattle.meaning.specs.declared.update.Plan.TheVariants.{Empty, Triple as TriplePlan}
 use Rattle.meaning.specs.declared.update.Operation.{Operation}
 use Rattle.meaning.specs.declared.update.Operation.TheVariants as update
 use Rattle.meaning.specs.declared.reply.Refusal.{Refusal}
 use Rattle.meaning.specs.declared.reply.Refusal.TheVariants as refusal
 use Rattle.syntax_trees.specs.declared.tree.Node.{Node}
+use Rattle.syntax_trees.specs.declared.tree.Node.TheVariants as node
+use Rattle.syntax_trees.specs.declared.tree.Triple.{Triple}
+use Rattle.syntax_trees.specs.declared.tree.SameSubject.{SameSubject}
+use Rattle.syntax_trees.specs.declared.tree.Operation.{Operation as Written}
 use Rattle.syntax_trees.specs.declared.tree.Operation.TheVariants as written
 use Rattle.syntax_trees.specs.declared.tree.Step.{Step}
 use Rattle.syntax_trees.specs.declared.tree.Step.TheVariants as step
@@ -19,13 +26,13 @@ use Rattle.syntax_trees.specs.declared.tree.Syntax.{Syntax}
 use Rattle.grammar.specs.Reads.{Reads, IsParsed}
 use Rattle.rules.specs.declared.names.Declaration.{Declaration}
 use Rattle.rules.specs.Names.{iri_of}
-use Rattle.rules.specs.Translation.{Triple, triples_of, quad_of, term_of, translated_after, translated}
-use Rattle.rules.specs.Refusal.{place_of, iri_faults, node_faults, triple_faults, name_faults, is_prefix, has_fault, Holds, no_reading, fault, IsRefusal, IsChecked, IsVerdict, IsAccepted}
-use Rattle.rules.specs.Reading.{term_at, quads_from, quads_at, operations_after}
+use Rattle.rules.specs.Translation.{triples_of, operation_triples, variables_of, place_of as node_place, slot_of, quad_of, pattern_of, operation_of, translated_after, translated}
+use Rattle.rules.specs.Refusal.{place_of, iri_faults, node_faults, triple_faults, is_data, faults_after, has_kind, has_fault, Holds, no_reading, fault, IsRefusal, IsChecked, IsVerdict, IsAccepted}
+use Rattle.rules.specs.Reading.{place_from, place_at, slot_from, quads_from, quads_at, plan_from, plan_at, operation_at, operations_after}
 
 -- no name is refused for its prefix
 abbrev IsFree : List Refusal → Type 0
-IsFree faults = list_any is_prefix faults ≡ false
+IsFree faults = has_kind refusal.Prefix faults ≡ false
 
 or_false : (a b : Bool) → (a || b) ≡ false → (a ≡ false) × (b ≡ false)
 or_false true b e = absurd cc
@@ -39,74 +46,123 @@ any_apart p (x ∷ xs) ys e =
     (ap (λ b. b || list_any p xs) h.0 ∙ t.0, t.1)
 
 apart : (xs ys : List Refusal) → IsFree (xs ++ ys) → IsFree xs × IsFree ys
-apart xs ys free = any_apart is_prefix xs ys free
+apart xs ys free = any_apart (λ f. place_of f == place_of refusal.Prefix) xs ys free
 
--- ---- terms and quads
+-- ---- nodes, quads and patterns
 
-iri_made : (o : Option (List ℕ)) → IsFree (iri_faults o) → option_map term.Iri o ≡ Some (term.Iri (unwrap_or o []))
+iri_made : (o : Option (List ℕ)) → IsFree (iri_faults o) → place_from o ≡ Some (place.Term (term.Iri (unwrap_or o [])))
 iri_made None free = absurd cc
 iri_made (Some iri) free = refl
 
-term_made : (ds : List Declaration) (n : Node) → IsFree (node_faults ds n) → term_at ds n ≡ Some (term_of ds n)
-term_made ds n free = iri_made (iri_of ds n) free
+place_made : (d : Bool) (ds : List Declaration) (vs : List (List ℕ)) (n : Node) → IsFree (node_faults d ds n) → place_at ds vs n ≡ Some (node_place ds vs n)
+place_made d ds vs (node.Variable v) free = refl
+place_made d ds vs (node.Iri i) free = iri_made (iri_of ds (node.Iri i)) free
+place_made d ds vs (node.Prefixed p l) free = iri_made (iri_of ds (node.Prefixed p l)) free
+place_made d ds vs node.Type free = iri_made (iri_of ds node.Type) free
 
-quad_made : (ds : List Declaration) (t : Triple) → IsFree (triple_faults ds t) → quads_at ds t ≡ quad_of ds t ∷ []
-quad_made ds t free =
-    let o = apart (node_faults ds t.subject ++ node_faults ds t.verb) (node_faults ds t.object) free in
-    let s = apart (node_faults ds t.subject) (node_faults ds t.verb) o.0 in
-    λ i. quads_from (term_made ds t.subject s.0 i) (term_made ds t.verb s.1 i) (term_made ds t.object o.1 i)
+slot_made : (ds : List Declaration) (vs : List (List ℕ)) (n : Node) → slot_from (node_place ds vs n) ≡ slot_of ds vs n
+slot_made ds vs (node.Variable v) = refl
+slot_made ds vs (node.Iri i) = refl
+slot_made ds vs (node.Prefixed p l) = refl
+slot_made ds vs node.Type = refl
 
-quads_made : (ds : List Declaration) (ts : List Triple) → IsFree (flat_map (triple_faults ds) ts) → flat_map (quads_at ds) ts ≡ map (quad_of ds) ts
-quads_made ds [] free = refl
-quads_made ds (t ∷ ts) free =
-    let a = apart (triple_faults ds t) (flat_map (triple_faults ds) ts) free in
-    λ i. quad_made ds t a.0 i ++ quads_made ds ts a.1 i
+-- the three parts of a triple
+parts_made : (d : Bool) (ds : List Declaration) (vs : List (List ℕ)) (t : Triple) → IsFree (triple_faults d ds t)
+    → (place_at ds vs t.subject ≡ Some (node_place ds vs t.subject)) × (place_at ds vs t.verb ≡ Some (node_place ds vs t.verb)) × (place_at ds vs t.object ≡ Some (node_place ds vs t.object))
+parts_made d ds vs t free =
+    let o = apart (node_faults d ds t.subject ++ node_faults d ds t.verb) (node_faults d ds t.object) free in
+    let s = apart (node_faults d ds t.subject) (node_faults d ds t.verb) o.0 in
+    (place_made d ds vs t.subject s.0, place_made d ds vs t.verb s.1, place_made d ds vs t.object o.1)
+
+quad_made : (d : Bool) (ds : List Declaration) (vs : List (List ℕ)) (t : Triple) → IsFree (triple_faults d ds t) → quads_at ds vs t ≡ quad_of ds vs t ∷ []
+quad_made d ds vs t free =
+    let h = parts_made d ds vs t free in
+    (λ i. quads_from (h.0 i) (h.1 i) (h.2 i))
+    ∙ (λ i. record { subject = slot_made ds vs t.subject i; predicate = slot_made ds vs t.verb i; object = slot_made ds vs t.object i; graph = None } ∷ [])
+
+plan_made : (d : Bool) (ds : List Declaration) (vs : List (List ℕ)) (t : Triple) → IsFree (triple_faults d ds t) → plan_at ds vs t ≡ TriplePlan (pattern_of ds vs t)
+plan_made d ds vs t free = let h = parts_made d ds vs t free in λ i. plan_from (h.0 i) (h.1 i) (h.2 i)
+
+quads_made : (d : Bool) (ds : List Declaration) (vs : List (List ℕ)) (ts : List Triple) → IsFree (flat_map (triple_faults d ds) ts) → flat_map (quads_at ds vs) ts ≡ map (quad_of ds vs) ts
+quads_made d ds vs [] free = refl
+quads_made d ds vs (t ∷ ts) free =
+    let a = apart (triple_faults d ds t) (flat_map (triple_faults d ds) ts) free in
+    λ i. quad_made d ds vs t a.0 i ++ quads_made d ds vs ts a.1 i
 
 -- ---- operations
 
-operations_made : (ds : List Declaration) (steps : List Step) → IsFree (name_faults ds steps) → operations_after ds steps ≡ translated_after ds steps
+-- what the triples of templates and a pattern give, in their order
+pub spread_parts : {A : Type 0} (f : Triple → List A) (xs ys : List Triple) (p : Triple) → flat_map f (xs ++ ys ++ p ∷ []) ≡ (flat_map f xs ++ flat_map f ys) ++ f p
+spread_parts f xs ys p =
+    flat_map-append f (xs ++ ys) (p ∷ []) ∙ ap (λ (r : List _). r ++ (f p ++ [])) (flat_map-append f xs ys) ∙ ap (λ (r : List _). (flat_map f xs ++ flat_map f ys) ++ r) (append-nil (f p))
+
+modify_made : (ds : List Declaration) (xs ys : List SameSubject) (p : Triple) → IsFree (flat_map (triple_faults false ds) (triples_of xs ++ triples_of ys ++ p ∷ []))
+    → operation_at ds (written.Modify xs ys p) ≡ operation_of ds (written.Modify xs ys p)
+modify_made ds xs ys p free =
+    let vs = variables_of p in
+    let f : Triple → List Refusal = triple_faults false ds in
+    let whole = subst IsFree (spread_parts f (triples_of xs) (triples_of ys) p) free in
+    let b = apart (flat_map f (triples_of xs) ++ flat_map f (triples_of ys)) (f p) whole in
+    let c = apart (flat_map f (triples_of xs)) (flat_map f (triples_of ys)) b.0 in
+    λ i. update.Modify (record {
+      width = length vs;
+      pattern = plan_made false ds vs p b.1 i;
+      delete = quads_made false ds vs (triples_of xs) c.0 i;
+      insert = quads_made false ds vs (triples_of ys) c.1 i;
+    })
+
+operation_made : (ds : List Declaration) (x : Written) → IsFree (flat_map (triple_faults (is_data x) ds) (operation_triples x)) → operation_at ds x ≡ operation_of ds x
+operation_made ds (written.InsertData xs) free = λ i. update.Modify (record { width = 0; pattern = Empty; delete = []; insert = quads_made true ds [] (triples_of xs) free i })
+operation_made ds (written.DeleteData xs) free = λ i. update.Modify (record { width = 0; pattern = Empty; delete = quads_made true ds [] (triples_of xs) free i; insert = [] })
+operation_made ds (written.Modify xs ys p) free = modify_made ds xs ys p free
+
+operations_made : (ds : List Declaration) (steps : List Step) → IsFree (faults_after ds steps) → operations_after ds steps ≡ translated_after ds steps
 operations_made ds [] free = refl
 operations_made ds (step.Declare p i ∷ steps) free = operations_made (ds ++ record { prefix = p; iri = i } ∷ []) steps free
-operations_made ds (step.Do (written.InsertData xs) ∷ steps) free =
-    let a = apart (flat_map (triple_faults ds) (triples_of (written.InsertData xs))) (name_faults ds steps) free in
-    λ i. update.InsertData (quads_made ds (triples_of (written.InsertData xs)) a.0 i) ∷ operations_made ds steps a.1 i
+operations_made ds (step.Do x ∷ steps) free =
+    let a = apart (flat_map (triple_faults (is_data x) ds) (operation_triples x)) (faults_after ds steps) free in
+    λ i. operation_made ds x a.0 i ∷ operations_made ds steps a.1 i
 
-operation_count : (ds : List Declaration) (steps : List Step) → length (operations_after ds steps) ≡ length (translated_after ds steps)
-operation_count ds [] = refl
-operation_count ds (step.Declare p i ∷ steps) = operation_count (ds ++ record { prefix = p; iri = i } ∷ []) steps
-operation_count ds (step.Do (written.InsertData xs) ∷ steps) = ap suc (operation_count ds steps)
-
-over_same : (s : Syntax) (operations : List (Operation Term)) → operations ≡ operations_after [] s.steps → (b : Bool) → (nat_lt (2 ^ 20) s.length || nat_lt 256 (length operations)) ≡ b → has_fault refusal.Limit s ≡ b
-over_same s operations is b over = ap (λ n. nat_lt (2 ^ 20) s.length || nat_lt 256 n) (sym (ap length is ∙ operation_count [] s.steps)) ∙ over
+over_same : (s : Syntax) (operations : List (Operation Term)) → operations ≡ translated s.steps → (b : Bool) → (nat_lt (2 ^ 20) s.length || nat_lt 256 (length operations)) ≡ b → has_fault refusal.Limit s ≡ b
+over_same s operations is b over = ap (λ n. nat_lt (2 ^ 20) s.length || nat_lt 256 n) (sym (ap length is)) ∙ over
 
 -- ---- the verdict
 
-below_limit : (s : Syntax) → list_any is_prefix (name_faults [] s.steps) ≡ false → (j : Refusal) → place_of j < 5 → has_fault j s ≡ false
-below_limit s no_prefix refusal.Syntax lt = refl
-below_limit s no_prefix refusal.Prefix lt = no_prefix
-below_limit s no_prefix refusal.VariableInData lt = refl
-below_limit s no_prefix refusal.BlankInDelete lt = refl
-below_limit s no_prefix refusal.LabelReused lt = refl
-below_limit s no_prefix refusal.Limit lt = absurd (omega arith)
+below_limit : (s : Syntax) → has_fault refusal.Prefix s ≡ false → has_fault refusal.VariableInData s ≡ false → (j : Refusal) → place_of j < 5 → has_fault j s ≡ false
+below_limit s no_prefix no_variable refusal.Syntax lt = refl
+below_limit s no_prefix no_variable refusal.Prefix lt = no_prefix
+below_limit s no_prefix no_variable refusal.VariableInData lt = no_variable
+below_limit s no_prefix no_variable refusal.BlankInDelete lt = refl
+below_limit s no_prefix no_variable refusal.LabelReused lt = refl
+below_limit s no_prefix no_variable refusal.Limit lt = absurd (omega arith)
 
 no_fault : (s : Syntax) → ((j : Refusal) → place_of j < 5 → has_fault j s ≡ false) → has_fault refusal.Limit s ≡ false → (k : Refusal) → has_fault k s ≡ false
 no_fault s below limit refusal.Syntax = refl
 no_fault s below limit refusal.Prefix = below refusal.Prefix (omega arith)
-no_fault s below limit refusal.VariableInData = refl
+no_fault s below limit refusal.VariableInData = below refusal.VariableInData (omega arith)
 no_fault s below limit refusal.BlankInDelete = refl
 no_fault s below limit refusal.LabelReused = refl
 no_fault s below limit refusal.Limit = limit
 
-pub is_limit : (s : Syntax) (operations : List (Operation Term)) → operations ≡ operations_after [] s.steps → list_any is_prefix (name_faults [] s.steps) ≡ false
-    → (nat_lt (2 ^ 20) s.length || nat_lt 256 (length operations)) ≡ true → IsVerdict s (Err refusal.Limit)
-is_limit s operations is no_prefix over = (over_same s operations is true over, below_limit s no_prefix)
+pub is_variable : (s : Syntax) → has_fault refusal.Prefix s ≡ false → has_fault refusal.VariableInData s ≡ true → IsVerdict s (Err refusal.VariableInData)
+is_variable s no_prefix variable = (variable, below) where
+  below : (j : Refusal) → place_of j < 2 → has_fault j s ≡ false
+  below refusal.Syntax lt = refl
+  below refusal.Prefix lt = no_prefix
+  below refusal.VariableInData lt = absurd (omega arith)
+  below refusal.BlankInDelete lt = absurd (omega arith)
+  below refusal.LabelReused lt = absurd (omega arith)
+  below refusal.Limit lt = absurd (omega arith)
 
-pub is_accepted : (s : Syntax) (operations : List (Operation Term)) → operations ≡ operations_after [] s.steps → list_any is_prefix (name_faults [] s.steps) ≡ false
+pub is_limit : (s : Syntax) (operations : List (Operation Term)) → operations ≡ operations_after [] s.steps → has_fault refusal.Prefix s ≡ false → has_fault refusal.VariableInData s ≡ false
+    → (nat_lt (2 ^ 20) s.length || nat_lt 256 (length operations)) ≡ true → IsVerdict s (Err refusal.Limit)
+is_limit s operations is no_prefix no_variable over = (over_same s operations (is ∙ operations_made [] s.steps no_prefix) true over, below_limit s no_prefix no_variable)
+
+pub is_accepted : (s : Syntax) (operations : List (Operation Term)) → operations ≡ operations_after [] s.steps → has_fault refusal.Prefix s ≡ false → has_fault refusal.VariableInData s ≡ false
     → (nat_lt (2 ^ 20) s.length || nat_lt 256 (length operations)) ≡ false → IsVerdict s (Ok operations)
-is_accepted s operations is no_prefix over = (
-  no_fault s (below_limit s no_prefix) (over_same s operations is false over),
-  is ∙ operations_made [] s.steps no_prefix,
-)
+is_accepted s operations is no_prefix no_variable over =
+    let made = is ∙ operations_made [] s.steps no_prefix in
+    (no_fault s (below_limit s no_prefix no_variable) (over_same s operations made false over), made)
 
 -- ---- of a text
 

@@ -1,10 +1,10 @@
 //! Blocks of requests.
 ghost use Rattle.std.specs.Prelude.{◌≡◌, ◌++◌, IfOk, OnOk, length};
 ghost use Rattle.std.specs.List.{flat_map};
-ghost use Rattle.rules.specs.Terms.{terms_of_slot, terms_of_graph, terms_of_quad, terms_of_operation, terms_of_request, terms_of};
+ghost use Rattle.rules.specs.Terms.{terms_of_slot, terms_of_graph, terms_of_quad, terms_of_place, terms_of_pattern, terms_of_plan, terms_of_operation, terms_of_request, terms_of};
 
 use crate::request::Checked;
-use meaning::{Operation, QuadTemplate, Slot};
+use meaning::{Operation, Place, Plan, QuadTemplate, Slot, TriplePattern};
 use sets::Items;
 use std::alloc::{AllocError, Global};
 use std::marker::Model;
@@ -107,6 +107,36 @@ fn add_quads(
     Ok(())
 }
 
+fn add_place(alloc: Global, found: &mut Vec<Term>, place: &Place<Term>) -> Result<(), AllocError>
+    ensures { OnOk result (found.new.items ≡ found.old.items ++ terms_of_place place.now) }
+{
+    if let Place::Term(term) = place {
+        found.push(term.copied(alloc)?)?;
+    }
+    Ok(())
+}
+
+fn add_pattern(
+    alloc: Global,
+    found: &mut Vec<Term>,
+    pattern: &TriplePattern<Term>,
+) -> Result<(), AllocError>
+    ensures { OnOk result (found.new.items ≡ found.old.items ++ terms_of_pattern pattern.now) }
+{
+    add_place(alloc, found, &pattern.subject)?;
+    add_place(alloc, found, &pattern.predicate)?;
+    add_place(alloc, found, &pattern.object)
+}
+
+fn add_plan(alloc: Global, found: &mut Vec<Term>, plan: &Plan<Term>) -> Result<(), AllocError>
+    ensures { OnOk result (found.new.items ≡ found.old.items ++ terms_of_plan plan.now) }
+{
+    match plan {
+        Plan::Empty => Ok(()),
+        Plan::Triple(pattern) => add_pattern(alloc, found, pattern),
+    }
+}
+
 fn add_operation(
     alloc: Global,
     found: &mut Vec<Term>,
@@ -114,8 +144,10 @@ fn add_operation(
 ) -> Result<(), AllocError>
     ensures { OnOk result (found.new.items ≡ found.old.items ++ terms_of_operation operation.now) }
 {
-    let Operation::InsertData(quads) = operation;
-    add_quads(alloc, found, quads.as_slice())
+    let Operation::Modify(modify) = operation;
+    add_plan(alloc, found, &modify.pattern)?;
+    add_quads(alloc, found, modify.delete.as_slice())?;
+    add_quads(alloc, found, modify.insert.as_slice())
 }
 
 fn add_operations(

@@ -11,6 +11,7 @@ mod names;
 mod request;
 mod splitting;
 mod translation;
+mod variables;
 
 pub use block::Block;
 pub use fault::BlockFault;

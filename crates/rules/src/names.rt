@@ -18,7 +18,8 @@ pub struct Declaration<'a> {
 
 const RDF_TYPE: &[u8] = b"http://www.w3.org/1999/02/22-rdf-syntax-ns#type";
 
-fn is_same(text: &[u8], other: &[u8]) -> bool
+/// Whether two texts are one.
+pub fn is_same(text: &[u8], other: &[u8]) -> bool
     ensures { result ≡ bytes_eq text.now other.now }
 {
     text == other
@@ -63,7 +64,7 @@ fn joined(
     iri_from(alloc, text.as_slice())
 }
 
-/// The IRI that a node names, if its prefix is declared.
+/// The IRI that a node names, if it is a name and its prefix is declared.
 pub fn iri_of(
     alloc: Global,
     declared: &[Declaration<'_>],
@@ -78,5 +79,6 @@ pub fn iri_of(
             None => Ok(None),
         },
         Node::Type => iri_from(alloc, RDF_TYPE),
+        Node::Variable(_) => Ok(None),
     }
 }

@@ -1,7 +1,6 @@
 //! Requests and their refusals.
 ghost use Rattle.std.specs.Prelude.{◌≡◌, ◌^◌, ◌||◌, nat_lt, IfOk};
-ghost use Rattle.std.specs.List.{list_any};
-ghost use Rattle.rules.specs.Refusal.{is_prefix, IsVerdict, IsChecked};
+ghost use Rattle.rules.specs.Refusal.{place_of, has_kind, IsVerdict, IsChecked};
 
 use crate::translation::translate;
 use grammar::parse;
@@ -23,16 +22,26 @@ const MOST_BYTES: usize = 1 << 20;
 /// How many operations a request has at most.
 const MOST_OPERATIONS: usize = 256;
 
-fn is_prefix(fault: Refusal) -> bool
-    ensures { result ≡ is_prefix fault }
+/// The place of a kind of refusal among them all.
+fn place_of(kind: Refusal) -> u8
+    ensures { result ≡ place_of kind }
 {
-    matches!(fault, Refusal::Prefix)
+    match kind {
+        Refusal::Syntax => 0,
+        Refusal::Prefix => 1,
+        Refusal::VariableInData => 2,
+        Refusal::BlankInDelete => 3,
+        Refusal::LabelReused => 4,
+        Refusal::Limit => 5,
+    }
 }
 
-fn has_prefix(faults: &[Refusal]) -> bool
-    ensures { result ≡ list_any is_prefix faults.now }
+fn has_kind(kind: Refusal, faults: &[Refusal]) -> bool
+    ensures { result ≡ has_kind kind faults.now }
 {
-    faults.iter().any(|fault| is_prefix(*fault))
+    faults
+        .iter()
+        .any(|fault| place_of(*fault) == place_of(kind))
 }
 
 /// Whether a request has too many bytes or too many operations.
@@ -42,14 +51,17 @@ fn is_over(bytes: usize, operations: usize) -> bool
     bytes > MOST_BYTES || operations > MOST_OPERATIONS
 }
 
-/// The request that a reading is (SPARQL 1.1 Update, 19.8, and the limits of this program): its refusal is the first of `Prefix`
-/// and `Limit` that holds anywhere in it. An error comes only where a growth was refused.
+/// The request that a reading is (SPARQL 1.1 Update, 19.8, and the limits of this program): its refusal is the first of `Prefix`,
+/// `VariableInData` and `Limit` that holds anywhere in it. An error comes only where a growth was refused.
 pub fn check(alloc: Global, syntax: Syntax<'_>) -> Result<Checked, AllocError>
     ensures { IfOk result (IsVerdict syntax.entry) }
 {
     let translation = translate(alloc, syntax.steps.as_slice())?;
-    if has_prefix(translation.faults.as_slice()) {
+    if has_kind(Refusal::Prefix, translation.faults.as_slice()) {
         return Ok(Err(Refusal::Prefix));
+    }
+    if has_kind(Refusal::VariableInData, translation.faults.as_slice()) {
+        return Ok(Err(Refusal::VariableInData));
     }
     if is_over(syntax.length, translation.operations.len()) {
         return Ok(Err(Refusal::Limit));

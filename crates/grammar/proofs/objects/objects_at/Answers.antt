@@ -1,5 +1,5 @@
 use Rattle.std.proofs.Common.{sym, ap, ◌∙◌}
-use Rattle.grammar.specs.Reading.{name_at, object_link, objects_at}
+use Rattle.grammar.specs.Reading.{node_at, object_link, objects_at}
 use Rattle.grammar.specs.Many.{many}
 use Rattle.grammar.proofs.ManyLaws.{no_front, so_far, many_step, step_smaller}
 use Rattle.grammar.proofs.Instances.{objects_consume}
@@ -7,13 +7,13 @@ use Rattle.grammar.proofs.objects.objects_at.Goals as goal
 
 pub loop-goes_on-init : goal.loop-goes_on-init
 unfolding objects_at
-loop-goes_on-init c = rw c.new-found.ensures (no_front name_at object_link (many name_at object_link c.args.tokens.now))
+loop-goes_on-init c = rw c.new-found.ensures (no_front node_at object_link (many node_at object_link c.args.tokens.now))
 
 pub loop-goes_on-smaller : goal.loop-goes_on-smaller
-loop-goes_on-smaller c = rw c.kept-rest.ensures (step_smaller name_at object_link objects_consume _ _ _ (c.object_link-next.result.0, c.object_link-next.result.1.now) c.in_ok-name.ensures c.object_link-next.ensures)
+loop-goes_on-smaller c = rw c.kept-rest.ensures (step_smaller node_at object_link objects_consume _ _ _ (c.object_link-next.result.0, c.object_link-next.result.1.now) c.in_ok-node.ensures c.object_link-next.ensures)
 
 pub loop-goes_on-preserved : goal.loop-goes_on-preserved
 loop-goes_on-preserved c =
     rw (c.in_ok-push.ensures.ok, c.kept-rest.ensures)
-    (many_step name_at object_link objects_consume c.loop-goes_on.found _ _ _ (c.object_link-next.result.0, c.object_link-next.result.1.now) c.in_ok-name.ensures c.object_link-next.ensures
-    ∙ ap (λ b. so_far name_at object_link b c.loop-goes_on.found c.loop-goes_on.rest.now) (sym c.loop-goes_on-test.true) ∙ c.loop-goes_on.invariant)
+    (many_step node_at object_link objects_consume c.loop-goes_on.found _ _ _ (c.object_link-next.result.0, c.object_link-next.result.1.now) c.in_ok-node.ensures c.object_link-next.ensures
+    ∙ ap (λ b. so_far node_at object_link b c.loop-goes_on.found c.loop-goes_on.rest.now) (sym c.loop-goes_on-test.true) ∙ c.loop-goes_on.invariant)
