@@ -12,6 +12,8 @@ mod modify;
 mod operations;
 mod presence;
 mod template;
+#[cfg(test)]
+mod tests;
 
 pub use execution::{Execution, execute};
 pub use presence::scan_for;
