@@ -11,7 +11,7 @@ use crate::lists::{
     copied_names, copied_quads, has_name, has_names, names_union, names_without, quads_union,
     quads_without,
 };
-use crate::matching::{is_any_matching, matching};
+use quad_index::matching::{is_any_matching, matching};
 use crate::same::{same_names, same_quads};
 use crate::view::View;
 use datasets::{Id, Quad, QuadPattern, Read};
