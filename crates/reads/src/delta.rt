@@ -164,6 +164,28 @@ impl Delta {
         Ok(View { quads, names })
     }
 
+    /// This change and then a later one, as one change. What the later one speaks of is as it says.
+    pub fn followed_by(self, alloc: Global, later: &Delta) -> Result<Delta, AllocError>
+        ensures { IfOk result (λ both. (d : Dataset) → applied both d ≡ applied later.now (applied self d)) }
+    {
+        let Delta {
+            present,
+            absent,
+            there,
+            gone,
+        } = self;
+        let more_present = copied_quads(alloc, &later.present)?;
+        let more_absent = copied_quads(alloc, &later.absent)?;
+        let more_there = copied_names(alloc, &later.there)?;
+        let more_gone = copied_names(alloc, &later.gone)?;
+        Ok(Delta {
+            present: quads_union(quads_without(present, &later.absent), more_present)?,
+            absent: quads_union(absent, more_absent)?,
+            there: names_union(names_without(there, &later.gone), more_there)?,
+            gone: names_union(gone, more_gone)?,
+        })
+    }
+
     /// The same change again.
     pub fn copied(&self, alloc: Global) -> Result<Self, AllocError>
         ensures { IfOk result (λ copy. copy ≡ self.now) }
