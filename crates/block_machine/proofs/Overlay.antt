@@ -1,11 +1,12 @@
 -- What a read says of the view of a request, without the whole view.
-use Rattle.std.proofs.Common.{◌≡◌, ℕ, zero, suc, false, List, ap, sym, ◌∙◌}
+use Rattle.std.proofs.Common.{◌≡◌, ℕ, zero, suc, ◌<◌, false, List, length, slice_index_or, ap, sym, ◌∙◌}
+use Rattle.std.proofs.lemmas.List.{get_or_default}
 use Rattle.datasets.specs.Id.{id_order, id_total, id_exact}
 use Rattle.change_laws.specs.Laws.{IsRising}
 use Rattle.change_laws.proofs.ChangeLaws.{uncovered_keeps, same_after, rises_after}
 use Rattle.reads.specs.Reads.{View, Delta, Read, says, applied, covers}
 use Rattle.block_machine.specs.declared.state.Slot.{Slot}
-use Rattle.block_machine.specs.Machine.{slot_at, view_at}
+use Rattle.block_machine.specs.Machine.{fresh_slot, slot_at, view_at}
 
 -- THE LAWS OF CHANGES, AT NUMBERS OF TERMS
 
@@ -41,3 +42,18 @@ module _ (base : View) (slots : List Slot) where
     unfolding view_at
     next_uncovered rising e =
         alike ∙ sym (uncovered c (view_at base slots j) r (view_rises rising j) e) ∙ ap (λ d. says r (applied d (view_at base slots j))) is
+
+-- a delta takes its request's view to the next one's
+pub changes_one : (slots : List Slot) (low high : ℕ) (x : Slot) (c : Delta) → low < length slots → c ≡ (slice_index_or slots low x).delta → high ≡ suc low → (base : View) → applied c (view_at base slots low) ≡ view_at base slots high
+unfolding view_at
+changes_one slots low high x c lt e f base =
+    let at = get_or_default slots low x fresh_slot lt in
+    (λ t. applied ((e ∙ ap (λ (y : Slot). y.delta) at) t) (view_at base slots low)) ∙ ap (view_at base slots) (sym f)
+
+pub view_at_start : (base : View) (slots : List Slot) (i : ℕ) (v : View) → v ≡ base → i ≡ 0 → v ≡ view_at base slots i
+unfolding view_at
+view_at_start base slots i v e f = e ∙ ap (view_at base slots) (sym f)
+
+pub view_after : (base : View) (slots : List Slot) (i : ℕ) (c : Delta) (v w : View) → w ≡ applied c v → v ≡ base → applied c (view_at base slots 0) ≡ view_at base slots i → w ≡ view_at base slots i
+unfolding view_at
+view_after base slots i c v w e f h = e ∙ ap (applied c) f ∙ h

@@ -5,6 +5,7 @@
 //! `laws::front_is_serial`, after any history the front is that of the requests one after another.
 #![tactic(auto)]
 
+pub mod candidates;
 pub mod incarnations;
 pub mod laws;
 pub mod machine;

@@ -1,14 +1,18 @@
 //! The machine: one method for each event.
-ghost use Rattle.std.specs.Prelude.{◌≡◌, ◌<◌, ◌≤◌, ◌+◌, ◌^◌, ◌↔◌, ℕ, length, map, IsTrue, IfOk, OnOk, OnErr, option_copied};
+ghost use Rattle.std.specs.Prelude.{◌≡◌, ◌<◌, ◌≤◌, ◌+◌, ◌^◌, ◌↔◌, ℕ, length, map, slice_get, Some, false, IsTrue, IfOk, OnOk, OnErr, option_copied};
 ghost use Rattle.reads.specs.Reads.{View as Base};
+ghost use Rattle.block_machine.specs.declared.state.Noted.{Noted as Described};
 ghost use Rattle.block_machine.specs.Serial.{replies_to};
-ghost use Rattle.block_machine.specs.Machine.{fresh, view_at, slot_at, note_now, note_of, can_commit, transcript_of, CheckVerdict, NextNamesAnswer, status_of, HasNext, IsReady, IsPlain, IsAllowed, after};
+ghost use Rattle.block_machine.specs.Lower.{Leads, stands_after};
+ghost use Rattle.block_machine.specs.Machine.{fresh, view_at, slot_at, note_now, note_of, can_commit, transcript_of, CheckVerdict, NextNamesAnswer, NoteVerdict, NoteReply, verdict_reply, status_of, is_closed as closed, HasNext, IsReady, IsPlain, IsAllowed, after};
 
-use crate::state::{Event, Noted, Reply, Slot, Status};
+use crate::state::{Event, Noted, Pass, Reply, Slot, Status};
 use crate::validate::{self, Verdict};
-use crate::version_overlay::{answer_before, blocker, is_stamped, touching, view_before};
-use crate::{incarnations, slot};
+use crate::candidates::candidates_for;
+use crate::version_overlay::{answer_before, blocker, touching, view_before};
+use crate::{candidates, incarnations, slot};
 use datasets::{Id, Read};
+use quad_index::Hints;
 use reads::same::same_reads;
 use reads::{Finished, Note, View};
 use std::alloc::{AllocError, Global};
@@ -20,6 +24,12 @@ pub struct Machine {
     slots: Vec<Slot>,
     clock: u64,
     front: usize,
+    // For each quad that a delta speaks of its request, and some more.
+    hints: Hints,
+    // Each request whose delta speaks of a graph name, and some more.
+    named: Vec<usize>,
+    // The last change of a committed request.
+    latest: u64,
 }
 
 impl Model for Machine {
@@ -27,7 +37,11 @@ impl Model for Machine {
 
     ghost Value = { State };
 
+    ghost use Rattle.block_machine.specs.Lower.{KeepsLower};
+
     ghost view = { λ m. record { slots = m.slots.items; clock = m.clock; front = m.front } };
+
+    ghost invariant = { λ m. KeepsLower m.slots.items m.front m.hints m.named.items m.latest };
 }
 
 impl Machine {
@@ -43,6 +57,9 @@ impl Machine {
             slots,
             clock: 0,
             front: 0,
+            hints: Hints::new(alloc),
+            named: Vec::new(alloc),
+            latest: 0,
         })
     }
 
@@ -149,10 +166,12 @@ impl Machine {
         if let Some(refusal) = incarnations::refused_execution(status, n, worker) {
             return Ok(twice(refusal));
         }
-        if let Some(j) = blocker(self.slots.as_slice(), i, read) {
+        let slots = self.slots.as_slice();
+        let list = candidates_for(alloc, &self.hints, &self.named, slots, i, read)?;
+        if let Some(j) = blocker(slots, &list, i, read) {
             return Ok((Reply::Blocked(j), Reply::Blocked(j)));
         }
-        let noted = noted(alloc, base, self.slots.as_slice(), i, read)?;
+        let noted = noted(alloc, base, slots, &list, i, read)?;
         let answer = noted.answer.copied(alloc)?;
         let again = noted.answer.copied(alloc)?;
         slot::note(&mut self.slots[i], noted)?;
@@ -198,9 +217,12 @@ impl Machine {
     ) -> Result<(), AllocError>
         requires within { i < length self.old.slots }
         requires room { self.old.clock + 1 < 2 ^ 64 }
+        requires still { closed (status_of self.old.slots i) ≡ false }
         ensures ok { (worker : ℕ) → OnOk result (self.new ≡ after self.old worker (Event.Publish i n (Some finished.now)) Reply.Published) }
         ensures err { OnErr result (self.new ≡ self.old) }
     {
+        candidates::hint(alloc, &mut self.hints, &finished.delta, i)?;
+        candidates::name(&mut self.named, &finished.delta, i)?;
         let clock = self.clock;
         let same = slot::publish(alloc, &mut self.slots[i], n, finished, clock)?;
         if !same {
@@ -249,8 +271,7 @@ impl Machine {
         let Some(stands) = self.slots[i].pass else {
             return Ok(Reply::NotYet);
         };
-        let note = &self.slots[i].notes.as_slice()[stands.next];
-        match validate::check(alloc, base, self.slots.as_slice(), i, note)? {
+        match self.next_verdict(alloc, base, i, stands)? {
             Verdict::Blocked(j) => Ok(Reply::Blocked(j)),
             Verdict::Same => {
                 slot::pass(&mut self.slots[i], stands);
@@ -261,6 +282,26 @@ impl Machine {
                 Ok(Reply::Aborted)
             }
         }
+    }
+
+    // What the check of the next note of the pass that stands finds.
+    fn next_verdict(
+        &self,
+        alloc: Global,
+        base: &View,
+        i: usize,
+        stands: Pass,
+    ) -> Result<Verdict, AllocError>
+        requires within { i < length self.now.slots }
+        requires pass { (slot_at self.now.slots i).pass ≡ Some stands }
+        requires next { HasNext self.now i }
+        requires names { NextNamesAnswer base.now self.now i }
+        ensures verdict { IfOk result (λ verdict. (note : Described) → slice_get (slot_at self.now.slots i).notes stands.next ≡ Some note → NoteVerdict base.now self.now.slots i note verdict) }
+        ensures reply { IfOk result (λ verdict. NoteReply base.now self.now.slots i (slice_get (slot_at self.now.slots i).notes stands.next) (verdict_reply verdict)) }
+    {
+        let slots = self.slots.as_slice();
+        let note = &slots[i].notes.as_slice()[stands.next];
+        validate::check(alloc, base, &self.hints, &self.named, slots, i, note)
     }
 
     /// Commits the request at the front, where it is executed and stamped and no lower request has changed since.
@@ -276,8 +317,10 @@ impl Machine {
         if !self.may_commit(i) {
             return Reply::NotYet;
         }
+        let changed = self.slots[i].changed;
         slot::commit(&mut self.slots[i]);
         self.front += 1;
+        self.latest = self.latest.max(changed);
         Reply::Committed
     }
 
@@ -289,7 +332,17 @@ impl Machine {
         let slot = &self.slots[i];
         i == self.front
             && incarnations::is_executed(slot.status)
-            && is_stamped(self.slots.as_slice(), i, slot.stamp)
+            && is_after(slot.stamp, self.latest)
+    }
+}
+
+// Whether a stamp stands, and no change is later.
+fn is_after(stamp: Option<u64>, latest: u64) -> bool
+    ensures { result ≡ stands_after stamp latest }
+{
+    match stamp {
+        None => false,
+        Some(moment) => latest <= moment,
     }
 }
 
@@ -339,14 +392,16 @@ fn noted(
     alloc: Global,
     base: &View,
     slots: &[Slot],
+    list: &[usize],
     i: usize,
     read: &Read<Id>,
 ) -> Result<Noted, AllocError>
-    requires { i ≤ length slots.now }
+    requires within { i ≤ length slots.now }
+    requires leads { Leads slots.now read.now list.now i }
     ensures { IfOk result (λ note. note ≡ note_now base.now slots.now i read.now) }
 {
-    let answer = answer_before(alloc, base, slots, i, read)?;
-    let touching = touching(alloc, slots, i, read)?;
+    let answer = answer_before(alloc, base, slots, list, i, read)?;
+    let touching = touching(alloc, slots, list, i, read)?;
     Ok(Noted {
         read: *read,
         answer,

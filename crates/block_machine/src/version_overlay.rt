@@ -1,27 +1,43 @@
-//! What the requests below one have published: the view that their deltas make, their estimates, and their changes.
-ghost use Rattle.std.specs.Prelude.{◌≡◌, ◌≤◌, ◌<◌, suc, length, IfOk};
+//! What the requests below one have published: the view that their deltas make, their estimates, and their changes. Each look goes along
+//! the requests that may have spoken of what is asked for.
+ghost use Rattle.std.specs.Prelude.{◌≡◌, ◌≤◌, ◌<◌, ◌&&◌, ◌++◌, ◌∷◌, [], Some, suc, length, IfOk, OnOk, if◌then◌else◌};
 ghost use Rattle.datasets.specs.Id.{id_order};
 ghost use Rattle.change_laws.specs.Laws.{IsRising};
-ghost use Rattle.reads.specs.Reads.{says};
-ghost use Rattle.block_machine.specs.Machine.{view_at, blocker as blocker_of, touching as touching_of, is_current as is_current_at, is_stamped as stamped};
+ghost use Rattle.reads.specs.Reads.{View as Base, says, applied, covers};
+ghost use Rattle.block_machine.specs.Machine.{view_at, blocker as blocker_of, touching as touching_of};
+ghost use Rattle.block_machine.specs.Lower.{Leads};
 
 use crate::state::Slot;
 use datasets::{Id, Read};
-use reads::{Answered, View};
+use reads::{Answered, Delta, View};
 use sets::Items;
 use std::alloc::{AllocError, Global};
 
 /// The base with the deltas of the requests below `i`.
-#[tactic(auto, unfolding(crate::specs::Machine::view_at))]
 pub fn view_before(alloc: Global, base: &View, slots: &[Slot], i: usize) -> Result<View, AllocError>
     requires { i ≤ length slots.now }
     ensures { IfOk result (λ view. view ≡ view_at base.now slots.now i) }
 {
-    let mut view = base.copied(alloc)?;
-    for j in 0..i {
-        view = slots[j].delta.apply(alloc, view)?;
+    let view = base.copied(alloc)?;
+    if i == 0 {
+        return Ok(view);
     }
-    Ok(view)
+    changes(alloc, slots, 0, i)?.apply(alloc, view)
+}
+
+// The deltas of the requests from `low` on and below `high`, one after another, as one.
+fn changes(alloc: Global, slots: &[Slot], low: usize, high: usize) -> Result<Delta, AllocError>
+    requires some { low < high }
+    requires within { high ≤ length slots.now }
+    ensures { IfOk result (λ delta. (base : Base) → applied delta (view_at base slots.now low) ≡ view_at base slots.now high) }
+{
+    let middle = low + (high - low) / 2;
+    if middle == low {
+        return slots[low].delta.copied(alloc);
+    }
+    let first = changes(alloc, slots, low, middle)?;
+    let second = changes(alloc, slots, middle, high)?;
+    first.followed_by(alloc, &second)
 }
 
 /// What the read says of the base with the deltas of the requests below `i`. It copies only what the read asks for.
@@ -30,16 +46,19 @@ pub fn answer_before(
     alloc: Global,
     base: &View,
     slots: &[Slot],
+    list: &[usize],
     i: usize,
     read: &Read<Id>,
 ) -> Result<Answered, AllocError>
-    requires { i ≤ length slots.now }
+    requires within { i ≤ length slots.now }
+    requires leads { Leads slots.now read.now list.now i }
     ensures { IfOk result (λ answer. answer ≡ says read.now (view_at base.now slots.now i)) }
 {
     base.rises();
     let mut part = base.asked(alloc, read)?;
-    for j in 0..i {
-        part = applied_part(alloc, base, slots, j, read, part)?;
+    for request in list {
+        let request = *request;
+        part = applied_part(alloc, base, slots, request, read, part)?;
     }
     part.answer(alloc, read)
 }
@@ -68,64 +87,66 @@ fn applied_part(
 }
 
 /// The greatest request below `i` that is an estimate and whose delta covers the read.
-#[tactic(auto, unfolding(crate::specs::Machine::blocker))]
-pub fn blocker(slots: &[Slot], i: usize, read: &Read<Id>) -> Option<usize>
-    requires { i ≤ length slots.now }
+pub fn blocker(slots: &[Slot], list: &[usize], i: usize, read: &Read<Id>) -> Option<usize>
+    requires within { i ≤ length slots.now }
+    requires leads { Leads slots.now read.now list.now i }
     ensures { result ≡ blocker_of slots.now i read.now }
 {
     let mut found = None;
-    for j in 0..i {
-        let slot = &slots[j];
-        if slot.estimate && slot.delta.covers(read) {
-            found = Some(j);
-        }
+    for request in list {
+        let request = *request;
+        found = blocker_or(&slots[request], request, read, found);
     }
     found
 }
 
+// The request of this slot, if it is an estimate whose delta covers the read.
+fn blocker_or(
+    slot: &Slot,
+    request: usize,
+    read: &Read<Id>,
+    found: Option<usize>,
+) -> Option<usize>
+    ensures { result ≡ (if slot.now.estimate && covers slot.now.delta read.now then Some request else found) }
+{
+    if slot.estimate && slot.delta.covers(read) {
+        Some(request)
+    } else {
+        found
+    }
+}
+
 /// The requests below `i` whose delta covers the read, each with the incarnation of its last publication.
-#[tactic(auto, unfolding(crate::specs::Machine::touching))]
 pub fn touching(
     alloc: Global,
     slots: &[Slot],
+    list: &[usize],
     i: usize,
     read: &Read<Id>,
 ) -> Result<Items<(usize, u64)>, AllocError>
-    requires { i ≤ length slots.now }
-    ensures { IfOk result (λ list. list ≡ touching_of slots.now i read.now) }
+    requires within { i ≤ length slots.now }
+    requires leads { Leads slots.now read.now list.now i }
+    ensures { IfOk result (λ touching. touching ≡ touching_of slots.now i read.now) }
 {
-    let mut list = Items::new(alloc);
-    for j in 0..i {
-        let slot = &slots[j];
-        if slot.delta.covers(read) {
-            list.push((j, slot.version))?;
-        }
+    let mut found = Items::new(alloc);
+    for request in list {
+        let request = *request;
+        push_touching(&mut found, &slots[request], request, read)?;
     }
-    Ok(list)
+    Ok(found)
 }
 
-/// Whether no request below `i` has changed after this moment.
-#[tactic(auto, unfolding(crate::specs::Machine::is_current))]
-pub fn is_current(slots: &[Slot], i: usize, moment: u64) -> bool
-    requires { i ≤ length slots.now }
-    ensures { result ≡ is_current_at slots.now i moment }
+// The request of this slot, if its delta covers the read.
+fn push_touching(
+    found: &mut Items<(usize, u64)>,
+    slot: &Slot,
+    request: usize,
+    read: &Read<Id>,
+) -> Result<(), AllocError>
+    ensures { OnOk result (found.new ≡ found.old ++ (if covers slot.now.delta read.now then (request, slot.now.version) ∷ [] else [])) }
 {
-    let mut current = true;
-    for j in 0..i {
-        if slots[j].changed > moment {
-            current = false;
-        }
+    if slot.delta.covers(read) {
+        found.push((request, slot.version))?;
     }
-    current
-}
-
-/// Whether a stamp stands, and no request below `i` has changed since.
-pub fn is_stamped(slots: &[Slot], i: usize, stamp: Option<u64>) -> bool
-    requires { i ≤ length slots.now }
-    ensures { result ≡ stamped slots.now i stamp }
-{
-    match stamp {
-        None => false,
-        Some(moment) => is_current(slots, i, moment),
-    }
+    Ok(())
 }

@@ -11,7 +11,7 @@ use crate::lists::{
     copied_names, copied_quads, has_name, has_names, names_union, names_without, quads_union,
     quads_without,
 };
-use crate::matching::{is_any_matching, matching};
+use quad_index::matching::{is_any_matching, matching};
 use crate::same::{same_names, same_quads};
 use crate::view::View;
 use datasets::{Id, Quad, QuadPattern, Read};
@@ -162,6 +162,28 @@ impl Delta {
         let quads = quads_union(quads_without(quads, &self.absent), present)?;
         let names = names_union(names_without(names, &self.gone), there)?;
         Ok(View { quads, names })
+    }
+
+    /// This change and then a later one, as one change. What the later one speaks of is as it says.
+    pub fn followed_by(self, alloc: Global, later: &Delta) -> Result<Delta, AllocError>
+        ensures { IfOk result (λ both. (d : Dataset) → applied both d ≡ applied later.now (applied self d)) }
+    {
+        let Delta {
+            present,
+            absent,
+            there,
+            gone,
+        } = self;
+        let more_present = copied_quads(alloc, &later.present)?;
+        let more_absent = copied_quads(alloc, &later.absent)?;
+        let more_there = copied_names(alloc, &later.there)?;
+        let more_gone = copied_names(alloc, &later.gone)?;
+        Ok(Delta {
+            present: quads_union(quads_without(present, &later.absent), more_present)?,
+            absent: quads_union(absent, more_absent)?,
+            there: names_union(names_without(there, &later.gone), more_there)?,
+            gone: names_union(gone, more_gone)?,
+        })
     }
 
     /// The same change again.

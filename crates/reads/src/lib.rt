@@ -10,7 +10,6 @@ pub mod delta;
 pub mod finished;
 pub mod laws;
 pub mod lists;
-pub mod matching;
 pub mod note;
 pub mod same;
 pub mod source;

@@ -8,8 +8,9 @@ ghost use Rattle.reads.specs.Reads.{says, IsDataset};
 
 use crate::answered::Answered;
 use crate::lists::{copied_names, copied_quads, has_name, name_if};
-use crate::matching::matching;
+use quad_index::matching::matching;
 use datasets::{Answer, Id, Quad, QuadPattern, Read};
+use quad_index::search::part_of_set;
 use sets::set_of;
 use std::alloc::{AllocError, Global};
 use std::marker::Model;
@@ -91,7 +92,8 @@ impl View {
     fn matching_part(&self, alloc: Global, pattern: &QuadPattern<Id>) -> Result<View, AllocError>
         ensures { IfOk result (λ part. part ≡ record { quads = filter (matches id_order pattern.now) self.now.quads; names = [] }) }
     {
-        let quads = matching(alloc, pattern, &self.quads)?;
+        let part = part_of_set(&self.quads, pattern);
+        let quads = matching(alloc, pattern, part)?;
         Ok(View {
             quads,
             names: Vec::new(alloc),
@@ -138,7 +140,10 @@ impl View {
         ensures { IfOk result (λ answer. answer ≡ says read.now self.now) }
     {
         let answer = match read {
-            Read::Scan(pattern) => Answer::Quads(matching(alloc, pattern, &self.quads)?),
+            Read::Scan(pattern) => {
+                let part = part_of_set(&self.quads, pattern);
+                Answer::Quads(matching(alloc, pattern, part)?)
+            }
             Read::GraphIs(name) => Answer::Is(has_name(&self.names, name)),
             Read::Graphs => Answer::Names(copied_names(alloc, &self.names)?),
         };

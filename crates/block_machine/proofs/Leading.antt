@@ -1,0 +1,167 @@
+-- The requests that were found lead to all whose delta covers the read.
+use Rattle.std.proofs.Common.{◌≡◌, ℕ, zero, suc, ◌<◌, ◌≤◌, ◌⊎◌, inl, inr, Bool, true, false, ◌&&◌, List, [], ◌∷◌, length, Some, get_or, refl, sym, ap, ◌∙◌, subst, arith}
+use Rattle.std.specs.Prelude.{filter, ◌||◌, ◌==◌, nat_lt, eqb}
+use Rattle.std.specs.List.{list_any}
+use Rattle.std.specs.List.{dedup}
+use Rattle.std.specs.List.Sorted.{IsStrictlySortedBy, IsSorted, IsPermutation}
+use Rattle.std.specs.Ordering.{nat_cmp, eq_by_cmp, is_eq}
+use Rattle.std.specs.Cmp.{tied_itself, both_ways}
+use Rattle.std.proofs.lemmas.Cmp.{nat_cmp_total, nat_eq_equiv}
+use Rattle.std.proofs.lemmas.List.{get_or_past}
+use Rattle.std.proofs.lemmas.List.Kept.{IsStrictlySortedBy-dedup, Contains-dedup_nat, Contains-from_dedup}
+use Rattle.std.proofs.lemmas.List.Sorted.{Contains-permutation, IsPermutation-sym}
+use Rattle.std.proofs.lemmas.Bool.{cases_lt, cases_eq, false≢true, and_parts, and_from, eqb-true, ltb-true}
+use Rattle.std.proofs.lemmas.Map.Keys.{below_from_sorted}
+use Rattle.std.proofs.lemmas.Map.Lookups.{exact_unsigned}
+use Rattle.sets.specs.Sets.{has}
+use Rattle.sets.proofs.SetLaws.{has-filter, has_alike, exact_by}
+use Rattle.datasets.specs.declared.id.Id.{Id}
+use Rattle.datasets.specs.declared.quad.Quad.{Quad}
+use Rattle.datasets.specs.declared.read.QuadPattern.{QuadPattern}
+use Rattle.datasets.specs.declared.read.Read.TheVariants.{Scan, GraphIs, Graphs}
+use Rattle.datasets.specs.Dataset.{matches}
+use Rattle.datasets.specs.Id.{id_order}
+use Rattle.quad_index.specs.declared.run.Hint.{Hint}
+use Rattle.reads.specs.Reads.{Read, Delta, covers}
+use Rattle.block_machine.specs.declared.state.Slot.{Slot}
+use Rattle.block_machine.specs.Machine.{slot_at}
+use Rattle.block_machine.specs.Lower.{request_at, after_first, Leads, NoneCovers, AreHinted, AreNamed}
+
+-- ---- tests of lists
+
+any_mono : {A : Type 0} (p t : A → Bool) → ((x : A) → p x ≡ true → t x ≡ true) → (xs : List A) → list_any p xs ≡ true → list_any t xs ≡ true
+any_mono p t h [] e = e
+any_mono p t h (x ∷ xs) e = at (p x) (t x) (h x) (any_mono p t h xs) e
+  where
+    at : (a b : Bool) → (a ≡ true → b ≡ true) → (list_any p xs ≡ true → list_any t xs ≡ true) → (a || list_any p xs) ≡ true → (b || list_any t xs) ≡ true
+    at true b f g e = ap (λ z. z || list_any t xs) (f refl)
+    at false true f g e = refl
+    at false false f g e = g e
+
+pub tied : (xs : List ℕ) (j : ℕ) → list_any (λ r. r == j) xs ≡ true → has nat_cmp xs j ≡ true
+tied xs j e = any_mono (λ r. r == j) (eq_by_cmp nat_cmp j) (λ r h. ap (λ n. is_eq (nat_cmp j n)) (eqb-true r j h) ∙ ap is_eq (tied_itself nat_cmp_total j)) xs e
+
+-- ---- those below i, sorted and each once
+
+ties : (x y : ℕ) → eqb x y ≡ eq_by_cmp nat_cmp x y
+ties x y =
+    both_ways (eqb x y) (eq_by_cmp nat_cmp x y)
+    (λ e. ap (λ n. is_eq (nat_cmp x n)) (sym (eqb-true x y e)) ∙ ap is_eq (tied_itself nat_cmp_total x))
+    (λ e. ap (λ n. eqb x n) (sym (exact_by nat_cmp_total exact_unsigned x y e)) ∙ nat_eq_equiv.refl x)
+
+module _ (found kept up result : List ℕ) (i : ℕ) (filtered : kept ≡ filter (λ r. nat_lt r i) found) (moved : IsPermutation kept up) (sorted : IsSorted nat_cmp up) (is : result ≡ dedup eqb up) where
+  pub below-sorted : IsStrictlySortedBy nat_cmp result
+  below-sorted = subst (λ xs. IsStrictlySortedBy nat_cmp xs) (sym is) (IsStrictlySortedBy-dedup nat_cmp_total ties up sorted)
+
+  has_below : (j : ℕ) → has nat_cmp result j ≡ (has nat_cmp found j && nat_lt j i)
+  has_below j =
+      ap (λ xs. has nat_cmp xs j) is
+      ∙ has_alike nat_cmp_total exact_unsigned (dedup eqb up) kept
+      (λ x h. Contains-permutation up kept x (IsPermutation-sym kept up moved) (Contains-from_dedup eqb up x h))
+      (λ x h. Contains-dedup_nat up x (Contains-permutation kept up x moved h)) j
+      ∙ ap (λ xs. has nat_cmp xs j) filtered
+      ∙ has-filter nat_cmp_total exact_unsigned (λ r. nat_lt r i) j found
+
+  pub below-within : (j : ℕ) → has nat_cmp result j ≡ true → j < i
+  below-within j e =
+      let p = and_parts (has nat_cmp found j) (nat_lt j i) (sym (has_below j) ∙ e) in
+      ltb-true j i p.1
+
+  pub below-same : (j : ℕ) → j < i → list_any (λ r. r == j) found ≡ true → has nat_cmp result j ≡ true
+  below-same j lt e = has_below j ∙ and_from (has nat_cmp found j) (nat_lt j i) (tied found j e) (grind (arith, lt))
+
+-- ---- from a set to a lead
+
+at-has : (xs : List ℕ) (k d : ℕ) → k < length xs → has nat_cmp xs (get_or xs k d) ≡ true
+at-has [] k d lt = absurd (omega arith)
+at-has (x ∷ xs) zero d lt = ap (λ r. is_eq r || has nat_cmp xs x) (tied_itself nat_cmp_total x)
+at-has (x ∷ xs) (suc k) d lt = or_true (eq_by_cmp nat_cmp (get_or xs k d) x) _ (at-has xs k d (omega arith))
+  where
+    or_true : (a b : Bool) → b ≡ true → (a || b) ≡ true
+    or_true true b e = refl
+    or_true false b e = e
+
+record Place (xs : List ℕ) (d j : ℕ) : Type 0 where
+  place : ℕ
+  within : place < length xs
+  is : get_or xs place d ≡ j
+
+place_of : (xs : List ℕ) (d j : ℕ) → has nat_cmp xs j ≡ true → Place xs d j
+place_of [] d j e = absurd (false≢true e)
+place_of (x ∷ xs) d j e = at (eq_by_cmp nat_cmp j x) refl e (place_of xs d j)
+  where
+    at : (b : Bool) → eq_by_cmp nat_cmp j x ≡ b → (b || has nat_cmp xs j) ≡ true → (has nat_cmp xs j ≡ true → Place xs d j) → Place (x ∷ xs) d j
+    at true e f rest = record { place = 0; within = omega arith; is = sym (exact_by nat_cmp_total exact_unsigned j x e) }
+    at false e f rest = let p = rest f in record { place = suc p.place; within = omega (arith, p.within); is = p.is }
+
+holds_not : (b : Bool) → (b ≡ true → ⊥) → b ≡ false
+holds_not true f = absurd (f refl)
+holds_not false f = refl
+
+module _ (slots : List Slot) (read : Read) (list : List ℕ) (i : ℕ) (sorted : IsStrictlySortedBy nat_cmp list) (within : (j : ℕ) → has nat_cmp list j ≡ true → j < i)
+    (all : (j : ℕ) → j < i → covers (slot_at slots j).delta read ≡ true → has nat_cmp list j ≡ true) where
+  at_within : (k : ℕ) → k < length list → request_at list i k < i
+  at_within k lt = within (get_or list k i) (at-has list k i lt)
+
+  rises_to : (n m : ℕ) → n ≤ m → m < length list → request_at list i n ≤ request_at list i m
+  rises_to n m le lt =
+      elim (cases_lt n m) [
+        | inl less ↦ (let b = below_from_sorted list n m i sorted less lt in omega (arith, b))
+        | inr ge ↦ (let e : n ≡ m = omega (arith, le, ge) in subst (λ z. request_at list i n ≤ request_at list i z) e (omega arith))
+      ]
+
+  at_rising : (k : ℕ) → k ≤ length list → after_first list i k ≤ request_at list i k
+  at_rising zero le = omega arith
+  at_rising (suc k) le =
+      let here = at_within k (omega (arith, le)) in
+      elim (cases_lt (suc k) (length list)) [
+        | inl lt ↦ below_from_sorted list k (suc k) i sorted (omega arith) lt
+        | inr ge ↦ subst (λ z. suc (request_at list i k) ≤ z) (sym (get_or_past list (suc k) i ge)) here
+      ]
+
+  at_none : (k : ℕ) → k ≤ length list → NoneCovers slots read (after_first list i k) (request_at list i k)
+  at_none k le j low high = holds_not _ (λ e. no k le low high (place_of list i j (all j (below_i k le high) e)))
+    where
+      below_i : (k : ℕ) → k ≤ length list → j < request_at list i k → j < i
+      below_i k le high =
+          elim (cases_lt k (length list)) [
+            | inl lt ↦ (let w = at_within k lt in omega (arith, w, high))
+            | inr ge ↦ subst (λ z. j < z) (get_or_past list k i ge) high
+          ]
+
+      no : (k : ℕ) → k ≤ length list → after_first list i k ≤ j → j < request_at list i k → Place list i j → ⊥
+      no zero le low high p =
+          let r = rises_to zero p.place (omega arith) p.within in
+          let same : request_at list i p.place ≡ j = p.is in
+          absurd (omega (arith, r, same, high))
+      no (suc k) le low high p =
+          let same : request_at list i p.place ≡ j = p.is in
+          elim (cases_lt k p.place) [
+            | inl lt ↦ (let r = rises_to (suc k) p.place (omega (arith, lt)) p.within in absurd (omega (arith, r, same, high)))
+            | inr ge ↦ (let r = rises_to p.place k ge (omega (arith, le)) in absurd (omega (arith, r, same, low)))
+          ]
+
+  pub leads_all : Leads slots read list i
+  leads_all = record { within = at_within; rising = at_rising; none = at_none }
+
+-- ---- what was found has all whose delta covers the read
+
+pub spoken_scan : (hints : List Hint) (slots : List Slot) (r : Read) (p : QuadPattern Id) (found : List ℕ) → AreHinted hints slots → r ≡ Scan p
+    → ((j : ℕ) → list_any (λ (h : Hint). matches id_order p h.quad && (h.request == j)) hints ≡ true → list_any (λ x. x == j) found ≡ true)
+    → (j : ℕ) → covers (slot_at slots j).delta r ≡ true → list_any (λ x. x == j) found ≡ true
+unfolding covers
+spoken_scan hints slots r p found hinted is f j e =
+    f j (hinted j (matches id_order p) (ap (λ x. covers (slot_at slots j).delta x) (sym is) ∙ e))
+
+or_any : (a b c d : Bool) → (a ≡ true → c ≡ true) → (b ≡ true → d ≡ true) → (a || b) ≡ true → (c || d) ≡ true
+or_any true b c d f g e = ap (λ z. z || d) (f refl)
+or_any false b true d f g e = refl
+or_any false b false d f g e = g e
+
+pub spoken_name : (named : List ℕ) (slots : List Slot) (r : Read) → AreNamed named slots → ((p : QuadPattern Id) → r ≡ Scan p → ⊥)
+    → (j : ℕ) → covers (slot_at slots j).delta r ≡ true → list_any (λ x. x == j) named ≡ true
+unfolding covers
+spoken_name named slots (Scan p) are_named other j e = absurd (other p refl)
+spoken_name named slots (GraphIs g) are_named other j e =
+    are_named j (or_any _ _ _ _ (any_mono _ (λ x. true) (λ x h. refl) (slot_at slots j).delta.there) (any_mono _ (λ x. true) (λ x h. refl) (slot_at slots j).delta.gone) e)
+spoken_name named slots Graphs are_named other j e = are_named j e

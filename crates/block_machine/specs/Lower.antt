@@ -1,0 +1,51 @@
+-- Where the machine looks for what the requests below one have published.
+use Rattle.std.specs.Prelude.{◌≡◌, ℕ, zero, suc, ◌<◌, ◌≤◌, Bool, true, false, ◌&&◌, ◌||◌, ◌==◌, nat_le, List, length, Option, Some, None, slice_index_or}
+use Rattle.std.specs.List.{list_any}
+use Rattle.datasets.specs.declared.id.Id.{Id}
+use Rattle.datasets.specs.declared.quad.Quad.{Quad}
+use Rattle.datasets.specs.declared.read.Read.TheVariants.{Graphs}
+use Rattle.quad_index.specs.declared.run.Hint.{Hint}
+use Rattle.reads.specs.Reads.{Delta, Read, covers}
+use Rattle.block_machine.specs.declared.state.Slot.{Slot}
+use Rattle.block_machine.specs.Machine.{slot_at, is_closed, is_current}
+
+-- no request from a on and below b covers the read
+abbrev pub NoneCovers : List Slot → Read → ℕ → ℕ → Type 0
+NoneCovers slots read a b = (j : ℕ) → a ≤ j → j < b → covers (slot_at slots j).delta read ≡ false
+
+-- the request at this place of a list, and past its end the request i
+abbrev pub request_at : List ℕ → ℕ → ℕ → ℕ
+request_at list i k = slice_index_or list k i
+
+-- the request after the first k of a list
+abbrev pub after_first : List ℕ → ℕ → ℕ → ℕ
+after_first list i zero = 0
+after_first list i (suc k) = suc (request_at list i k)
+
+-- a rising list of requests below i that has all of them whose delta covers the read
+pub record Leads (slots : List Slot) (read : Read) (list : List ℕ) (i : ℕ) : Type 0 where
+  pub within : (k : ℕ) → k < length list → request_at list i k < i
+  pub rising : (k : ℕ) → k ≤ length list → after_first list i k ≤ request_at list i k
+  pub none : (k : ℕ) → k ≤ length list → NoneCovers slots read (after_first list i k) (request_at list i k)
+
+-- each quad that a request's delta speaks of has a hint of that request
+abbrev pub AreHinted : List Hint → List Slot → Type 0
+AreHinted hints slots =
+    (j : ℕ) (p : Quad Id → Bool) → (list_any p (slot_at slots j).delta.present || list_any p (slot_at slots j).delta.absent) ≡ true
+    → list_any (λ h. p h.quad && (h.request == j)) hints ≡ true
+
+-- each request whose delta speaks of a graph name is among these
+abbrev pub AreNamed : List ℕ → List Slot → Type 0
+AreNamed named slots = (j : ℕ) → covers (slot_at slots j).delta Graphs ≡ true → list_any (λ r. r == j) named ≡ true
+
+-- what the machine keeps beside its state: hints, requests that speak of names, and the last change of a committed request
+pub record KeepsLower (slots : List Slot) (front : ℕ) (hints : List Hint) (named : List ℕ) (latest : ℕ) : Type 0 where
+  pub hinted : AreHinted hints slots
+  pub are_named : AreNamed named slots
+  pub changes : (moment : ℕ) → is_current slots front moment ≡ nat_le latest moment
+  pub closed : (j : ℕ) → j < front → is_closed (Some (slot_at slots j).status) ≡ true
+
+-- whether a stamp stands, and this change is no later
+abbrev pub stands_after : Option ℕ → ℕ → Bool
+stands_after None latest = false
+stands_after (Some moment) latest = nat_le latest moment

@@ -1,0 +1,4 @@
+pub mod Joined
+pub mod Requests
+pub mod Searching
+pub mod Sought

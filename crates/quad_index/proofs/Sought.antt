@@ -1,0 +1,82 @@
+-- What a pattern matches begins as the pattern does, as far as its places are bound in an order.
+use Rattle.std.specs.Prelude.{Bool, filter, ◌&&◌, ◌||◌, Option, Some, None}
+use Rattle.std.proofs.Common.{◌≡◌, true, false, cond, List, [], ◌∷◌, refl, sym, ap, ◌∙◌}
+use Rattle.std.proofs.lemmas.Bool.{false≢true, and_parts}
+use Rattle.std.specs.declared.cmp.Ordering.{Ordering}
+use Rattle.std.specs.declared.cmp.Ordering.TheVariants.{Less, Equal, Greater}
+use Rattle.std.specs.Ordering.{ordering_then, is_eq}
+use Rattle.datasets.specs.declared.id.Id.{Id}
+use Rattle.datasets.specs.declared.quad.Quad.{Quad}
+use Rattle.datasets.specs.declared.read.GraphPlace.{GraphPlace}
+use Rattle.datasets.specs.declared.read.GraphPlace.TheVariants.{Any, Only}
+use Rattle.datasets.specs.declared.read.QuadPattern.{QuadPattern}
+use Rattle.datasets.specs.Dataset.{matches, free_or, in_place}
+use Rattle.datasets.specs.Id.{id_order}
+use Rattle.quad_index.specs.declared.key.Key.{Key}
+use Rattle.quad_index.specs.declared.key.Bounds.{Bounds}
+use Rattle.quad_index.specs.declared.key.Arrangement.{Arrangement}
+use Rattle.quad_index.specs.declared.key.Arrangement.TheVariants.{Spog, Pogs, Ogsp, Gspo, Gpso, Ospg}
+use Rattle.quad_index.specs.Keys.{place_order, order_at, key_of, bound_term, bound_graph, bounds_of, depth_by, depth_of, bound_or_none, target_of, is_sought}
+
+-- a place's term is the one that it is bound to
+agrees : Option (Option Id) → Option Id → Bool
+agrees None k = true
+agrees (Some t) k = is_eq (place_order k t)
+
+is_equal : (r : Ordering) → is_eq r ≡ true → r ≡ Equal
+is_equal Less e = absurd (false≢true e)
+is_equal Equal e = refl
+is_equal Greater e = absurd (false≢true e)
+
+then_eq : (r s : Ordering) → is_eq r ≡ true → is_eq s ≡ true → is_eq (ordering_then r s) ≡ true
+then_eq r s e f = ap (λ x. is_eq (ordering_then x s)) (is_equal r e) ∙ f
+
+module _ (k : Key) where
+  begins : (a b c d : Option (Option Id)) → agrees a k.first ≡ true → agrees b k.second ≡ true → agrees c k.third ≡ true → agrees d k.fourth ≡ true
+      → is_eq (order_at (depth_by a b c d) k (record { first = bound_or_none a; second = bound_or_none b; third = bound_or_none c; fourth = bound_or_none d })) ≡ true
+  unfolding agrees
+  begins None b c d ea eb ec ed = refl
+  begins (Some w) None c d ea eb ec ed = ea
+  begins (Some w) (Some x) None d ea eb ec ed = then_eq _ _ ea eb
+  begins (Some w) (Some x) (Some y) None ea eb ec ed = then_eq _ _ ea (then_eq _ _ eb ec)
+  begins (Some w) (Some x) (Some y) (Some z) ea eb ec ed = then_eq _ _ ea (then_eq _ _ eb (then_eq _ _ ec ed))
+
+at_term : (t : Option Id) (x : Id) → free_or id_order t x ≡ true → agrees (bound_term t) (Some x) ≡ true
+unfolding agrees
+at_term None x e = refl
+at_term (Some y) x e = e
+
+at_graph : (h : GraphPlace Id) (g : Option Id) → in_place id_order h g ≡ true → agrees (bound_graph h) g ≡ true
+unfolding agrees
+at_graph Any g e = refl
+at_graph (Only h) g e = e
+
+module _ (p : QuadPattern Id) (q : Quad Id) (s : agrees (bound_term p.subject) (Some q.subject) ≡ true) (r : agrees (bound_term p.predicate) (Some q.predicate) ≡ true) (o : agrees (bound_term p.object) (Some q.object) ≡ true) (g : agrees (bound_graph p.graph) q.graph ≡ true) where
+  at_each : (a : Arrangement) → is_sought (bounds_of a p) (key_of a q) ≡ true
+  at_each Spog = begins (key_of Spog q) _ _ _ _ s r o g
+  at_each Pogs = begins (key_of Pogs q) _ _ _ _ r o g s
+  at_each Ogsp = begins (key_of Ogsp q) _ _ _ _ o g s r
+  at_each Gspo = begins (key_of Gspo q) _ _ _ _ g s r o
+  at_each Gpso = begins (key_of Gpso q) _ _ _ _ g r s o
+  at_each Ospg = begins (key_of Ospg q) _ _ _ _ o s r g
+
+pub sought : (a : Arrangement) (p : QuadPattern Id) (q : Quad Id) → matches id_order p q ≡ true → is_sought (bounds_of a p) (key_of a q) ≡ true
+sought a p q h =
+    let one = and_parts (free_or id_order p.subject q.subject) (free_or id_order p.predicate q.predicate && (free_or id_order p.object q.object && in_place id_order p.graph q.graph)) h in
+    let two = and_parts (free_or id_order p.predicate q.predicate) (free_or id_order p.object q.object && in_place id_order p.graph q.graph) one.1 in
+    let three = and_parts (free_or id_order p.object q.object) (in_place id_order p.graph q.graph) two.1 in
+    at_each p q (at_term p.subject q.subject one.0) (at_term p.predicate q.predicate two.0) (at_term p.object q.object three.0) (at_graph p.graph q.graph three.1) a
+
+-- a filter that passes only what another passes
+passing : {A : Type 0} (p : A → Bool) (b c : Bool) (x : A) (ts xs : List A) → p x ≡ c → (c ≡ true → b ≡ true) → filter p ts ≡ filter p xs → filter p (cond b (x ∷ ts) ts) ≡ cond c (x ∷ filter p xs) (filter p xs)
+passing p true c x ts xs e f h = (λ i. cond (e i) (x ∷ h i) (h i))
+passing p false true x ts xs e f h = absurd (false≢true (f refl))
+passing p false false x ts xs e f h = h
+
+filter_in : {A : Type 0} (p t : A → Bool) → ((x : A) → p x ≡ true → t x ≡ true) → (xs : List A) → filter p (filter t xs) ≡ filter p xs
+filter_in p t h [] = refl
+filter_in p t h (x ∷ xs) = passing p (t x) (p x) x (filter t xs) xs refl (h x) (filter_in p t h xs)
+
+pub part_has_all : {E : Type 0} (quad : E → Quad Id) (a : Arrangement) (pattern : QuadPattern Id) (p : E → Bool) → ((e : E) → p e ≡ true → matches id_order pattern (quad e) ≡ true) → (xs : List E)
+    → filter p (filter (λ e. is_sought (bounds_of a pattern) (key_of a (quad e))) xs) ≡ filter p xs
+part_has_all quad a pattern p h xs = filter_in p _ (λ e f. sought a pattern (quad e) (h e f)) xs

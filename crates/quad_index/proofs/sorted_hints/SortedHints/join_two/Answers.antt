@@ -1,0 +1,25 @@
+use Rattle.std.specs.Prelude.{◌||◌}
+use Rattle.std.proofs.Common.{◌≡◌, ◌≤◌, ◌<◌, ◌∙◌, ◌+◌, ◌-◌, ℕ, ap, length, get_or, arith}
+use Rattle.std.proofs.lemmas.List.{get_or_default}
+use Rattle.std.specs.List.{list_any}
+use Rattle.std.specs.Vec.{vec_len}
+use Rattle.quad_index.specs.declared.run.Run.{Run}
+use Rattle.quad_index.proofs.Joined.{popped}
+use Rattle.quad_index.proofs.sorted_hints.SortedHints.join_two.Goals as goal
+
+pub returns-in-Ok : goal.returns-in-Ok
+returns-in-Ok c p =
+    let xs = c.args.self.now.runs.items in
+    let n = c.len-count.result - 2 in
+    let d = c.index-longer.result.now in
+    let two : 2 ≤ c.len-count.result = c.if-count-lt2.false in
+    let count : c.len-count.result ≡ c.args.self.now.runs.len = c.len-count.ensures in
+    let len : c.args.self.now.runs.len ≡ length xs = c.args.self.now.runs.ok.0 in
+    let within : n + 1 < length xs = omega arith in
+    let place : c.len-count.result - 1 ≡ n + 1 = omega arith in
+    let first : c.deref.result.now ≡ (get_or xs n d).entries.items = c.deref.ensures.value ∙ ap (λ (r : Run). r.entries.items) c.index-longer.ensures in
+    let last : c.index-shorter.result.now ≡ get_or xs (n + 1) d =
+      c.index-shorter.ensures ∙ ap (λ k. get_or xs k c.index-shorter.result.now) place ∙ get_or_default xs (n + 1) c.index-shorter.result.now d within in
+    let second : c.deref-2.result.now ≡ (get_or xs (n + 1) d).entries.items = c.deref-2.ensures.value ∙ ap (λ (r : Run). r.entries.items) last in
+    popped p c.in-Ok.run' d xs _ c.args.self.now.tail.items n (c.args.self.now.runs.len - 1) c.pop.ensures.rest (omega arith) (omega arith)
+    (c.in-Ok.ensures p ∙ (λ i. list_any p (first i) || list_any p (second i)))

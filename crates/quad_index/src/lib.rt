@@ -1,0 +1,16 @@
+//! Quads in sorted orders: the six orders of a quad's places, binary search in entries that are sorted by one of them, and hints, which
+//! say at which request of a block a quad may have been spoken of. Stands on `datasets`.
+//!
+//! The contracts used above: `part_of_set` has all quads of a set that a pattern matches; what `Hints::put` put, `Hints::requests` finds.
+#![tactic(auto)]
+
+pub mod hints;
+pub mod key;
+pub mod matching;
+pub mod run;
+pub mod search;
+pub mod sorted_hints;
+
+pub use hints::Hints;
+pub use key::Arrangement;
+pub use search::part_of_set;
