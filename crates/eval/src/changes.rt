@@ -6,9 +6,9 @@ ghost use Rattle.reads.specs.Reads.{View, applied};
 
 use crate::lacking::quads_lacking;
 use datasets::{Id, Quad, QuadPattern};
+use quad_index::matching::matching;
 use reads::Delta;
 use reads::lists::{copied_names, copied_quads, quads_union};
-use reads::matching::matching;
 use std::alloc::{AllocError, Global};
 
 /// The quads of a pattern after the changes, from those that were told before them. What doesn't match is left out, and so are doubles.

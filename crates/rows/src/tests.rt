@@ -49,7 +49,7 @@ fn answer_to<T: Wait>(rt: &T, alloc: Global, base: &[u8], block: &[u8], workers:
 /// A base, a block, the status, the new dataset and the replies.
 type Row = (&'static str, &'static str, u8, &'static str, &'static str);
 
-const ROWS: [Row; 12] = [
+const ROWS: [Row; 18] = [
     ("", "", 0, "", ""),
     ("", "\n", 0, "", "0 ok +0 -0\n"),
     (
@@ -77,10 +77,58 @@ const ROWS: [Row; 12] = [
     ("", "----\n", 0, "", "0 ok +0 -0\n1 ok +0 -0\n"),
     (
         "",
-        "INSERT DATA { nope:a nope:p nope:b }\n----\nINSERT DATA { ?x <http://e/p> <http://e/b> }",
+        "INSERT DATA { nope:a nope:p nope:b }\n----\nINSERT DATA { ?x <http://e/p> <http://e/b> }\n----\nDELETE DATA { ?x nope:p <http://e/b> }",
         0,
         "",
-        "0 refused prefix\n1 refused syntax\n",
+        "0 refused prefix\n1 refused variable-in-data\n2 refused prefix\n",
+    ),
+    // Delete, insert and copy.
+    (
+        "<http://e/a> <http://e/p> <http://e/b> .\n",
+        "PREFIX ex: <http://e/> DELETE DATA { ex:a ex:p ex:b }\n----\nPREFIX ex: <http://e/> INSERT DATA { ex:a ex:p ex:b }\n----\nPREFIX ex: <http://e/> INSERT { ?s ex:q ?o } WHERE { ?s ex:p ?o }",
+        0,
+        "<http://e/a> <http://e/p> <http://e/b> .\n<http://e/a> <http://e/q> <http://e/b> .\n",
+        "0 ok +0 -1\n1 ok +1 -0\n2 ok +1 -0\n",
+    ),
+    // All deletions come before all insertions, so two quads change places.
+    (
+        "<http://e/a> <http://e/p> <http://e/b> .\n<http://e/b> <http://e/p> <http://e/a> .\n",
+        "PREFIX ex: <http://e/> DELETE { ?s ex:p ?o } INSERT { ?o ex:p ?s } WHERE { ?s ex:p ?o }",
+        0,
+        "<http://e/a> <http://e/p> <http://e/b> .\n<http://e/b> <http://e/p> <http://e/a> .\n",
+        "0 ok +0 -0\n",
+    ),
+    // A request of two operations reads what its first has made; deleting what is not there succeeds.
+    (
+        "",
+        "PREFIX ex: <http://e/> INSERT DATA { ex:a ex:p ex:b , ex:c } ; DELETE { $s ?p ?o } WHERE { ?s ?p $o } ; DELETE DATA { ex:a ex:p ex:b }",
+        0,
+        "",
+        "0 ok +0 -0\n",
+    ),
+    // One variable twice, and a variable that WHERE does not have.
+    (
+        "<http://e/a> <http://e/p> <http://e/a> .\n<http://e/a> <http://e/p> <http://e/b> .\n",
+        "PREFIX ex: <http://e/> INSERT { ?x ex:loop ?x . ?x ex:q ?y } WHERE { ?x ex:p ?x }",
+        0,
+        "<http://e/a> <http://e/loop> <http://e/a> .\n<http://e/a> <http://e/p> <http://e/a> .\n<http://e/a> <http://e/p> <http://e/b> .\n",
+        "0 ok +1 -0\n",
+    ),
+    // A group of two triple patterns, or of none, is not there yet.
+    (
+        "",
+        "PREFIX ex: <http://e/> INSERT { ?x ex:q ?y } WHERE { ?x ex:p ?y . ?y ex:p ?x }\n----\nINSERT { } WHERE { }",
+        0,
+        "",
+        "0 refused syntax\n1 refused syntax\n",
+    ),
+    // What a request makes is seen by those after it.
+    (
+        "",
+        "PREFIX ex: <http://e/> INSERT { ?x ex:q ex:c } WHERE { ?x ex:p ?y }\n----\nPREFIX ex: <http://e/> INSERT DATA { ex:a ex:p ex:b }\n----\nPREFIX ex: <http://e/> DELETE { ?x ex:p ?y } INSERT { ?y ex:p ?x } WHERE { ?x ex:p ?y }",
+        0,
+        "<http://e/b> <http://e/p> <http://e/a> .\n",
+        "0 ok +0 -0\n1 ok +1 -0\n2 ok +1 -1\n",
     ),
     (
         "",
