@@ -39,7 +39,8 @@ where_found ts x e =
     let b = bind_some (block_at r.0) (λ b. only_triple b.0 >>= λ p. Some (p, b.1)) x r.2 in
     let p = bind_some (only_triple b.0.0) (λ p. Some (p, b.0.1)) x b.2 in
     let w = keyword_found (codes "WHERE") ts r.0 r.1 in
-    subst (λ (y : Triple × List Token). ReadsWhere ts y.0 y.1) (same_Some (p.0, b.0.1) x p.2)
+    let made : Triple × List Token = (p.0, b.0.1) in
+    subst (λ (y : Triple × List Token). ReadsWhere ts y.0 y.1) {x = made} (same_Some made x p.2)
     (subst (λ (r : List Token). ReadsWhere r p.0 b.0.1) (sym w.2) (group w.1 (block_found r.0 b.0 b.1) p.1))
 
 where_again : {ts rest : List Token} {p : Triple} → ReadsWhere ts p rest → where_at ts ≡ Some (p, rest)

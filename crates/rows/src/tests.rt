@@ -49,7 +49,7 @@ fn answer_to<T: Wait>(rt: &T, alloc: Global, base: &[u8], block: &[u8], workers:
 /// A base, a block, the status, the new dataset and the replies.
 type Row = (&'static str, &'static str, u8, &'static str, &'static str);
 
-const ROWS: [Row; 18] = [
+const ROWS: [Row; 22] = [
     ("", "", 0, "", ""),
     ("", "\n", 0, "", "0 ok +0 -0\n"),
     (
@@ -140,6 +140,34 @@ const ROWS: [Row; 18] = [
     ("", "INSERT DATA { }", 0, "", "0 ok +0 -0\n"),
     ("", ";", 0, "", "0 refused syntax\n"),
     ("#@graph <http://e/g>\n", "", 3, "", ""),
+    (
+        "<http://e/a> <http://e/p> <http://e/b> .\n<http://e/c> <http://e/p> <http://e/d> .\n",
+        "DELETE DATA { <http://e/a> <http://e/p> <http://e/b> , <http://e/c> }\n----\nDELETE { ?s <http://e/p> ?o } INSERT { $o <http://e/q> $s } WHERE { ?s <http://e/p> ?o }",
+        0,
+        "<http://e/d> <http://e/q> <http://e/c> .\n",
+        "0 ok +0 -1\n1 ok +1 -1\n",
+    ),
+    (
+        "<http://e/a> <http://e/p> <http://e/b> .\n",
+        "PREFIX e: <http://e/> INSERT { ?s e:q ?none . ?s a ?o } WHERE { ?s e:p ?o }",
+        0,
+        "<http://e/a> <http://e/p> <http://e/b> .\n<http://e/a> <http://www.w3.org/1999/02/22-rdf-syntax-ns#type> <http://e/b> .\n",
+        "0 ok +1 -0\n",
+    ),
+    (
+        "<http://e/a> <http://e/a> <http://e/b> .\n<http://e/b> <http://e/b> <http://e/b> .\n",
+        "delete { ?x ?x ?y } where { ?x ?x ?y } ; delete { ?x ?x ?x } where { ?x ?x ?x }",
+        0,
+        "",
+        "0 ok +0 -2\n",
+    ),
+    (
+        "",
+        "DELETE WHERE { ?s ?p ?o }\n----\nINSERT { ?s ?p ?o } WHERE { ?s ?p ?o . ?o ?p ?s }\n----\nINSERT { ?s ?p ?o } WHERE { }",
+        0,
+        "",
+        "0 refused syntax\n1 refused syntax\n2 refused syntax\n",
+    ),
 ];
 
 fn is_as_expected(answer: &Answer, status: u8, dataset: &str, replies: &str) -> bool {
