@@ -8,7 +8,6 @@ ghost use Rattle.reads.specs.Reads.{View, Read as Reading, Answer, IsDataset};
 ghost use Rattle.reads.specs.Runs.{Agrees, IsSoundFor};
 ghost use Rattle.eval.specs.Goes.{Goes, AllMay, AllAllowed};
 ghost use Rattle.update.specs.Asked.{IsShort, operations_of};
-ghost use Rattle.update.specs.Changed.{difference};
 ghost use Rattle.update.specs.Executed.{IsLeastFor};
 
 use crate::Request;
@@ -137,7 +136,7 @@ pub fn execute<'a, S: Source>(
 }
 
 impl<'a> Execution<'a> {
-    /// The finished run.
+    /// The finished run of the request.
     pub fn finished(&self) -> &Finished
         ensures finished { result.now ≡ self.now.finished }
         ensures sound { IsSoundFor (answer_of (numbers self.now.terms) self.now.place self.now.request) result.now }

@@ -6,7 +6,7 @@ ghost use Rattle.meaning.specs.Effect.{effect_of};
 ghost use Rattle.meaning.specs.Near.{is_near};
 ghost use Rattle.meaning.specs.Solutions.{solutions};
 ghost use Rattle.meaning.specs.declared.update.Operation.TheVariants as operation;
-ghost use Rattle.reads.specs.Reads.{View, Read as Reading, applied, IsDataset};
+ghost use Rattle.reads.specs.Reads.{View, Read as Reading, applied};
 ghost use Rattle.reads.specs.Runs.{Agrees};
 ghost use Rattle.eval.specs.Goes.{Goes};
 ghost use Rattle.update.specs.Asked.{IsWithin};

@@ -1,5 +1,5 @@
 //! The operations of a request, in order.
-ghost use Rattle.std.specs.Prelude.{◌≡◌, ◌<◌, ◌^◌, length, Bool, true, IfOk, IsOk};
+ghost use Rattle.std.specs.Prelude.{◌≡◌, ◌<◌, ◌^◌, length, Bool, true, IfOk};
 ghost use Rattle.datasets.specs.Id.{id_order};
 ghost use Rattle.dict.specs.Dictionary.{numbers};
 ghost use Rattle.meaning.specs.Effect.{effect_of};
