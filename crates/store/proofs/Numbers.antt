@@ -19,7 +19,7 @@ use Rattle.datasets.specs.Id.{id_order, id_total, id_exact, quad_total, quad_exa
 use Rattle.dict.specs.Dictionary.{IsDictionary, term_of, is_known, written, numbers}
 use Rattle.meaning.specs.Run.{Request}
 use Rattle.meaning_laws.specs.Renaming.{IsRenaming, renamed, renamed_quad, renamed_request, quad_known, dataset_known, request_known}
-use Rattle.meaning_laws.proofs.Renames.{all-set_of, map-set_of, has-map, quad-order, map-names_of, all-names_of}
+use Rattle.meaning_laws.proofs.RenamedSets.{all-set_of, map-set_of, has-map, quad-order, map-names_of, all-names_of}
 use Rattle.store.specs.Numbered.{IsNumbered}
 
 -- a member of a list of known values is known
