@@ -55,6 +55,9 @@ module _ (runs : RunsAreLongest) where
   gap_is : (text rest : List ℕ) → Gap text rest → Stops is_blank rest → rest_of is_blank text ≡ rest
   gap_is text rest g stop = ((runs is_blank text g.blanks rest).1 (record { cut = g.cut; all = g.each; stops = stop })).1
 
+  gap_to_stop : (text rest : List ℕ) → stop_at (rest_of is_blank text) ≡ Some rest → Gap text (46 ∷ rest)
+  gap_to_stop text rest e = subst (λ (r : List ℕ). Gap text r) (stop_found (rest_of is_blank text) rest e) (gap_found text)
+
   -- ---- ends
 
   ends_found : (text : List ℕ) → ends text ≡ true → Ends text
@@ -89,7 +92,7 @@ module _ (runs : RunsAreLongest) where
         let g = cond_some (ends z.0) (iri_line s.0.0 p.0.0 o.0.0) said z.2 in
         subst (λ (said : Line). Says line said) g.1
         (triple (gap_found line) ((read (sk line) s.0.0 s.0.1).0 s.1) (gap_found s.0.1) ((read (sk s.0.1) p.0.0 p.0.1).0 p.1)
-        (gap_found p.0.1) ((read (sk p.0.1) o.0.0 o.0.1).0 o.1) (subst (λ r. Gap o.0.1 r) (stop_found (sk o.0.1) z.0 z.1) (gap_found o.0.1)) (ends_found z.0 g.0))
+        (gap_found p.0.1) ((read (sk p.0.1) o.0.0 o.0.1).0 o.1) (gap_to_stop o.0.1 z.0 z.1) (ends_found z.0 g.0))
 
     -- an IRI behind blanks is read
     iri_next : (a b i c : List ℕ) → Gap a b → IriAt b i c → iri_at (rest_of is_blank a) ≡ Some (i, c)
