@@ -1,9 +1,9 @@
 -- Members of a set, by their places.
-use Rattle.std.specs.Prelude.{not, ◌||◌, filter, cond, slice_get, IfSome, IfNone, is_some}
+use Rattle.std.specs.Prelude.{not, ◌||◌, cond, slice_get, IfSome, IfNone, is_some}
 use Rattle.std.specs.Ordering.{is_eq, eq_by_cmp}
 use Rattle.std.specs.Cmp.{tied_itself}
 use Rattle.std.proofs.lemmas.Bool.{or_right}
-use Rattle.std.proofs.Common.{◌≡◌, ℕ, zero, suc, Bool, true, false, List, [], ◌∷◌, Option, Some, None, refl, sym, ap, ◌∙◌}
+use Rattle.std.proofs.Common.{◌≡◌, ℕ, zero, suc, true, false, List, [], ◌∷◌, Option, Some, None, refl, sym, ap, ◌∙◌}
 use Rattle.sets.specs.Sets.{has, set_of, without}
 use Rattle.sets.proofs.SetLaws.{has-set_of}
 use Rattle.datasets.specs.declared.id.Id.{Id}
