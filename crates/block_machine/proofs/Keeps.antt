@@ -209,10 +209,10 @@ keeps_committed slots clock front hints named latest next k s whole i still can 
     let more : suc i ≡ front + 1 = omega (arith, here) in
     let latest_is : max latest (slot_at slots i).changed ≡ next = sym (e ∙ ap (λ (w : Slot). max latest w.changed) was) in
     let done =
-      keeps_commit slots i hints named latest (subst (λ n. KeepsLower slots n hints named latest) here k) x lt
-      (ap (λ (w : Slot). w.delta) made ∙ committed-delta (slot_at slots i) (slot_at slots i).status)
-      (ap (λ (w : Slot). w.changed) made ∙ committed-changed (slot_at slots i) (slot_at slots i).status)
-      (ap (λ (w : Slot). is_closed (Some w.status)) made ∙ committed-closed (slot_at slots i) (slot_at slots i).status q.0) in
+    keeps_commit slots i hints named latest (subst (λ n. KeepsLower slots n hints named latest) here k) x lt
+    (ap (λ (w : Slot). w.delta) made ∙ committed-delta (slot_at slots i) (slot_at slots i).status)
+    (ap (λ (w : Slot). w.changed) made ∙ committed-changed (slot_at slots i) (slot_at slots i).status)
+    (ap (λ (w : Slot). is_closed (Some w.status)) made ∙ committed-closed (slot_at slots i) (slot_at slots i).status q.0) in
     subst (λ n. KeepsLower (slice_set slots i x) (front + 1) hints named n) latest_is
     (subst (λ n. KeepsLower (slice_set slots i x) n hints named (max latest (slot_at slots i).changed)) more done)
 

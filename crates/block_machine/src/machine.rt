@@ -6,9 +6,9 @@ ghost use Rattle.block_machine.specs.Serial.{replies_to};
 ghost use Rattle.block_machine.specs.Lower.{Leads, stands_after};
 ghost use Rattle.block_machine.specs.Machine.{fresh, view_at, slot_at, note_now, note_of, can_commit, transcript_of, CheckVerdict, NextNamesAnswer, NoteVerdict, NoteReply, verdict_reply, status_of, is_closed as closed, HasNext, IsReady, IsPlain, IsAllowed, after};
 
+use crate::candidates::candidates_for;
 use crate::state::{Event, Noted, Pass, Reply, Slot, Status};
 use crate::validate::{self, Verdict};
-use crate::candidates::candidates_for;
 use crate::version_overlay::{answer_before, blocker, touching, view_before};
 use crate::{candidates, incarnations, slot};
 use datasets::{Id, Read};

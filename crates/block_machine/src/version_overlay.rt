@@ -101,12 +101,7 @@ pub fn blocker(slots: &[Slot], list: &[usize], i: usize, read: &Read<Id>) -> Opt
 }
 
 // The request of this slot, if it is an estimate whose delta covers the read.
-fn blocker_or(
-    slot: &Slot,
-    request: usize,
-    read: &Read<Id>,
-    found: Option<usize>,
-) -> Option<usize>
+fn blocker_or(slot: &Slot, request: usize, read: &Read<Id>, found: Option<usize>) -> Option<usize>
     ensures { result ≡ (if slot.now.estimate && covers slot.now.delta read.now then Some request else found) }
 {
     if slot.estimate && slot.delta.covers(read) {

@@ -11,10 +11,10 @@ use crate::lists::{
     copied_names, copied_quads, has_name, has_names, names_union, names_without, quads_union,
     quads_without,
 };
-use quad_index::matching::{is_any_matching, matching};
 use crate::same::{same_names, same_quads};
 use crate::view::View;
 use datasets::{Id, Quad, QuadPattern, Read};
+use quad_index::matching::{is_any_matching, matching};
 use sets::set_of;
 use std::alloc::{AllocError, Global};
 use std::marker::Model;

@@ -8,8 +8,8 @@ ghost use Rattle.reads.specs.Reads.{says, IsDataset};
 
 use crate::answered::Answered;
 use crate::lists::{copied_names, copied_quads, has_name, name_if};
-use quad_index::matching::matching;
 use datasets::{Answer, Id, Quad, QuadPattern, Read};
+use quad_index::matching::matching;
 use quad_index::search::part_of_set;
 use sets::set_of;
 use std::alloc::{AllocError, Global};
