@@ -1,17 +1,22 @@
 -- What a pattern matches begins as the pattern does, as far as its places are bound in an order.
+use Rattle.std.specs.List.{list_any}
+use Rattle.std.specs.Cmp.{IsTotalOrder, tied_itself}
+use Rattle.std.specs.Cmp.Lexicographic.{options_total}
+use Rattle.sets.specs.Sets.{has}
+use Rattle.sets.proofs.SetLaws.{exact_by}
 use Rattle.std.specs.Prelude.{Bool, filter, ◌&&◌, ◌||◌, Option, Some, None}
 use Rattle.std.proofs.Common.{◌≡◌, true, false, cond, List, [], ◌∷◌, refl, sym, ap, ◌∙◌}
-use Rattle.std.proofs.lemmas.Bool.{false≢true, and_parts}
+use Rattle.std.proofs.lemmas.Bool.{false≢true, and_parts, and_from}
 use Rattle.std.specs.declared.cmp.Ordering.{Ordering}
 use Rattle.std.specs.declared.cmp.Ordering.TheVariants.{Less, Equal, Greater}
-use Rattle.std.specs.Ordering.{ordering_then, is_eq}
+use Rattle.std.specs.Ordering.{ordering_then, is_eq, eq_by_cmp}
 use Rattle.datasets.specs.declared.id.Id.{Id}
 use Rattle.datasets.specs.declared.quad.Quad.{Quad}
 use Rattle.datasets.specs.declared.read.GraphPlace.{GraphPlace}
 use Rattle.datasets.specs.declared.read.GraphPlace.TheVariants.{Any, Only}
 use Rattle.datasets.specs.declared.read.QuadPattern.{QuadPattern}
-use Rattle.datasets.specs.Dataset.{matches, free_or, in_place}
-use Rattle.datasets.specs.Id.{id_order}
+use Rattle.datasets.specs.Dataset.{quad_order, matches, free_or, in_place}
+use Rattle.datasets.specs.Id.{id_order, id_total, id_exact, quad_total, quad_exact}
 use Rattle.quad_index.specs.declared.key.Key.{Key}
 use Rattle.quad_index.specs.declared.key.Bounds.{Bounds}
 use Rattle.quad_index.specs.declared.key.Arrangement.{Arrangement}
@@ -80,3 +85,29 @@ filter_in p t h (x ∷ xs) = passing p (t x) (p x) x (filter t xs) xs refl (h x)
 pub part_has_all : {E : Type 0} (quad : E → Quad Id) (a : Arrangement) (pattern : QuadPattern Id) (p : E → Bool) → ((e : E) → p e ≡ true → matches id_order pattern (quad e) ≡ true) → (xs : List E)
     → filter p (filter (λ e. is_sought (bounds_of a pattern) (key_of a (quad e))) xs) ≡ filter p xs
 part_has_all quad a pattern p h xs = filter_in p _ (λ e f. sought a pattern (quad e) (h e f)) xs
+
+-- ---- tests that a filter's parts share
+
+kept_head : {A : Type 0} (p : A → Bool) (b : Bool) (x : A) (xs : List A) → p x ≡ b → list_any p xs ≡ list_any p (filter p xs) → (p x || list_any p xs) ≡ list_any p (cond b (x ∷ filter p xs) (filter p xs))
+kept_head p true x xs e h = ap (λ b. p x || b) h
+kept_head p false x xs e h = ap (λ b. b || list_any p xs) e ∙ h
+
+any-kept : {A : Type 0} (p : A → Bool) (xs : List A) → list_any p xs ≡ list_any p (filter p xs)
+any-kept p [] = refl
+any-kept p (x ∷ xs) = kept_head p (p x) x xs refl (any-kept p xs)
+
+pub any_by_part : {A : Type 0} (p : A → Bool) (xs ys : List A) → filter p xs ≡ filter p ys → list_any p xs ≡ list_any p ys
+any_by_part p xs ys e = any-kept p xs ∙ ap (list_any p) e ∙ sym (any-kept p ys)
+
+-- the pattern of one quad
+abbrev pub pattern_of : Quad Id → QuadPattern Id
+pattern_of q = record { subject = Some q.subject; predicate = Some q.predicate; object = Some q.object; graph = Only q.graph }
+
+itself : (q : Quad Id) → matches id_order (pattern_of q) q ≡ true
+itself q =
+    let term : (x : Id) → free_or id_order (Some x) x ≡ true = λ x. ap is_eq (tied_itself id_total x) in
+    let graph : in_place id_order (Only q.graph) q.graph ≡ true = ap is_eq (tied_itself (options_total id_total) q.graph) in
+    and_from _ _ (term q.subject) (and_from _ _ (term q.predicate) (and_from _ _ (term q.object) graph))
+
+pub tied_matches : (q e : Quad Id) → eq_by_cmp (quad_order id_order) q e ≡ true → matches id_order (pattern_of q) e ≡ true
+tied_matches q e h = ap (matches id_order (pattern_of q)) (sym (exact_by (quad_total id_total) (quad_exact id_order id_exact) q e h)) ∙ itself q

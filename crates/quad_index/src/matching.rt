@@ -1,9 +1,11 @@
 //! Which quads a pattern matches.
 ghost use Rattle.std.specs.Prelude.{◌≡◌, IfOk, filter, ◌&&◌};
 ghost use Rattle.std.specs.List.{list_any};
+ghost use Rattle.std.specs.List.Sorted.{IsStrictlySortedBy};
 ghost use Rattle.datasets.specs.Id.{id_order};
-ghost use Rattle.datasets.specs.Dataset.{matches as the_matches, free_or, in_place};
+ghost use Rattle.datasets.specs.Dataset.{quad_order, matches as the_matches, free_or, in_place};
 
+use crate::search::part_of_set;
 use datasets::{GraphPlace, Id, Quad, QuadPattern};
 use std::alloc::{AllocError, Global};
 
@@ -55,4 +57,12 @@ pub fn is_any_matching(quads: &[Quad<Id>], pattern: &QuadPattern<Id>) -> bool
     ensures { result ≡ list_any (the_matches id_order pattern.now) quads.now }
 {
     quads.iter().any(|quad| matches(pattern, quad))
+}
+
+/// Whether any quad of a set matches.
+pub fn is_any_in_set(quads: &[Quad<Id>], pattern: &QuadPattern<Id>) -> bool
+    requires { IsStrictlySortedBy (quad_order id_order) quads.now }
+    ensures { result ≡ list_any (the_matches id_order pattern.now) quads.now }
+{
+    is_any_matching(part_of_set(quads, pattern), pattern)
 }

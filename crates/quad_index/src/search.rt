@@ -3,6 +3,7 @@ ghost use Rattle.std.specs.Prelude.{◌≡◌, ◌≤◌, Bool, filter, slice_ra
 ghost use Rattle.std.specs.List.{AllWithin};
 ghost use Rattle.std.specs.List.Sorted.{IsSortedByKey, IsStrictlySortedBy};
 ghost use Rattle.std.specs.Ordering.{is_eq};
+ghost use Rattle.sets.specs.Sets.{has};
 ghost use Rattle.datasets.specs.Id.{id_order};
 ghost use Rattle.datasets.specs.Dataset.{quad_order, matches};
 ghost use Rattle.datasets.specs.declared.id.Id.{Id as Number};
@@ -10,7 +11,7 @@ ghost use Rattle.datasets.specs.declared.quad.Quad.{Quad as Spoken};
 ghost use Rattle.quad_index.specs.Keys.{key_order, key_of, order_at, is_before as the_is_before};
 
 use crate::key::{Arrangement, Depth, Key};
-use datasets::{Id, Quad, QuadPattern};
+use datasets::{GraphPlace, Id, Quad, QuadPattern};
 use std::cmp::Ordering;
 
 /// What has a quad.
@@ -110,4 +111,18 @@ pub fn part_of_set<'a>(quads: &'a [Quad<Id>], pattern: &QuadPattern<Id>) -> &'a 
     ensures { filter (matches id_order pattern.now) result.now ≡ filter (matches id_order pattern.now) quads.now }
 {
     part_for(quads, Arrangement::Spog, pattern)
+}
+
+/// Of a set of quads, a part that has this one if the set does.
+pub fn part_at<'a>(quads: &'a [Quad<Id>], quad: &Quad<Id>) -> &'a [Quad<Id>]
+    requires { IsStrictlySortedBy (quad_order id_order) quads.now }
+    ensures { has (quad_order id_order) result.now quad.now ≡ has (quad_order id_order) quads.now quad.now }
+{
+    let pattern = QuadPattern {
+        subject: Some(quad.subject),
+        predicate: Some(quad.predicate),
+        object: Some(quad.object),
+        graph: GraphPlace::Only(quad.graph),
+    };
+    part_for(quads, Arrangement::Spog, &pattern)
 }

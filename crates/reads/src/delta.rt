@@ -14,7 +14,8 @@ use crate::lists::{
 use crate::same::{same_names, same_quads};
 use crate::view::View;
 use datasets::{Id, Quad, QuadPattern, Read};
-use quad_index::matching::{is_any_matching, matching};
+use quad_index::matching::{is_any_in_set, matching};
+use quad_index::part_of_set;
 use sets::set_of;
 use std::alloc::{AllocError, Global};
 use std::marker::Model;
@@ -35,6 +36,11 @@ impl Model for Delta {
     ghost Value = { Change Id };
 
     ghost view = { λ d. record { present = d.present.items; absent = d.absent.items; there = d.there.items; gone = d.gone.items } };
+
+    ghost use Rattle.datasets.specs.Id.{id_order};
+    ghost use Rattle.change_laws.specs.Laws.{IsRising};
+
+    ghost invariant = { λ d. IsRising id_order (record { quads = d.present.items; names = d.there.items }) × IsRising id_order (record { quads = d.absent.items; names = d.gone.items }) };
 }
 
 impl Delta {
@@ -105,7 +111,7 @@ impl Delta {
     {
         match read {
             Read::Scan(pattern) => {
-                is_any_matching(&self.present, pattern) || is_any_matching(&self.absent, pattern)
+                is_any_in_set(&self.present, pattern) || is_any_in_set(&self.absent, pattern)
             }
             Read::GraphIs(name) => has_name(&self.there, name) || has_name(&self.gone, name),
             Read::Graphs => has_names(&self.there) || has_names(&self.gone),
@@ -116,8 +122,8 @@ impl Delta {
     fn matching_part(&self, alloc: Global, pattern: &QuadPattern<Id>) -> Result<Delta, AllocError>
         ensures { IfOk result (λ part. part ≡ record { present = filter (matches id_order pattern.now) self.now.present; absent = filter (matches id_order pattern.now) self.now.absent; there = []; gone = [] }) }
     {
-        let present = matching(alloc, pattern, &self.present)?;
-        let absent = matching(alloc, pattern, &self.absent)?;
+        let present = matching(alloc, pattern, part_of_set(&self.present, pattern))?;
+        let absent = matching(alloc, pattern, part_of_set(&self.absent, pattern))?;
         Ok(Delta {
             present,
             absent,

@@ -1,11 +1,13 @@
 //! Lists of quads and of graph names as sets: members, differences, unions, copies.
 ghost use Rattle.std.specs.Prelude.{◌≡◌, ◌++◌, ◌∷◌, [], IfOk, filter, not, true, if◌then◌else◌};
 ghost use Rattle.std.specs.List.{list_any};
+ghost use Rattle.std.specs.List.Sorted.{IsStrictlySortedBy};
 ghost use Rattle.sets.specs.Sets.{has, without, union};
 ghost use Rattle.datasets.specs.Id.{id_order};
 ghost use Rattle.datasets.specs.Dataset.{quad_order};
 
 use datasets::{Id, Quad};
+use quad_index::search::part_at;
 use sets::set_of;
 use std::alloc::{AllocError, Global};
 
@@ -14,6 +16,14 @@ pub fn has_quad(quads: &[Quad<Id>], quad: &Quad<Id>) -> bool
     ensures { result ≡ has (quad_order id_order) quads.now quad.now }
 {
     quads.iter().any(|other| quad.cmp(other).is_eq())
+}
+
+/// Whether the quad is one of a set's.
+pub fn is_in_set(quads: &[Quad<Id>], quad: &Quad<Id>) -> bool
+    requires { IsStrictlySortedBy (quad_order id_order) quads.now }
+    ensures { result ≡ has (quad_order id_order) quads.now quad.now }
+{
+    has_quad(part_at(quads, quad), quad)
 }
 
 /// Whether the name is one of these.
@@ -55,11 +65,12 @@ pub fn name_if(alloc: Global, so: bool, name: &Id) -> Result<Vec<Id>, AllocError
     Ok(names)
 }
 
-/// The quads that are none of the others.
+/// The quads that are none of a set's.
 pub fn quads_without(mut quads: Vec<Quad<Id>>, others: &[Quad<Id>]) -> Vec<Quad<Id>>
+    requires { IsStrictlySortedBy (quad_order id_order) others.now }
     ensures { result.items ≡ without (quad_order id_order) quads.items others.now }
 {
-    quads.retain(|quad| !has_quad(others, quad));
+    quads.retain(|quad| !is_in_set(others, quad));
     quads
 }
 

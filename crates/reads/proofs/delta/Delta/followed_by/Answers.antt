@@ -1,9 +1,10 @@
-use Rattle.std.proofs.Common.{◌≡◌, ◌∙◌}
+use Rattle.std.proofs.Common.{◌≡◌, ◌∙◌, ◌++◌}
 use Rattle.sets.specs.Sets.{without, union}
 use Rattle.datasets.specs.Id.{id_order}
 use Rattle.datasets.specs.Dataset.{quad_order}
 use Rattle.reads.specs.Reads.{Delta, applied}
 use Rattle.reads.proofs.Composed.{composed}
+use Rattle.reads.proofs.Rising.{rises-sets}
 use Rattle.reads.proofs.delta.Delta.followed_by.Goals as goal
 
 pub returns : goal.returns
@@ -22,3 +23,9 @@ returns c d =
     (c.in_ok-names_union-2.ensures ∙ (λ i. union id_order s.gone.items (c.in_ok-more_gone.ensures i)) ∙ (λ i. union id_order s.gone.items (c.deref-4.ensures.value i)))
     d
     ∙ (λ i. applied (c.later.view_is i) (applied (c.self.view_is i) d))
+
+pub invariant_of-result : goal.invariant_of-result
+invariant_of-result c = (
+  rises-sets _ _ (c.quads_without.result.items ++ c.in_ok-more_present.more_present.items) (c.names_without.result.items ++ c.in_ok-more_there.more_there.items) c.in_ok-quads_union.ensures c.in_ok-names_union.ensures,
+  rises-sets _ _ (c.self.inside.absent.items ++ c.in_ok-more_absent.more_absent.items) (c.self.inside.gone.items ++ c.in_ok-more_gone.more_gone.items) c.in_ok-quads_union-2.ensures c.in_ok-names_union-2.ensures,
+)
