@@ -1,4 +1,3 @@
-pub mod Notes
 pub mod Maps
 pub mod Seen
 pub mod Replacing

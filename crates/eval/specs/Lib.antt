@@ -1,3 +1,2 @@
-pub mod Goes
 pub mod Changes
 pub mod Scans

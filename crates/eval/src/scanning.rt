@@ -7,7 +7,7 @@ ghost use Rattle.datasets.specs.declared.quad.Quad.{Quad as QuadOf};
 ghost use Rattle.datasets.specs.declared.read.Read.TheVariants.{Scan};
 ghost use Rattle.reads.specs.Reads.{View, Read as Reading, applied, told_quads};
 ghost use Rattle.reads.specs.Runs.{Agrees};
-ghost use Rattle.eval.specs.Goes.{Goes};
+ghost use Rattle.asking.specs.Goes.{Goes};
 
 use crate::changes::quads_after;
 use datasets::{Id, Quad, QuadPattern, Read};

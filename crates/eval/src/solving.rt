@@ -5,7 +5,7 @@ ghost use Rattle.meaning.specs.Mapping.{empty_mapping};
 ghost use Rattle.meaning.specs.Solutions.{solutions};
 ghost use Rattle.reads.specs.Reads.{View, applied};
 ghost use Rattle.reads.specs.Runs.{Agrees};
-ghost use Rattle.eval.specs.Goes.{Goes};
+ghost use Rattle.asking.specs.Goes.{Goes};
 ghost use Rattle.eval.specs.Scans.{scan_of as the_scan_of, term_of as the_term_of, is_for_plan};
 
 use crate::scanning::scan;

@@ -12,7 +12,7 @@ use Rattle.meaning_laws.proofs.Answers.{answers_with_datasets}
 use Rattle.reads.specs.Reads.{View, Delta, IsDataset, applied}
 use Rattle.reads.specs.Runs.{Agrees, IsSoundFor}
 use Rattle.reads.specs.declared.note.Note.{Note}
-use Rattle.eval.specs.Goes.{AllAllowed}
+use Rattle.asking.specs.Goes.{AllAllowed}
 use Rattle.update.specs.Asked.{operations_of}
 use Rattle.update.specs.Executed.{IsExecuted, IsLeastFor}
 use Rattle.update.proofs.Differences.{difference_leads}

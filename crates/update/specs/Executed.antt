@@ -10,7 +10,7 @@ use Rattle.reads.specs.Reads.{View, Delta, IsDataset}
 use Rattle.reads.specs.Runs.{Agrees, IsSoundFor}
 use Rattle.reads.specs.declared.finished.Finished.{Finished}
 use Rattle.reads.specs.declared.note.Note.{Note}
-use Rattle.eval.specs.Goes.{AllAllowed}
+use Rattle.asking.specs.Goes.{AllAllowed}
 use Rattle.terms.specs.declared.term.Term.{Term}
 use Rattle.update.specs.Asked.{operations_of}
 use Rattle.update.specs.Changed.{difference}

@@ -6,7 +6,7 @@ ghost use Rattle.meaning.specs.Near.{is_near_request};
 ghost use Rattle.meaning.specs.Run.{answer_of};
 ghost use Rattle.reads.specs.Reads.{View, Read as Reading, Answer, IsDataset};
 ghost use Rattle.reads.specs.Runs.{Agrees, IsSoundFor};
-ghost use Rattle.eval.specs.Goes.{Goes, AllMay, AllAllowed};
+ghost use Rattle.asking.specs.Goes.{Goes, AllMay, AllAllowed};
 ghost use Rattle.update.specs.Asked.{IsShort, operations_of};
 ghost use Rattle.update.specs.Executed.{IsLeastFor};
 

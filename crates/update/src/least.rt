@@ -2,7 +2,7 @@
 ghost use Rattle.std.specs.Prelude.{◌≡◌, [], Bool, IfOk};
 ghost use Rattle.reads.specs.Reads.{View, Read as Reading, applied, IsDataset};
 ghost use Rattle.reads.specs.Runs.{Agrees};
-ghost use Rattle.eval.specs.Goes.{Goes};
+ghost use Rattle.asking.specs.Goes.{Goes};
 ghost use Rattle.update.specs.Asked.{IsWithin};
 ghost use Rattle.update.specs.Changed.{difference};
 

@@ -8,7 +8,7 @@ ghost use Rattle.meaning.specs.Solutions.{solutions};
 ghost use Rattle.meaning.specs.declared.update.Operation.TheVariants as operation;
 ghost use Rattle.reads.specs.Reads.{View, Read as Reading, applied};
 ghost use Rattle.reads.specs.Runs.{Agrees};
-ghost use Rattle.eval.specs.Goes.{Goes};
+ghost use Rattle.asking.specs.Goes.{Goes};
 ghost use Rattle.update.specs.Asked.{IsWithin};
 ghost use Rattle.update.specs.Changed.{changed};
 

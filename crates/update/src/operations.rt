@@ -7,7 +7,7 @@ ghost use Rattle.meaning.specs.Near.{is_near, is_near_request};
 ghost use Rattle.meaning.specs.Run.{performed};
 ghost use Rattle.reads.specs.Reads.{View, Read as Reading, applied, IsDataset};
 ghost use Rattle.reads.specs.Runs.{Agrees};
-ghost use Rattle.eval.specs.Goes.{Goes};
+ghost use Rattle.asking.specs.Goes.{Goes};
 ghost use Rattle.update.specs.Asked.{IsWithin};
 ghost use Rattle.update.specs.Changed.{changed};
 ghost use Rattle.update.specs.Failures.{performed_so, modification_of as the_modification_of};
@@ -38,7 +38,7 @@ fn modification_of(operation: &Operation<Id>) -> &Modify<Id>
 fn perform_one<S: Source>(
     alloc: Global,
     dict: &Dict,
-    request: u32,
+    place: u32,
     op: u32,
     operation: &Operation<Id>,
     changes: &Delta,
@@ -47,14 +47,14 @@ fn perform_one<S: Source>(
 ) -> Result<Result<Delta, Cause>, Stop>
     ensures about { S.subject source.new ≡ S.subject source.old }
     ensures goes { Goes (is_near id_order operation.now) (S.may source.old) (S.may source.new) notes.old.items notes.new.items }
-    ensures effect { IfOk result (λ outcome. (d : View) → Agrees notes.new.items d → changed d outcome ≡ effect_of (numbers dict.now) request op operation.now (applied changes.now d)) }
+    ensures effect { IfOk result (λ outcome. (d : View) → Agrees notes.new.items d → changed d outcome ≡ effect_of (numbers dict.now) place op operation.now (applied changes.now d)) }
     ensures within { (allowed : Reading → Bool) → ((r : Reading) → is_near id_order operation.now r ≡ true → allowed r ≡ true) → IsWithin allowed changes.now → IfOk result (λ outcome. IfOk outcome (λ change. IsWithin allowed change)) }
 {
     let modification = modification_of(operation);
     modify(
         alloc,
         dict,
-        request,
+        place,
         op,
         modification,
         changes,
@@ -67,7 +67,7 @@ fn perform_one<S: Source>(
 pub fn perform<S: Source>(
     alloc: Global,
     dict: &Dict,
-    request: u32,
+    place: u32,
     operations: &[Operation<Id>],
     source: &mut S,
     notes: &mut Vec<Note>,
@@ -75,13 +75,13 @@ pub fn perform<S: Source>(
     requires { length operations.now < 2 ^ 32 }
     ensures about { S.subject source.new ≡ S.subject source.old }
     ensures goes { Goes (is_near_request id_order operations.now) (S.may source.old) (S.may source.new) notes.old.items notes.new.items }
-    ensures effect { IfOk result (λ outcome. (d : View) → IsDataset d → Agrees notes.new.items d → performed_so d outcome ≡ performed (numbers dict.now) request 0 operations.now d) }
+    ensures effect { IfOk result (λ outcome. (d : View) → IsDataset d → Agrees notes.new.items d → performed_so d outcome ≡ performed (numbers dict.now) place 0 operations.now d) }
     ensures within { IfOk result (λ outcome. IfOk outcome (λ change. IsWithin (is_near_request id_order operations.now) change)) }
 {
     let mut changes = Delta::new(alloc);
     let mut op: u32 = 0;
     for operation in operations {
-        match perform_one(alloc, dict, request, op, operation, &changes, source, notes)? {
+        match perform_one(alloc, dict, place, op, operation, &changes, source, notes)? {
             Ok(next) => changes = next,
             Err(cause) => {
                 return Ok(Err(Failed {

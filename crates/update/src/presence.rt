@@ -7,7 +7,7 @@ ghost use Rattle.datasets.specs.declared.read.Read.TheVariants as read;
 ghost use Rattle.reads.specs.Reads.{View, Read as Reading};
 ghost use Rattle.reads.specs.Runs.{Agrees};
 ghost use Rattle.reads.specs.Same.{bool_eq};
-ghost use Rattle.eval.specs.Goes.{Goes};
+ghost use Rattle.asking.specs.Goes.{Goes};
 ghost use Rattle.update.specs.Asked.{scan_for as the_scan_for, has_quads as the_has_quads, has_name as the_has_name, AskedQuads, AskedNames};
 
 use datasets::{GraphPlace, Id, Quad, QuadPattern, Read};

@@ -1,6 +1,6 @@
 use Rattle.std.proofs.Common.{ap, ◌∙◌}
 use Rattle.reads.specs.Reads.{told_quads, says}
-use Rattle.eval.proofs.Notes.{goes_noted, told_last}
+use Rattle.asking.proofs.Notes.{goes_noted, told_last}
 use Rattle.eval.proofs.Seen.{scan_seen}
 use Rattle.eval.proofs.scanning.scan.Goals as goal
 

@@ -2,7 +2,7 @@ use Rattle.std.proofs.Common.{List, sym, subst}
 use Rattle.datasets.specs.Id.{id_order}
 use Rattle.meaning.specs.Near.{is_near_request}
 use Rattle.reads.specs.declared.note.Note.{Note}
-use Rattle.eval.specs.Goes.{AllAllowed}
+use Rattle.asking.specs.Goes.{AllAllowed}
 use Rattle.update.specs.Asked.{operations_of}
 use Rattle.update.specs.Executed.{IsExecuted}
 use Rattle.update.proofs.Executions.{executed}

@@ -6,7 +6,7 @@ use Rattle.meaning.specs.Near.{is_near_request}
 use Rattle.meaning.specs.Run.{settled}
 use Rattle.meaning.specs.declared.reply.Reply.TheVariants.{Done}
 use Rattle.reads.specs.Reads.{Delta, Read}
-use Rattle.eval.proofs.Notes.{goes_on}
+use Rattle.asking.proofs.Notes.{goes_on}
 use Rattle.update.specs.Asked.{IsWithin}
 use Rattle.update.specs.Changed.{difference}
 use Rattle.update.specs.Failures.{performed_so}

@@ -6,7 +6,7 @@ use Rattle.datasets.specs.declared.quad.Quad.{Quad}
 use Rattle.datasets.specs.Dataset.{quad_order}
 use Rattle.datasets.specs.Id.{id_order}
 use Rattle.reads.specs.Reads.{Read}
-use Rattle.eval.proofs.Notes.{goes_on}
+use Rattle.asking.proofs.Notes.{goes_on}
 use Rattle.update.specs.Asked.{scan_for, AskedQuads, AskedNames}
 use Rattle.update.proofs.Differences.{least_is}
 use Rattle.update.proofs.Members.{all-filter, always}

@@ -1,4 +1,4 @@
-use Rattle.eval.proofs.Notes.{goes_within}
+use Rattle.asking.proofs.Notes.{goes_within}
 use Rattle.update.proofs.Nearness.{plan_near}
 use Rattle.update.proofs.modify.solutions_of.Goals as goal
 

@@ -6,7 +6,7 @@ use Rattle.meaning.specs.Near.{is_near_request}
 use Rattle.meaning.specs.Run.{performed}
 use Rattle.meaning.specs.declared.reply.Cause.{Cause}
 use Rattle.reads.specs.Reads.{Delta, Read, applied}
-use Rattle.eval.proofs.Notes.{goes_on, goes_within, goes_nowhere}
+use Rattle.asking.proofs.Notes.{goes_on, goes_within, goes_nowhere}
 use Rattle.update.specs.Asked.{IsWithin}
 use Rattle.update.specs.Changed.{changed}
 use Rattle.update.proofs.Differences.{no_change_keeps}
@@ -27,7 +27,7 @@ loop-operation-init g c =
       counted = refl;
       short = c.requires;
       goes = goes_nowhere (is_near_request id_order ops) (g.S.Source.may c.args.source.now) c.args.notes.now.items;
-      effect = λ d h a. ap (λ (z : Delta). performed V c.args.request 0 ops (applied z d)) c.new-changes.ensures ∙ ap (performed V c.args.request 0 ops) (no_change_keeps d h);
+      effect = λ d h a. ap (λ (z : Delta). performed V c.args.place 0 ops (applied z d)) c.new-changes.ensures ∙ ap (performed V c.args.place 0 ops) (no_change_keeps d h);
       within = subst (IsWithin (is_near_request id_order ops)) (sym c.new-changes.ensures) (no_change_within (is_near_request id_order ops));
     }
 
@@ -46,7 +46,7 @@ loop-operation-preserved g c = record {
   short = c.loop-operation.invariant.short;
   goes = goes_on c.loop-operation.invariant.goes (goes_within (request_near c.args.operations.now c.loop-operation.operation-index c.operation-item.result c.loop-operation-test.true c.operation-item.is) c.perform_one.ensures.goes);
   effect = λ d h a.
-      performed_more (numbers c.args.dict.now) c.args.request c.args.operations.now c.loop-operation.operation-index c.loop-operation.op c.operation-item.result (applied c.loop-operation.changes d) (applied c.in-Ok.next d) _
+      performed_more (numbers c.args.dict.now) c.args.place c.args.operations.now c.loop-operation.operation-index c.loop-operation.op c.operation-item.result (applied c.loop-operation.changes d) (applied c.in-Ok.next d) _
       c.loop-operation-test.true c.operation-item.is (sym (ap (changed d) c.in-Ok.is) ∙ c.in_ok-next.ensures.effect d a) (c.loop-operation.invariant.effect d h (c.perform_one.ensures.goes.agrees d a));
   within =
       within_of (is_near_request id_order c.args.operations.now) c.in_ok-next.field-0 c.in-Ok.next c.in-Ok.is

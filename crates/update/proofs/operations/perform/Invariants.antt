@@ -5,7 +5,7 @@ use Rattle.meaning.specs.Near.{is_near_request}
 use Rattle.meaning.specs.Run.{performed}
 use Rattle.reads.specs.Reads.{View, IsDataset, applied}
 use Rattle.reads.specs.Runs.{Agrees}
-use Rattle.eval.specs.Goes.{Goes}
+use Rattle.asking.specs.Goes.{Goes}
 use Rattle.update.specs.Asked.{IsWithin}
 use Rattle.update.proofs.operations.perform.Given as goal
 
@@ -17,6 +17,6 @@ invariant-loop-operation g l = record {
   short : length l.operations < 2 ^ 32;
   goes : Goes (is_near_request id_order l.operations) (g.S.Source.may l.fn.source) (g.S.Source.may l.source) l.fn.notes.items l.notes.items;
   effect : (d : View) → IsDataset d → Agrees l.notes.items d →
-      performed (numbers l.dict) l.request l.op (drop l.operation-index l.operations) (applied l.changes d) ≡ performed (numbers l.dict) l.request 0 l.operations d;
+      performed (numbers l.dict) l.place l.op (drop l.operation-index l.operations) (applied l.changes d) ≡ performed (numbers l.dict) l.place 0 l.operations d;
   within : IsWithin (is_near_request id_order l.operations) l.changes;
 }

@@ -6,7 +6,7 @@ use Rattle.meaning.specs.Effect.{effect_of}
 use Rattle.meaning.specs.Near.{is_near}
 use Rattle.meaning.specs.declared.update.Operation.TheVariants as operation
 use Rattle.reads.specs.Reads.{applied}
-use Rattle.eval.proofs.Notes.{goes_within}
+use Rattle.asking.proofs.Notes.{goes_within}
 use Rattle.update.proofs.Nearness.{modification_is}
 use Rattle.update.proofs.operations.perform_one.Goals as goal
 
@@ -18,7 +18,7 @@ returns-clause-effect g c =
     IfOk-weaker c.modify.result _ _
     (λ outcome h d a.
     h d a
-    ∙ ap (λ o. effect_of (numbers c.args.dict.now) c.args.request c.args.op o (applied c.args.changes.now d)) (ap operation.Modify c.modification_of-modification.ensures ∙ modification_is c.args.operation.now))
+    ∙ ap (λ o. effect_of (numbers c.args.dict.now) c.args.place c.args.op o (applied c.args.changes.now d)) (ap operation.Modify c.modification_of-modification.ensures ∙ modification_is c.args.operation.now))
     c.modify.ensures.effect
 
 pub returns-clause-within : goal.returns-clause-within

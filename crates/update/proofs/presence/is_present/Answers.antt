@@ -1,6 +1,6 @@
 use Rattle.std.proofs.Common.{ap, ◌∙◌}
 use Rattle.reads.specs.Reads.{says}
-use Rattle.eval.proofs.Notes.{goes_noted, told_last}
+use Rattle.asking.proofs.Notes.{goes_noted, told_last}
 use Rattle.update.specs.Asked.{has_quads}
 use Rattle.update.proofs.Told.{has_it}
 use Rattle.update.proofs.presence.is_present.Goals as goal

@@ -3,7 +3,7 @@ use Rattle.sets.specs.Sets.{has}
 use Rattle.datasets.specs.declared.read.Read.TheVariants.{GraphIs}
 use Rattle.datasets.specs.Id.{id_order}
 use Rattle.reads.specs.Same.{bool_eq}
-use Rattle.eval.proofs.Notes.{goes_on}
+use Rattle.asking.proofs.Notes.{goes_on}
 use Rattle.update.proofs.Members.{all_at, filtered_more}
 use Rattle.update.proofs.presence.names_missing.Goals as goal
 

@@ -6,7 +6,7 @@ use Rattle.datasets.specs.Id.{id_order}
 use Rattle.reads.specs.Reads.{View, Read}
 use Rattle.reads.specs.Runs.{Agrees}
 use Rattle.reads.specs.Same.{bool_eq}
-use Rattle.eval.specs.Goes.{Goes}
+use Rattle.asking.specs.Goes.{Goes}
 use Rattle.update.specs.Asked.{AskedNames}
 use Rattle.update.proofs.presence.names_missing.Given as goal
 

@@ -8,7 +8,7 @@ use Rattle.datasets.specs.Id.{id_order}
 use Rattle.reads.specs.Reads.{View, Read}
 use Rattle.reads.specs.Runs.{Agrees}
 use Rattle.reads.specs.Same.{bool_eq}
-use Rattle.eval.specs.Goes.{Goes}
+use Rattle.asking.specs.Goes.{Goes}
 use Rattle.update.specs.Asked.{AskedQuads}
 use Rattle.update.proofs.presence.quads_that.Given as goal
 

@@ -4,7 +4,7 @@ use Rattle.std.specs.List.{AllByRecursion}
 use Rattle.reads.specs.Reads.{View, Read, Answer, says}
 use Rattle.reads.specs.Runs.{Agrees}
 use Rattle.reads.specs.declared.note.Note.{Note}
-use Rattle.eval.specs.Goes.{Goes}
+use Rattle.asking.specs.Goes.{Goes}
 
 agrees_before : (ns : List Note) (n : Note) (d : View) → Agrees (ns ++ n ∷ []) d → Agrees ns d
 agrees_before [] n d a = tt
