@@ -5,11 +5,7 @@ use std::alloc::{AllocError, Global};
 
 // The graph of every second request is the default graph.
 fn graph_of(i: usize) -> Option<Id> {
-    if i % 2 == 0 {
-        None
-    } else {
-        Some(Id::Known(1))
-    }
+    if i % 2 == 0 { None } else { Some(Id::Known(1)) }
 }
 
 // A hint of each of 2,000 requests: its quad has the numbers i modulo 50, 10 and 7.

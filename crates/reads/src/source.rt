@@ -42,6 +42,7 @@ pub trait Source {
     ghost may: { Self → Reading → Answer → Type 0 };
     /// What kind of thing it is about, and what.
     ghost Subject: { Type 0 };
+
     ghost subject: { Self → Subject };
 
     /// The answer to a read. What the source may answer and what it is about stay as they are, also where it stops.

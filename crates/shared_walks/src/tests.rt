@@ -72,10 +72,7 @@ fn commits<'a>(
     let (mut pass, published) = publish(alloc, shared, topic, pass, 0)?;
     right &= matches!(&published, Reply::Published);
     right &= matches!(&shared.try_begin(alloc, &mut pass, 0, 0)?, Reply::Begun);
-    right &= matches!(
-        &shared.try_commit(alloc, &mut pass, 0)?,
-        Reply::Committed
-    );
+    right &= matches!(&shared.try_commit(alloc, &mut pass, 0)?, Reply::Committed);
     Ok(right)
 }
 
@@ -110,15 +107,9 @@ fn all_seven<'a>(
     right &= matches!(&published, Reply::Published);
     right &= matches!(&shared.try_begin(alloc, &mut pass, 0, 0)?, Reply::Begun);
     right &= matches!(&shared.try_check(alloc, &mut pass, 0, 0)?, Reply::Passed);
-    right &= matches!(
-        &shared.try_commit(alloc, &mut pass, 0)?,
-        Reply::Committed
-    );
+    right &= matches!(&shared.try_commit(alloc, &mut pass, 0)?, Reply::Committed);
     right &= matches!(&shared.try_take(alloc, &mut pass, 1)?, Reply::Taken(0));
-    right &= matches!(
-        &shared.try_give_up(alloc, &mut pass, 1, 0)?,
-        Reply::Given
-    );
+    right &= matches!(&shared.try_give_up(alloc, &mut pass, 1, 0)?, Reply::Given);
     Ok(right)
 }
 

@@ -51,16 +51,7 @@ fn perform_one<S: Source>(
     ensures within { (allowed : Reading → Bool) → ((r : Reading) → is_near id_order operation.now r ≡ true → allowed r ≡ true) → IsWithin allowed changes.now → IfOk result (λ outcome. IfOk outcome (λ change. IsWithin allowed change)) }
 {
     let modification = modification_of(operation);
-    modify(
-        alloc,
-        dict,
-        place,
-        op,
-        modification,
-        changes,
-        source,
-        notes,
-    )
+    modify(alloc, dict, place, op, modification, changes, source, notes)
 }
 
 /// The change that the operations make, each from where those before it led, or the first that fails.

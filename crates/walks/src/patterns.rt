@@ -13,9 +13,13 @@ use std::alloc::{AllocError, Global};
 use terms::Term;
 
 const A: Id = Id::Known(0);
+
 const B: Id = Id::Known(1);
+
 const C: Id = Id::Known(2);
+
 const P: Id = Id::Known(3);
+
 const Q: Id = Id::Known(4);
 
 // Five IRIs, whose numbers are 0 to 4.
@@ -156,8 +160,10 @@ fn is_whole(alloc: Global, book: &Book<'_>) -> Result<bool, AllocError> {
         object: C,
         graph: None,
     };
-    Ok(outcome.replies.as_slice() == [one, one].as_slice()
-        && outcome.dataset.quads() == [inserted, found].as_slice())
+    Ok(
+        outcome.replies.as_slice() == [one, one].as_slice()
+            && outcome.dataset.quads() == [inserted, found].as_slice(),
+    )
 }
 
 // The second request is published before the first, and checked after it.
