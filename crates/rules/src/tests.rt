@@ -16,81 +16,76 @@ fn answer(alloc: Global, text: &str) -> Result<Result<usize, Refusal>, AllocErro
     }
 }
 
-/// A text, and the number of its operations or why it is refused.
-type Case = (&'static str, Result<usize, Refusal>);
-
-const TEXTS: [Case; 29] = [
-    ("", Ok(0)),
-    (" # nothing", Ok(0)),
-    ("PREFIX ex: <http://e/>", Ok(0)),
-    ("PREFIX ex: <http://e/> INSERT DATA { ex:a a ex:C }", Ok(1)),
-    (
-        "PREFIX ex: <http://e/> INSERT DATA { ex:a A ex:C }",
-        Err(Refusal::Syntax),
-    ),
-    ("insert data { } ;", Ok(1)),
-    (
-        "insert data { } ; PREFIX : <a:> insert data { :a :b :, <b:c> ; ; . }",
-        Ok(2),
-    ),
-    ("insert data { } ; ;", Err(Refusal::Syntax)),
-    (";", Err(Refusal::Syntax)),
-    ("insert data { . }", Err(Refusal::Syntax)),
-    ("INSERT DATA { <b> <a:b> <a:b> }", Err(Refusal::Syntax)),
-    ("INSERT DATA { a:b:c <a:d> }", Err(Refusal::Prefix)),
-    (
-        "INSERT DATA { a:b a:b a:b } ; PREFIX a: <a:>",
-        Err(Refusal::Prefix),
-    ),
-    ("PREFIX:<a:> INSERT DATA { }", Err(Refusal::Syntax)),
-    ("# c\rINSERT DATA { } # }", Ok(1)),
-    ("DELETE DATA { <a:b> <a:c> <a:d> }", Ok(1)),
-    ("DELETE { ?s ?p ?o } WHERE { ?s ?p ?o }", Ok(1)),
-    (
-        "delete { $s <a:b> ?o } insert { } where { ?s <a:b> $o . } ; INSERT { ?s a ?_ } WHERE { ?s ?p_1 ?_ }",
-        Ok(2),
-    ),
-    ("DELETE { ?s ?p ?o }", Err(Refusal::Syntax)),
-    ("DELETE WHERE { ?s ?p ?o }", Err(Refusal::Syntax)),
-    ("INSERT { ?s ?p ?o } WHERE { }", Err(Refusal::Syntax)),
-    (
-        "INSERT { ?s ?p ?o } WHERE { ?s ?p ?o , ?q }",
-        Err(Refusal::Syntax),
-    ),
-    (
-        "INSERT { ?s ?p ?o } WHERE { ?s ?p ?o ; ?p ?q }",
-        Err(Refusal::Syntax),
-    ),
-    (
-        "INSERT { ?s ?p ?o } WHERE { ?s ?p ?o . ?s ?p ?q }",
-        Err(Refusal::Syntax),
-    ),
-    (
-        "INSERT { ?s ?p ?o } DELETE { ?s ?p ?o } WHERE { ?s ?p ?o }",
-        Err(Refusal::Syntax),
-    ),
-    (
-        "INSERT { ? <a:b> <a:c> } WHERE { ?s ?p ?o }",
-        Err(Refusal::Syntax),
-    ),
-    (
-        "INSERT DATA { ?s <a:b> <a:c> }",
-        Err(Refusal::VariableInData),
-    ),
-    (
-        "DELETE DATA { <a:b> <a:c> $o }",
-        Err(Refusal::VariableInData),
-    ),
-    (
-        "INSERT DATA { ?s <a:b> <a:c> } ; INSERT { x:y ?p ?o } WHERE { ?s ?p ?o }",
-        Err(Refusal::Prefix),
-    ),
-];
-
 #[test]
 fn texts(rt: HostRuntime) -> Result<(), AllocError> {
     let alloc = rt.alloc();
-    for (text, want) in &TEXTS {
+    for (text, want) in [
+        ("", Ok(0)),
+        (" # nothing", Ok(0)),
+        ("PREFIX ex: <http://e/>", Ok(0)),
+        ("PREFIX ex: <http://e/> INSERT DATA { ex:a a ex:C }", Ok(1)),
+        (
+            "PREFIX ex: <http://e/> INSERT DATA { ex:a A ex:C }",
+            Err(Refusal::Syntax),
+        ),
+        ("insert data { } ;", Ok(1)),
+        (
+            "insert data { } ; PREFIX : <a:> insert data { :a :b :, <b:c> ; ; . }",
+            Ok(2),
+        ),
+        ("insert data { } ; ;", Err(Refusal::Syntax)),
+        (";", Err(Refusal::Syntax)),
+        ("insert data { . }", Err(Refusal::Syntax)),
+        ("INSERT DATA { <b> <a:b> <a:b> }", Err(Refusal::Syntax)),
+        ("INSERT DATA { a:b:c <a:d> }", Err(Refusal::Prefix)),
+        (
+            "INSERT DATA { a:b a:b a:b } ; PREFIX a: <a:>",
+            Err(Refusal::Prefix),
+        ),
+        ("PREFIX:<a:> INSERT DATA { }", Err(Refusal::Syntax)),
+        ("# c\rINSERT DATA { } # }", Ok(1)),
+        ("DELETE DATA { <a:b> <a:c> <a:d> }", Ok(1)),
+        ("DELETE { ?s ?p ?o } WHERE { ?s ?p ?o }", Ok(1)),
+        (
+            "delete { $s <a:b> ?o } insert { } where { ?s <a:b> $o . } ; INSERT { ?s a ?_ } WHERE { ?s ?p_1 ?_ }",
+            Ok(2),
+        ),
+        ("DELETE { ?s ?p ?o }", Err(Refusal::Syntax)),
+        ("DELETE WHERE { ?s ?p ?o }", Err(Refusal::Syntax)),
+        ("INSERT { ?s ?p ?o } WHERE { }", Err(Refusal::Syntax)),
+        (
+            "INSERT { ?s ?p ?o } WHERE { ?s ?p ?o , ?q }",
+            Err(Refusal::Syntax),
+        ),
+        (
+            "INSERT { ?s ?p ?o } WHERE { ?s ?p ?o ; ?p ?q }",
+            Err(Refusal::Syntax),
+        ),
+        (
+            "INSERT { ?s ?p ?o } WHERE { ?s ?p ?o . ?s ?p ?q }",
+            Err(Refusal::Syntax),
+        ),
+        (
+            "INSERT { ?s ?p ?o } DELETE { ?s ?p ?o } WHERE { ?s ?p ?o }",
+            Err(Refusal::Syntax),
+        ),
+        (
+            "INSERT { ? <a:b> <a:c> } WHERE { ?s ?p ?o }",
+            Err(Refusal::Syntax),
+        ),
+        (
+            "INSERT DATA { ?s <a:b> <a:c> }",
+            Err(Refusal::VariableInData),
+        ),
+        (
+            "DELETE DATA { <a:b> <a:c> $o }",
+            Err(Refusal::VariableInData),
+        ),
+        (
+            "INSERT DATA { ?s <a:b> <a:c> } ; INSERT { x:y ?p ?o } WHERE { ?s ?p ?o }",
+            Err(Refusal::Prefix),
+        ),
+    ] {
         assert!(rt; answer(alloc, text)? == want);
     }
     Ok(())
