@@ -26,6 +26,11 @@ impl Source for Plain {
 
     ghost may = { λ s r a. a ≡ says r s.view };
 
+    // Nothing is asked of it beyond its answers.
+    ghost Subject = { Unit {0} };
+
+    ghost subject = { λ s. tt };
+
     fn ask(&mut self, read: &Read<Id>) -> Result<Answered, Stop> {
         Ok(self.view.answer(self.alloc, read)?)
     }
@@ -40,6 +45,10 @@ struct Liar {
 
 impl Source for Liar {
     ghost may = { λ s r a. Unit {0} };
+
+    ghost Subject = { Unit {0} };
+
+    ghost subject = { λ s. tt };
 
     fn ask(&mut self, read: &Read<Id>) -> Result<Answered, Stop> {
         if self.left == 0 {
