@@ -20,11 +20,11 @@ use store::laws::carries_block;
 use store::{Numbered, named, number};
 use terms::DataSet;
 
-/// The texts of the answer to a base and a block.
+/// The texts of the answer to a base and a block. What is not needed any more is let go before the texts are made.
 fn texts_of<T: Wait>(
     rt: &T,
     alloc: Global,
-    base: &DataSet,
+    base: DataSet,
     block: &Block,
     workers: u32,
 ) -> Result<Texts, AllocError>
@@ -32,17 +32,20 @@ fn texts_of<T: Wait>(
     requires most { workers ≤ 64 }
     requires few { length block.now ≤ 4096 }
     requires short { AreShort block.now }
-    ensures { IfOk result (λ texts. IsAnswerTo base.now block.now texts.dataset.items (string_bytes texts.replies)) }
+    ensures { IfOk result (λ texts. IsAnswerTo base block.now texts.dataset.items (string_bytes texts.replies)) }
 {
     carries_block();
-    let _quads = base.quads();
-    let numbered = number(alloc, base, block)?;
-    let outcome = outcome_of(rt, alloc, &numbered, workers)?;
-    let answer = named(alloc, &numbered.terms, &outcome.dataset)?;
-    let tag = tag(alloc, base)?;
+    let _parts = base.parts();
+    let tag = tag(alloc, &base)?;
+    let numbered = number(alloc, &base, block)?;
+    drop(base);
+    let Outcome { dataset, replies } = outcome_of(rt, alloc, &numbered, workers)?;
+    let answer = named(alloc, &numbered.terms, &dataset)?;
+    drop(numbered);
+    drop(dataset);
     Ok(Texts {
         dataset: canonical_text(alloc, &answer, tag)?,
-        replies: replies_text(alloc, outcome.replies.as_slice())?,
+        replies: replies_text(alloc, replies.as_slice())?,
     })
 }
 
@@ -95,7 +98,7 @@ pub fn run_engine<T: Wait, B: Read, K: Read, D: Write, A: Write>(
 {
     let read = read_base(alloc, base)?;
     let requests = read_block(alloc, block)?;
-    match texts_of(rt, alloc, &read, &requests, workers) {
+    match texts_of(rt, alloc, read, &requests, workers) {
         Ok(texts) => write_texts(&texts, dataset, replies),
         Err(_) => Err(Fault::Memory),
     }

@@ -50,6 +50,14 @@ impl Dict {
         self.terms.len()
     }
 
+    /// Its terms, each once and in their order: the number of a term is its place here.
+    pub fn terms(&self) -> &[Term]
+        ensures terms { result.now ≡ self.now }
+        ensures form { IsDictionary self.now }
+    {
+        self.terms.as_slice()
+    }
+
     /// The number of a term, or nothing where the dictionary lacks it. It takes no memory.
     pub fn id_of(&self, term: &Term) -> Option<Id>
         ensures known { IfSome result (λ id. is_known self.now id ≡ true) }

@@ -1,3 +1,4 @@
 pub mod Runs
 pub mod Iri
 pub mod Bracketed
+pub mod Forms

@@ -28,7 +28,8 @@ fn is_scheme_byte(b: u8) -> bool
     b.is_ascii_alphanumeric() || matches!(b, b'+' | b'-' | b'.')
 }
 
-fn is_iri_byte(b: u8) -> bool
+/// Whether an IRI may hold this byte after its scheme (RDF 1.1 N-Quads, production 8, without its escapes).
+pub fn is_iri_byte(b: u8) -> bool
     ensures { result ≡ is_iri_byte b }
 {
     b > b' '

@@ -9,4 +9,4 @@ pub mod iri;
 pub mod laws;
 
 pub use bracketed::{front_iri, is_utf8};
-pub use iri::{Iri, is_iri};
+pub use iri::{Iri, is_iri, is_iri_byte};

@@ -1,42 +1,28 @@
 -- Reading the lines gives the dataset that they spell, or the first bad one.
-use Rattle.std.proofs.Common.{◌≡◌, ℕ, ◌+◌, List, [], ◌∷◌, ◌++◌, length, Option, Some, None, Result, Ok, Err, refl, sym, ap, ◌∙◌, subst, arith, append_assoc}
+use Rattle.std.proofs.Common.{◌≡◌, ℕ, ◌+◌, List, [], ◌∷◌, ◌++◌, length, Some, None, Result, Ok, Err, refl, sym, ap, ◌∙◌, subst, arith, append_assoc}
 use Rattle.std.proofs.lemmas.List.{append-nil}
 use Rattle.std.specs.Prelude.{IfOk, IsErrOf}
 use Rattle.std.specs.Option.{option_map_or}
 use Rattle.std.specs.Option.{option_to_list}
 use Rattle.datasets.specs.declared.quad.Quad.{Quad}
-use Rattle.datasets.specs.Dataset.{Dataset, names_of}
+use Rattle.sets.specs.Sets.{set_of}
+use Rattle.datasets.specs.Dataset.{Dataset, quad_order}
 use Rattle.terms.specs.declared.term.Term.{Term}
+use Rattle.terms.specs.Term.{term_order}
 use Rattle.terms.specs.DataSet.{dataset_of, ListsGrowAsDatasets}
 use Rattle.nquads.specs.declared.stop.Line.{Line}
-use Rattle.nquads.specs.declared.stop.Line.TheVariants.{Nothing, Statement}
+use Rattle.nquads.specs.declared.stop.Line.TheVariants.{Nothing, Graph, Statement}
 use Rattle.nquads.specs.declared.fault.BaseFault.{BaseFault}
 use Rattle.nquads.specs.declared.fault.BaseFault.TheVariants as fault
 use Rattle.nquads.specs.Lines.{lines}
 use Rattle.nquads.specs.Line.{IsLine}
 use Rattle.nquads.specs.Reading.{line_of, LinesAreRead}
-use Rattle.nquads.specs.Spelled.{AreLines, none, more, stated, Spells, IsBad, IsFirstBad}
+use Rattle.nquads.specs.Spelled.{AreLines, none, more, stated, declared, Spells, IsBad, IsFirstBad}
 use Rattle.nquads.specs.Whole.{keep, read_from, no_quads, Faults, Reads}
 
-names_step : (q : Quad Term) (front : List (Quad Term)) (last : Quad Term) → names_of (front ++ last ∷ []) ≡ names_of front ++ option_to_list last.graph → (n : Option Term) → q.graph ≡ n
-    → names_of ((q ∷ front) ++ last ∷ []) ≡ names_of (q ∷ front) ++ option_to_list last.graph
-names_step q front last h None e = rw e h
-names_step q front last h (Some g) e = rw e (ap (λ (t : List Term). g ∷ t) h)
-
-names_last : (q : Quad Term) (n : Option Term) → q.graph ≡ n → names_of (q ∷ []) ≡ option_to_list q.graph
-names_last q None e = rw e refl
-names_last q (Some g) e = rw e refl
-
-names_of-push : (front : List (Quad Term)) (q : Quad Term) → names_of (front ++ q ∷ []) ≡ names_of front ++ option_to_list q.graph
-names_of-push [] q = names_last q q.graph refl
-names_of-push (x ∷ front) q = names_step x front q (names_of-push front q) x.graph refl
-
-abbrev of : List (Quad Term) → Dataset Term
-of qs = dataset_of qs (names_of qs)
-
--- what the lines say, read after some quads
-abbrev Found : List (List ℕ) → List (Quad Term) → Dataset Term → Type 0
-Found ls front d = (said : List Line) × AreLines ls said × (d ≡ of (front ++ stated said))
+-- what the lines say, read after some quads and names
+abbrev Found : List (List ℕ) → List (Quad Term) → List Term → Dataset Term → Type 0
+Found ls front names d = (said : List Line) × AreLines ls said × (d ≡ dataset_of (front ++ stated said) (names ++ declared said))
 
 done : Dataset Term → Result (Dataset Term) ℕ
 done d = Ok d
@@ -111,41 +97,59 @@ module _ (read : LinesAreRead) where
   -- ---- and by that of adding
 
   module _ (grows : ListsGrowAsDatasets) where
-    kept : (front : List (Quad Term)) (q : Quad Term) → keep (of front) (Statement q) ≡ of (front ++ q ∷ [])
-    kept front q = sym (grows front (names_of front) q) ∙ ap (dataset_of (front ++ q ∷ [])) (sym (names_of-push front q))
+    kept : (front : List (Quad Term)) (names : List Term) (q : Quad Term) → keep (dataset_of front names) (Statement q) ≡ dataset_of (front ++ q ∷ []) (names ++ option_to_list q.graph)
+    kept front names q = sym (grows front names q)
 
-    line_then : (l : List ℕ) (ls : List (List ℕ)) (front : List (Quad Term)) (n : ℕ) (d : Dataset Term) (said : Line)
-        → ((front : List (Quad Term)) → read_from (of front) (n + 1) ls ≡ Ok d → Found ls front d)
-        → IsLine l said → read_from (keep (of front) said) (n + 1) ls ≡ Ok d → Found (l ∷ ls) front d
-    line_then l ls front n d Nothing later is h = let r = later front h in (Nothing ∷ r.0, more is r.1, r.2)
-    line_then l ls front n d (Statement q) later is h =
-        let r = later (front ++ q ∷ []) (ap (λ x. read_from x (n + 1) ls) (sym (kept front q)) ∙ h) in
-        (Statement q ∷ r.0, more is r.1, r.2 ∙ ap of (append_assoc front (q ∷ []) (stated r.0)))
+    -- a name is put in as that of a quad's graph is
+    declared_too : (front : List (Quad Term)) (names : List Term) (g : Term) → keep (dataset_of front names) (Graph g) ≡ dataset_of front (names ++ g ∷ [])
+    declared_too front names g =
+        let more : Dataset Term → Dataset Term = λ d. record { quads = set_of (quad_order term_order) front; names = d.names } in
+        sym (ap more (grows front names (record { subject = g; predicate = g; object = g; graph = Some g })))
 
-    lines_found : (ls : List (List ℕ)) (front : List (Quad Term)) (n : ℕ) (d : Dataset Term) → read_from (of front) n ls ≡ Ok d → Found ls front d
+    line_then : (l : List ℕ) (ls : List (List ℕ)) (front : List (Quad Term)) (names : List Term) (n : ℕ) (d : Dataset Term) (said : Line)
+        → ((front : List (Quad Term)) (names : List Term) → read_from (dataset_of front names) (n + 1) ls ≡ Ok d → Found ls front names d)
+        → IsLine l said → read_from (keep (dataset_of front names) said) (n + 1) ls ≡ Ok d → Found (l ∷ ls) front names d
+    line_then l ls front names n d Nothing later is h = let r = later front names h in (Nothing ∷ r.0, more is r.1, r.2)
+    line_then l ls front names n d (Graph g) later is h =
+        let r = later front (names ++ g ∷ []) (ap (λ x. read_from x (n + 1) ls) (sym (declared_too front names g)) ∙ h) in
+        (Graph g ∷ r.0, more is r.1, r.2 ∙ ap (dataset_of (front ++ stated r.0)) (append_assoc names (g ∷ []) (declared r.0)))
+    line_then l ls front names n d (Statement q) later is h =
+        let r = later (front ++ q ∷ []) (names ++ option_to_list q.graph) (ap (λ x. read_from x (n + 1) ls) (sym (kept front names q)) ∙ h) in
+        (Statement q ∷ r.0, more is r.1, r.2 ∙ (λ i. dataset_of (append_assoc front (q ∷ []) (stated r.0) i) (append_assoc names (option_to_list q.graph) (declared r.0) i)))
+
+    lines_found : (ls : List (List ℕ)) (front : List (Quad Term)) (names : List Term) (n : ℕ) (d : Dataset Term) → read_from (dataset_of front names) n ls ≡ Ok d → Found ls front names d
     unfolding done
-    lines_found [] front n d e = ([], none, sym (ok_is (of front) d e) ∙ ap of (sym (append-nil front)))
-    lines_found (l ∷ ls) front n d e =
-        elim (line_of l) as (λ o. line_of l ≡ o → option_map_or (λ said. read_from (keep (of front) said) (n + 1) ls) o (Err (n + 1)) ≡ Ok d → Found (l ∷ ls) front d) [
+    lines_found [] front names n d e = ([], none, sym (ok_is (dataset_of front names) d e) ∙ (λ i. dataset_of (sym (append-nil front) i) (sym (append-nil names) i)))
+    lines_found (l ∷ ls) front names n d e =
+        elim (line_of l) as (λ o. line_of l ≡ o → option_map_or (λ said. read_from (keep (dataset_of front names) said) (n + 1) ls) o (Err (n + 1)) ≡ Ok d → Found (l ∷ ls) front names d) [
           | None ↦ λ o h. absurd cc
-          | Some said ↦ λ o h. line_then l ls front n d said (λ front e. lines_found ls front (n + 1) d e) ((read l said).0 o) h
+          | Some said ↦ λ o h. line_then l ls front names n d said (λ front names e. lines_found ls front names (n + 1) d e) ((read l said).0 o) h
         ] refl e
 
     pub whole_found : (text : List ℕ) (d : Dataset Term) → read_from no_quads 0 (lines text) ≡ Ok d → Spells text d
     whole_found text d e =
-        let r = lines_found (lines text) [] 0 d e in
+        let r = lines_found (lines text) [] [] 0 d e in
         record { said = r.0; each = r.1; quads = ap (λ (x : Dataset Term). x.quads) r.2; names = ap (λ (x : Dataset Term). x.names) r.2 }
 
-    lines_again : {ls : List (List ℕ)} {said : List Line} (front : List (Quad Term)) (n : ℕ) → AreLines ls said → read_from (of front) n ls ≡ Ok (of (front ++ stated said))
-    lines_again front n none = ap (λ (qs : List (Quad Term)). let r : Result (Dataset Term) ℕ = Ok (of qs) in r) (sym (append-nil front))
-    lines_again front n (more {line = l} {said = Nothing} {later = ls} is others) = rw ((read l Nothing).1 is) (lines_again front (n + 1) others)
-    lines_again front n (more {line = l} {said = Statement q} {later = ls} {rest = rest} is others) =
-        rw ((read l (Statement q)).1 is, kept front q) (lines_again (front ++ q ∷ []) (n + 1) others ∙ ap (λ (qs : List (Quad Term)). let r : Result (Dataset Term) ℕ = Ok (of qs) in r) (append_assoc front (q ∷ []) (stated rest)))
+    abbrev Done : List (Quad Term) → List Term → Result (Dataset Term) ℕ
+    Done qs ns = Ok (dataset_of qs ns)
+
+    lines_again : {ls : List (List ℕ)} {said : List Line} (front : List (Quad Term)) (names : List Term) (n : ℕ) → AreLines ls said
+        → read_from (dataset_of front names) n ls ≡ Ok (dataset_of (front ++ stated said) (names ++ declared said))
+    lines_again front names n none = λ i. Done (sym (append-nil front) i) (sym (append-nil names) i)
+    lines_again front names n (more {line = l} {said = Nothing} {later = ls} is others) = rw ((read l Nothing).1 is) (lines_again front names (n + 1) others)
+    lines_again front names n (more {line = l} {said = Graph g} {later = ls} {rest = rest} is others) =
+        rw ((read l (Graph g)).1 is)
+        (ap (λ x. read_from x (n + 1) ls) (declared_too front names g) ∙ lines_again front (names ++ g ∷ []) (n + 1) others ∙ ap (Done (front ++ stated rest)) (append_assoc names (g ∷ []) (declared rest)))
+    lines_again front names n (more {line = l} {said = Statement q} {later = ls} {rest = rest} is others) =
+        rw ((read l (Statement q)).1 is)
+        (ap (λ x. read_from x (n + 1) ls) (kept front names q) ∙ lines_again (front ++ q ∷ []) (names ++ option_to_list q.graph) (n + 1) others
+        ∙ (λ i. Done (append_assoc front (q ∷ []) (stated rest) i) (append_assoc names (option_to_list q.graph) (declared rest) i)))
 
     whole_again : (text : List ℕ) (d : Dataset Term) → Spells text d → read_from no_quads 0 (lines text) ≡ Ok d
     whole_again text d is =
-        let same : of (stated is.said) ≡ d = λ i. record { quads = sym is.quads i; names = sym is.names i } in
-        lines_again [] 0 is.each ∙ ap (λ (x : Dataset Term). let r : Result (Dataset Term) ℕ = Ok x in r) same
+        let same : dataset_of (stated is.said) (declared is.said) ≡ d = λ i. record { quads = sym is.quads i; names = sym is.names i } in
+        lines_again [] [] 0 is.each ∙ ap (λ (x : Dataset Term). let r : Result (Dataset Term) ℕ = Ok x in r) same
 
     pub one_dataset : (text : List ℕ) (d e : Dataset Term) → Spells text d → Spells text e → d ≡ e
     unfolding done

@@ -1,12 +1,13 @@
 -- Which dataset a text spells.
 use Rattle.std.specs.Prelude.{ℕ, ◌≡◌, ◌+◌, List, [], ◌∷◌, ◌++◌, length}
+use Rattle.std.specs.Option.{option_to_list}
 use Rattle.sets.specs.Sets.{set_of}
 use Rattle.datasets.specs.declared.quad.Quad.{Quad}
-use Rattle.datasets.specs.Dataset.{Dataset, quad_order, names_of}
+use Rattle.datasets.specs.Dataset.{Dataset, quad_order}
 use Rattle.terms.specs.declared.term.Term.{Term}
 use Rattle.terms.specs.Term.{term_order}
 use Rattle.nquads.specs.declared.stop.Line.{Line}
-use Rattle.nquads.specs.declared.stop.Line.TheVariants.{Nothing, Statement}
+use Rattle.nquads.specs.declared.stop.Line.TheVariants.{Nothing, Graph, Statement}
 use Rattle.nquads.specs.Lines.{lines}
 use Rattle.nquads.specs.Line.{IsLine}
 
@@ -19,14 +20,22 @@ pub data AreLines : List (List ℕ) → List Line → Type 0 where
 abbrev pub stated : List Line → List (Quad Term)
 stated [] = []
 stated (Nothing ∷ rest) = stated rest
+stated (Graph name ∷ rest) = stated rest
 stated (Statement q ∷ rest) = q ∷ stated rest
 
--- the dataset has the statements' quads and their graphs, and no others
+-- the graphs of the statements and those of the graph lines
+abbrev pub declared : List Line → List Term
+declared [] = []
+declared (Nothing ∷ rest) = declared rest
+declared (Graph name ∷ rest) = name ∷ declared rest
+declared (Statement q ∷ rest) = option_to_list q.graph ++ declared rest
+
+-- the dataset has the statements' quads, their graphs and those of the graph lines, and no others
 pub record Spells (text : List ℕ) (d : Dataset Term) : Type 0 where
   pub said : List Line
   pub each : AreLines (lines text) said
   pub quads : d.quads ≡ set_of (quad_order term_order) (stated said)
-  pub names : d.names ≡ set_of term_order (names_of (stated said))
+  pub names : d.names ≡ set_of term_order (declared said)
 
 -- the line says nothing that a line may say
 abbrev pub IsBad : List ℕ → Type 0

@@ -3,9 +3,9 @@ use Rattle.std.specs.Prelude.{ℕ, ◌≡◌, ◌+◌, List, [], ◌∷◌, Opti
 use Rattle.std.specs.Option.{option_map_or}
 use Rattle.datasets.specs.Dataset.{Dataset}
 use Rattle.terms.specs.declared.term.Term.{Term}
-use Rattle.terms.specs.DataSet.{with_quad}
+use Rattle.terms.specs.DataSet.{with_quad, with_graph}
 use Rattle.nquads.specs.declared.stop.Line.{Line}
-use Rattle.nquads.specs.declared.stop.Line.TheVariants.{Nothing, Statement}
+use Rattle.nquads.specs.declared.stop.Line.TheVariants.{Nothing, Graph, Statement}
 use Rattle.nquads.specs.declared.fault.BaseFault.{BaseFault}
 use Rattle.nquads.specs.declared.fault.BaseFault.TheVariants as fault
 use Rattle.nquads.specs.Reading.{line_of}
@@ -13,6 +13,7 @@ use Rattle.nquads.specs.Reading.{line_of}
 -- the dataset with what a line says
 abbrev pub keep : Dataset Term → Line → Dataset Term
 keep d Nothing = d
+keep d (Graph name) = with_graph name d
 keep d (Statement q) = with_quad q d
 
 -- the dataset, or the number of the first bad line, where n lines were read before

@@ -32,7 +32,7 @@ pub fn front_of<R: Read>(
     ensures count { reader.new.failures ≡ (if is_device result then reader.old.failures + 1 else reader.old.failures) }
 {
     let mut bytes = Vec::new(alloc);
-    let mut buffer = [0u8; 4096];
+    let mut buffer = [0u8; 65_536];
     while bytes.len() <= limit {
         let count = reader.read(&mut buffer)?;
         if count == 0 {

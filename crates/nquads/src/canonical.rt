@@ -1,175 +1,131 @@
 //! The canonical text of a dataset.
-ghost use Rattle.std.specs.Prelude.{◌≡◌, ◌++◌, ℕ, map, filter, IfOk, OnOk, refl};
-ghost use Rattle.std.specs.List.{flat_map, list_any};
-ghost use Rattle.std.specs.Ordering.{eq_by_cmp, as_partial_cmp};
-ghost use Rattle.std.specs.Cmp.{eq_by_cmp_equiv, partial_equiv_from_equiv, partial_order_from_total};
-ghost use Rattle.terms.specs.Term.{text_cmp};
-ghost use Rattle.terms.specs.DataSet.{in_named};
-ghost use Rattle.terms.specs.TermLaws.{text_total, text_exact};
-ghost use Rattle.nquads.specs.Canonical.{graph_text, quad_text, graph_line, is_empty_graph, ended, canonical as canonical_of};
+ghost use Rattle.std.specs.Prelude.{◌≡◌, ◌++◌, ◌||◌, ℕ, true, not, map, filter, nat_eq, IfOk, OnOk};
+ghost use Rattle.std.specs.List.{flat_map, list_any, list_all};
+ghost use Rattle.std.specs.HashSet.{contains};
+ghost use Rattle.terms.specs.Canonical.{term_text};
+ghost use Rattle.terms.specs.Placed.{is_within, is_name_within, is_quad_within};
+ghost use Rattle.nquads.specs.Canonical.{ended, canonical as canonical_of};
+ghost use Rattle.nquads.specs.Placed.{text_at, graph_text_at, quad_text_at, graph_line_at, is_name_at, is_in_at};
 
+use crate::text_line::TextLine;
 use datasets::Quad;
-use sets::{Exact, set_of};
+use sets::set_of;
 use std::alloc::{AllocError, Global};
-use std::cmp::Ordering;
-use std::marker::Model;
+use std::collections::HashSet;
 use terms::laws::{quads_name_their_graphs, sets_pass_alike};
-use terms::{DataSet, Term, canonical};
+use terms::{DataSet, Term, term_text};
 
-/// A line of a canonical text, without its end. Contracts see its bytes, and lines are ordered by them.
-#[derive(Drop)]
-struct TextLine {
-    bytes: Vec<u8>,
-}
-
-impl Model for TextLine {
-    ghost use Rattle.std.specs.Prelude.{List, ℕ};
-
-    ghost Value = { List ℕ };
-
-    ghost view = { λ a. a.bytes.items };
-}
-
-impl TextLine {
-    fn as_slice(&self) -> &[u8]
-        ensures { result.now ≡ self.now }
-    {
-        self.bytes.as_slice()
+/// The texts of terms, each made once.
+fn texts_of(alloc: Global, terms: &[Term], tag: u32) -> Result<Vec<TextLine>, AllocError>
+    ensures { IfOk result (λ texts. texts.items ≡ map (term_text tag) terms.now) }
+{
+    let mut texts = Vec::new(alloc);
+    for term in terms {
+        texts.push(TextLine::new(term_text(alloc, term, tag)?))?;
     }
+    Ok(texts)
 }
 
-impl PartialEq for TextLine {
-    ghost eq = { eq_by_cmp text_cmp };
-
-    ghost laws = { partial_equiv_from_equiv (eq_by_cmp_equiv text_total) };
-
-    fn eq(&self, other: &TextLine) -> bool {
-        self.cmp(other).is_eq()
-    }
-}
-
-impl Eq for TextLine {
-    ghost laws = { eq_by_cmp_equiv text_total };
-}
-
-impl PartialOrd for TextLine {
-    ghost partial_cmp = { as_partial_cmp text_cmp };
-
-    ghost laws = { partial_order_from_total text_total };
-
-    fn partial_cmp(&self, other: &TextLine) -> Option<Ordering> {
-        Some(self.cmp(other))
-    }
-}
-
-impl Ord for TextLine {
-    ghost cmp = { text_cmp };
-
-    ghost total = { text_total };
-
-    ghost matches_partial_cmp = { λ x y. refl };
-
-    ghost matches_eq = { λ x y. refl };
-
-    fn cmp(&self, other: &TextLine) -> Ordering {
-        self.as_slice().cmp(other.as_slice())
-    }
-}
-
-impl Exact for TextLine {
-    ghost exact = { text_exact };
+/// Adds the text of the term at a place.
+fn push_term(bytes: &mut Vec<u8>, texts: &[TextLine], place: u32) -> Result<(), AllocError>
+    requires { is_within texts.now place ≡ true }
+    ensures { OnOk result (bytes.new.items ≡ bytes.old.items ++ text_at texts.now place) }
+{
+    bytes.extend_from_slice(texts[place as usize].as_slice())
 }
 
 /// Adds the place of the graph in a quad's line.
-fn push_graph(
-    alloc: Global,
-    graph: &Option<Term>,
-    tag: u32,
-    bytes: &mut Vec<u8>,
-) -> Result<(), AllocError>
-    ensures { OnOk result (bytes.new.items ≡ bytes.old.items ++ graph_text tag graph.now) }
+fn push_graph(bytes: &mut Vec<u8>, texts: &[TextLine], graph: Option<u32>) -> Result<(), AllocError>
+    requires { is_name_within texts.now graph ≡ true }
+    ensures { OnOk result (bytes.new.items ≡ bytes.old.items ++ graph_text_at texts.now graph) }
 {
     match graph {
         None => Ok(()),
         Some(name) => {
             bytes.extend_from_slice(b" ")?;
-            canonical(alloc, name, tag, bytes)
+            push_term(bytes, texts, name)
         }
     }
 }
 
 /// The line of a quad.
-fn quad_line(alloc: Global, quad: &Quad<Term>, tag: u32) -> Result<TextLine, AllocError>
-    ensures { IfOk result (λ line. line ≡ quad_text tag quad.now) }
+fn quad_line(alloc: Global, texts: &[TextLine], quad: &Quad<u32>) -> Result<TextLine, AllocError>
+    requires { is_quad_within texts.now quad.now ≡ true }
+    ensures { IfOk result (λ line. line ≡ quad_text_at texts.now quad.now) }
 {
     let mut bytes = Vec::new(alloc);
-    canonical(alloc, &quad.subject, tag, &mut bytes)?;
+    push_term(&mut bytes, texts, quad.subject)?;
     bytes.extend_from_slice(b" ")?;
-    canonical(alloc, &quad.predicate, tag, &mut bytes)?;
+    push_term(&mut bytes, texts, quad.predicate)?;
     bytes.extend_from_slice(b" ")?;
-    canonical(alloc, &quad.object, tag, &mut bytes)?;
-    push_graph(alloc, &quad.graph, tag, &mut bytes)?;
+    push_term(&mut bytes, texts, quad.object)?;
+    push_graph(&mut bytes, texts, quad.graph)?;
     bytes.extend_from_slice(b" .")?;
-    Ok(TextLine { bytes })
+    Ok(TextLine::new(bytes))
 }
 
-fn quad_lines(alloc: Global, quads: &[Quad<Term>], tag: u32) -> Result<Vec<TextLine>, AllocError>
-    ensures { IfOk result (λ lines. lines.items ≡ map (quad_text tag) quads.now) }
+fn quad_lines(
+    alloc: Global,
+    texts: &[TextLine],
+    quads: &[Quad<u32>],
+) -> Result<Vec<TextLine>, AllocError>
+    requires { list_all (is_quad_within texts.now) quads.now ≡ true }
+    ensures { IfOk result (λ lines. lines.items ≡ map (quad_text_at texts.now) quads.now) }
 {
     let mut lines = Vec::new(alloc);
+    lines.reserve(quads.len())?;
     for quad in quads {
-        lines.push(quad_line(alloc, quad, tag)?)?;
+        lines.push(quad_line(alloc, texts, quad)?)?;
     }
     Ok(lines)
 }
 
 /// The line that declares a graph.
-fn graph_line(alloc: Global, name: &Term, tag: u32) -> Result<TextLine, AllocError>
-    ensures { IfOk result (λ line. line ≡ graph_line tag name.now) }
+fn graph_line(alloc: Global, texts: &[TextLine], name: u32) -> Result<TextLine, AllocError>
+    requires { is_within texts.now name ≡ true }
+    ensures { IfOk result (λ line. line ≡ graph_line_at texts.now name) }
 {
     let mut bytes = Vec::new(alloc);
     bytes.extend_from_slice(b"#@graph ")?;
-    canonical(alloc, name, tag, &mut bytes)?;
-    Ok(TextLine { bytes })
+    push_term(&mut bytes, texts, name)?;
+    Ok(TextLine::new(bytes))
 }
 
-/// Whether a quad is in the graph of this name.
-fn is_in(quad: &Quad<Term>, name: &Term) -> bool
-    ensures { result ≡ in_named name.now quad.now }
+/// Puts in the name of a quad's graph.
+fn add_graph(graphs: &mut HashSet<u32>, graph: Option<u32>) -> Result<(), AllocError>
+    ensures { OnOk result ((name : ℕ) → contains nat_eq graphs.new name ≡ (is_name_at name graph || contains nat_eq graphs.old name)) }
 {
-    match &quad.graph {
-        None => false,
-        Some(graph) => name == graph,
+    if let Some(name) = graph {
+        graphs.insert(name)?;
     }
+    Ok(())
 }
 
-fn has_quads(quads: &[Quad<Term>], name: &Term) -> bool
-    ensures { result ≡ list_any (in_named name.now) quads.now }
+/// The names of the graphs that have a quad.
+fn full_graphs(alloc: Global, quads: &[Quad<u32>]) -> Result<HashSet<u32>, AllocError>
+    ensures { IfOk result (λ graphs. (name : ℕ) → contains nat_eq graphs name ≡ list_any (is_in_at name) quads.now) }
 {
-    quads.iter().any(|quad| is_in(quad, name))
-}
-
-/// Whether a graph has no quad.
-fn is_empty_graph(quads: &[Quad<Term>], name: &Term) -> bool
-    ensures { result ≡ is_empty_graph quads.now name.now }
-{
-    quads_name_their_graphs();
-    !has_quads(quads, name)
+    let mut graphs = HashSet::new(alloc);
+    for quad in quads {
+        add_graph(&mut graphs, quad.graph)?;
+    }
+    Ok(graphs)
 }
 
 /// Adds the lines of the graphs that have no quad.
 fn push_graph_lines(
     alloc: Global,
     lines: &mut Vec<TextLine>,
-    quads: &[Quad<Term>],
-    names: &[Term],
-    tag: u32,
+    texts: &[TextLine],
+    names: &[u32],
+    full: &HashSet<u32>,
 ) -> Result<(), AllocError>
-    ensures { OnOk result (lines.new.items ≡ lines.old.items ++ map (graph_line tag) (filter (is_empty_graph quads.now) names.now)) }
+    requires { list_all (is_within texts.now) names.now ≡ true }
+    ensures { OnOk result (lines.new.items ≡ lines.old.items ++ map (graph_line_at texts.now) (filter (λ name. not (contains nat_eq full.now name)) names.now)) }
 {
     for name in names {
-        if is_empty_graph(quads, name) {
-            lines.push(graph_line(alloc, name, tag)?)?;
+        if !full.contains(name) {
+            lines.push(graph_line(alloc, texts, *name)?)?;
         }
     }
     Ok(())
@@ -193,9 +149,11 @@ pub fn canonical_text(alloc: Global, dataset: &DataSet, tag: u32) -> Result<Vec<
 {
     sets_pass_alike();
     quads_name_their_graphs();
-    let quads = dataset.quads();
-    let mut lines = quad_lines(alloc, quads, tag)?;
-    push_graph_lines(alloc, &mut lines, quads, dataset.names(), tag)?;
+    let parts = dataset.parts();
+    let texts = texts_of(alloc, parts.terms, tag)?;
+    let full = full_graphs(alloc, parts.quads)?;
+    let mut lines = quad_lines(alloc, texts.as_slice(), parts.quads)?;
+    push_graph_lines(alloc, &mut lines, texts.as_slice(), parts.names, &full)?;
     let text = joined(alloc, set_of(lines).as_slice())?;
     Ok(text)
 }

@@ -7,7 +7,7 @@ ghost use Rattle.nquads.specs.Lines.{lines, is_inner};
 ghost use Rattle.nquads.specs.Reading.{LinesAreRead};
 ghost use Rattle.nquads.specs.Spelled.{Spells, IsFirstBad};
 
-use iris::laws::{iris_are_read, runs_are_longest};
+use iris::laws::runs_are_longest;
 use terms::laws::lists_grow_as_datasets;
 
 /// Bytes without a line end, and an LF after them, are the first line of a text.
@@ -22,7 +22,6 @@ pub fn lines_are_read()
     ensures { LinesAreRead }
 {
     runs_are_longest();
-    iris_are_read();
 }
 
 /// A text spells at most one dataset.

@@ -1,15 +1,17 @@
 //! What a line says, read from left to right.
-ghost use Rattle.std.specs.Prelude.{◌≡◌, ◌≤◌, length, nat_eq};
+ghost use Rattle.std.specs.Prelude.{◌≡◌, ◌≤◌, length, drop, nat_eq, true, false, MatchOption};
+ghost use Rattle.std.specs.Str.{is_utf8};
 ghost use Rattle.std.specs.List.{prefix_len, starts_with};
 ghost use Rattle.iris.specs.Runs.{rest_of};
 ghost use Rattle.nquads.specs.Line.{is_blank, graph_mark};
-ghost use Rattle.nquads.specs.Reading.{Gives, stop_at, triple_at, ends, line_of};
-ghost use Rattle.iris.specs.Bracketed.{iri_at};
+ghost use Rattle.nquads.specs.Reading.{Gives, ends, graph_at, statement_at, is_empty, declared_at, line_of};
 
+use crate::escapes::after;
+use crate::forms::{begins_with, object_at, subject_at};
+use crate::quoted::iri_at;
 use crate::stop::{Line, Stop};
 use datasets::Quad;
 use iris::laws::run_by_length;
-use iris::{Iri, is_utf8};
 use std::alloc::Global;
 use terms::Term;
 
@@ -27,69 +29,99 @@ fn blank_len(text: &[u8]) -> usize
 }
 
 /// What follows the blanks at the front of a text.
-fn skip_blanks(text: &[u8]) -> &[u8]
+#[tactic(auto, using(crate::proofs::CutLaws::blank_cut))]
+fn skip_blanks(text: &str) -> &str
     ensures { result.now ≡ rest_of is_blank text.now }
 {
     run_by_length();
-    let (_, rest) = text.split_at(blank_len(text));
+    let (_, rest) = text.split_at(blank_len(text.as_bytes()));
     rest
-}
-
-/// The IRI in angle brackets at the front of a text, and what follows it.
-fn iri_at(alloc: Global, text: &[u8]) -> Result<(Iri, &[u8]), Stop>
-    ensures { Gives (λ x. (x.0, x.1.now)) result (iri_at text.now) }
-{
-    match Iri::at_front(alloc, text)? {
-        Some(found) => Ok(found),
-        None => Err(Stop::Bad),
-    }
-}
-
-/// What follows the full stop at the front of a text.
-#[tactic(auto, unfolding(crate::specs::Reading::stop_at))]
-fn stop_at(text: &[u8]) -> Result<&[u8], Stop>
-    ensures { Gives (λ x. x.now) result (stop_at text.now) }
-{
-    match text {
-        [b'.', rest @ ..] => Ok(rest),
-        _ => Err(Stop::Bad),
-    }
 }
 
 /// Whether nothing more than blanks and a comment stands in a text.
 #[tactic(auto, unfolding(crate::specs::Reading::ends))]
-fn ends(text: &[u8]) -> bool
+fn ends(text: &str) -> bool
     ensures { result ≡ ends text.now }
 {
-    match skip_blanks(text) {
+    match skip_blanks(text).as_bytes() {
         [] => true,
         [first, ..] => *first == b'#',
     }
 }
 
-#[tactic(auto, unfolding(crate::specs::Reading::triple_at))]
-fn triple_at(alloc: Global, line: &[u8]) -> Result<Line, Stop>
-    ensures { Gives (λ x. x) result (triple_at line.now) }
+/// The graph of a statement, if it names one, and what follows it and its blanks.
+#[tactic(auto, unfolding(crate::specs::Reading::graph_at))]
+fn graph_at(alloc: Global, text: &str) -> Result<(Option<Term>, &str), Stop>
+    ensures { Gives (λ x. (x.0, x.1.now)) result (graph_at text.now) }
 {
-    let (subject, rest) = iri_at(alloc, skip_blanks(line))?;
-    let (predicate, rest) = iri_at(alloc, skip_blanks(rest))?;
-    let (object, rest) = iri_at(alloc, skip_blanks(rest))?;
-    let rest = stop_at(skip_blanks(rest))?;
-    if !ends(rest) {
-        return Err(Stop::Bad);
+    if !begins_with(text, b'<') {
+        return Ok((None, text));
     }
-    Ok(Line::Statement(Quad {
-        subject: Term::Iri(subject),
-        predicate: Term::Iri(predicate),
-        object: Term::Iri(object),
-        graph: None,
-    }))
+    let (name, rest) = iri_at(alloc, text)?;
+    Ok((Some(Term::Iri(name)), skip_blanks(rest)))
 }
 
-fn is_graph_line(line: &[u8]) -> bool
-    ensures { result ≡ starts_with nat_eq line.now graph_mark }
+#[tactic(auto, unfolding(crate::specs::Reading::statement_at))]
+fn statement_at(alloc: Global, line: &str) -> Result<Line, Stop>
+    ensures { Gives (λ x. x) result (statement_at line.now) }
 {
-    line.starts_with(b"#@graph ")
+    let (subject, rest) = subject_at(alloc, skip_blanks(line))?;
+    let (predicate, rest) = iri_at(alloc, skip_blanks(rest))?;
+    let (object, rest) = object_at(alloc, skip_blanks(rest))?;
+    let (graph, rest) = graph_at(alloc, skip_blanks(rest))?;
+    match after(rest, b'.') {
+        Some(rest) if ends(rest) => Ok(Line::Statement(Quad {
+            subject,
+            predicate: Term::Iri(predicate),
+            object,
+            graph,
+        })),
+        _ => Err(Stop::Bad),
+    }
+}
+
+fn is_empty(text: &str) -> bool
+    ensures { result ≡ is_empty text.now }
+{
+    match text.as_bytes() {
+        [] => true,
+        [_, ..] => false,
+    }
+}
+
+/// The graph that is declared by what follows the mark of a graph line.
+#[tactic(auto, unfolding(crate::specs::Reading::declared_at))]
+fn declared_at(alloc: Global, text: &str) -> Result<Line, Stop>
+    ensures { Gives (λ x. x) result (declared_at text.now) }
+{
+    let (name, rest) = iri_at(alloc, text)?;
+    if !is_empty(skip_blanks(rest)) {
+        return Err(Stop::Bad);
+    }
+    Ok(Line::Graph(Term::Iri(name)))
+}
+
+/// What follows the mark of a graph line, if a line begins with it.
+#[tactic(auto, using(crate::proofs::CutLaws::mark_cut))]
+fn after_mark(line: &str) -> Option<&str>
+    ensures { MatchOption result (starts_with nat_eq line.now graph_mark ≡ false) (λ rest. (starts_with nat_eq line.now graph_mark ≡ true) × (rest.now ≡ drop (length graph_mark) line.now)) }
+{
+    if !line.as_bytes().starts_with(b"#@graph ") {
+        return None;
+    }
+    let (_, rest) = line.split_at(8);
+    Some(rest)
+}
+
+/// The bytes as a text, if they are UTF-8.
+#[tactic(auto, using(crate::proofs::CutLaws::text_laws))]
+fn text_of(bytes: &[u8]) -> Option<&str>
+    ensures { MatchOption result (is_utf8 bytes.now ≡ false) (λ text. (text.now ≡ bytes.now) × (is_utf8 bytes.now ≡ true)) }
+{
+    match str::from_utf8(bytes) {
+        Ok(text) => Some(text),
+        Err(_) => None,
+    }
 }
 
 /// What a line says.
@@ -97,11 +129,14 @@ fn is_graph_line(line: &[u8]) -> bool
 pub fn line_of(alloc: Global, line: &[u8]) -> Result<Line, Stop>
     ensures { Gives (λ x. x) result (line_of line.now) }
 {
-    if !is_utf8(line) || is_graph_line(line) {
+    let Some(line) = text_of(line) else {
         return Err(Stop::Bad);
+    };
+    if let Some(text) = after_mark(line) {
+        return declared_at(alloc, text);
     }
     if ends(line) {
         return Ok(Line::Nothing);
     }
-    triple_at(alloc, line)
+    statement_at(alloc, line)
 }

@@ -22,6 +22,7 @@ fn keep(dataset: &mut DataSet, said: Line) -> Result<(), AllocError>
 {
     match said {
         Line::Nothing => Ok(()),
+        Line::Graph(name) => dataset.declare(name),
         Line::Statement(quad) => dataset.add(quad),
     }
 }

@@ -10,6 +10,8 @@ use terms::Term;
 #[derive(Drop)]
 pub enum Line {
     Nothing,
+    /// A named graph is declared, by its name.
+    Graph(Term),
     Statement(Quad<Term>),
 }
 

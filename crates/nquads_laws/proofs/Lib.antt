@@ -1,3 +1,11 @@
-pub mod SetLists
+pub mod Members
+pub mod Bytes
+pub mod Pieces
+pub mod TermTexts
 pub mod LineTexts
-pub mod PlainLaws
+pub mod SpelledAgain
+pub mod Labels
+pub mod Utf8Parts
+pub mod SpelledForm
+pub mod Again
+pub mod OneTag

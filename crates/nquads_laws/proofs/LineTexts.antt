@@ -1,102 +1,77 @@
--- The line that is written for a triple of IRIs says that triple, and has no line end.
-use Rattle.std.specs.Prelude.{ℕ, Bool, ◌&&◌}
-use Rattle.std.proofs.Common.{◌≡◌, true, false, cond, eqb, List, [], ◌∷◌, ◌++◌, None, refl, sym, ap, ◌∙◌, subst, append_assoc, IsUtf8}
+-- The line that is written for a quad or for a graph says it, and has no line end.
+use Rattle.std.specs.Prelude.{ℕ}
+use Rattle.std.proofs.Common.{◌≡◌, true, List, [], ◌∷◌, ◌++◌, Option, Some, None, refl, sym, ap, ◌∙◌, subst, append_assoc}
 use Rattle.std.specs.List.{list_all}
-use lib.Utf8.{encode}
-use Rattle.std.proofs.lemmas.Bool.{eqb-true, and_parts}
-use Rattle.std.proofs.lemmas.List.Folds.{list_all-append}
-use Rattle.std.proofs.lemmas.Str.{IsUtf8-append}
-use Rattle.iris.specs.Iri.{is_iri, is_iri_byte, is_scheme_byte, is_letter, after_first, IsIri}
-use Rattle.iris.specs.Bracketed.{IriAt}
+use Rattle.std.specs.Option.{ForSome, option_map}
+use Rattle.std.proofs.lemmas.List.{append-nil}
+use Rattle.iris.specs.Iri.{IsIri}
 use Rattle.datasets.specs.declared.quad.Quad.{Quad}
 use Rattle.terms.specs.declared.term.Term.{Term}
 use Rattle.terms.specs.declared.term.Term.TheVariants.{Iri, Literal, Blank, Made}
-use Rattle.terms.specs.Canonical.{iri_text}
+use Rattle.terms.specs.Canonical.{iri_text, term_text}
 use Rattle.nquads.specs.declared.stop.Line.{Line}
-use Rattle.nquads.specs.declared.stop.Line.TheVariants.{Statement}
+use Rattle.nquads.specs.declared.stop.Line.TheVariants.{Graph, Statement}
 use Rattle.nquads.specs.Lines.{is_inner}
-use Rattle.nquads.specs.Line.{Gap, at_end, Says, triple, IsLine}
-use Rattle.nquads.specs.Canonical.{quad_text}
-use Rattle.nquads_laws.specs.Plain.{IsIriTerm, IsPlainQuad}
+use Rattle.nquads.specs.Escapes.{IriAt}
+use Rattle.nquads.specs.Line.{Gap, at_end, default_graph, named, GraphAt, declares, states, Says, IsLine, graph_mark}
+use Rattle.nquads.specs.Canonical.{graph_text, quad_text, graph_line}
+use Rattle.nquads_laws.specs.WellFormed.{IsTerm, IsSubject, IsIriTerm, IsQuad}
+use Rattle.nquads_laws.specs.Named.{named_term, named_quad}
+use Rattle.nquads_laws.proofs.Pieces.{IsPiece, piece_append, piece_ascii, piece_iri}
+use Rattle.nquads_laws.proofs.TermTexts.{iri_front, subject_front, object_front, piece_term}
 
--- ---- no byte of an IRI ends a line
+-- ---- quads by their IRIs
 
-other_byte : (p : ℕ → Bool) (c b : ℕ) → p c ≡ false → p b ≡ true → eqb b c ≡ false
-other_byte p c b fails passes = elim (eqb b c) as (λ t. eqb b c ≡ t → t ≡ false) [
-  | true ↦ λ e. absurd (let f : p c ≡ true = subst (λ y. p y ≡ true) (eqb-true b c e) passes in cc)
-  | false ↦ λ e. refl
-] refl
+abbrev pub quad_of : Term → List ℕ → Term → Option (List ℕ) → Quad Term
+quad_of s p o n = record { subject = s; predicate = Iri p; object = o; graph = option_map Iri n }
 
-inner_byte : (p : ℕ → Bool) (b : ℕ) → p 10 ≡ false → p 13 ≡ false → p b ≡ true → is_inner b ≡ true
-inner_byte p b lf cr passes = rw (other_byte p 10 b lf passes, other_byte p 13 b cr passes) refl
+pub record IriOf (t : Term) : Type 0 where
+  pub iri : List ℕ
+  pub same : t ≡ Iri iri
+  pub is : IsIri iri
 
-inner_all : (bs : List ℕ) → list_all is_iri_byte bs ≡ true → list_all is_inner bs ≡ true
-inner_all [] e = refl
-inner_all (b ∷ bs) e = let h = and_parts (is_iri_byte b) (list_all is_iri_byte bs) e in rw (inner_byte is_iri_byte b refl refl h.0) (inner_all bs h.1)
+pub iri_of : (t : Term) → IsIriTerm t → IriOf t
+iri_of (Iri i) is = record { iri = i; same = refl; is = is }
+iri_of (Literal l) is = absurd is
+iri_of (Blank b) is = absurd is
+iri_of (Made r o l s) is = absurd is
 
-inner_after : (bs : List ℕ) → after_first bs ≡ true → list_all is_inner bs ≡ true
-inner_after [] e = absurd cc
-inner_after (b ∷ bs) e =
-    elim (eqb b 58) as (λ t. eqb b 58 ≡ t → cond t (list_all is_iri_byte bs) (is_scheme_byte b && after_first bs) ≡ true → (is_inner b && list_all is_inner bs) ≡ true) [
-      | true ↦ λ t h. rw (inner_byte (λ x. eqb x 58) b refl refl t) (inner_all bs h)
-      | false ↦ λ t h. let g = and_parts (is_scheme_byte b) (after_first bs) h in rw (inner_byte is_scheme_byte b refl refl g.0) (inner_after bs g.1)
-    ] refl e
+pub record GraphOf (g : Option Term) : Type 0 where
+  pub name : Option (List ℕ)
+  pub same : g ≡ option_map Iri name
+  pub is : ForSome name IsIri
 
-inner_iri : (bs : List ℕ) → is_iri bs ≡ true → list_all is_inner bs ≡ true
-inner_iri [] e = absurd cc
-inner_iri (b ∷ bs) e = let h = and_parts (is_letter b) (after_first bs) e in rw (inner_byte is_letter b refl refl h.0) (inner_after bs h.1)
+pub graph_of : (g : Option Term) → ForSome g IsIriTerm → GraphOf g
+graph_of None is = record { name = None; same = refl; is = λ x e. absurd cc }
+graph_of (Some g) is =
+    let i = iri_of g (is g refl) in
+    record { name = Some i.iri; same = ap (λ (t : Term). Some t) i.same; is = λ x e. subst IsIri (let same : i.iri ≡ x = cc in same) i.is }
 
--- ---- the line of a triple
+-- what holds of each such quad holds of each quad of a well-formed dataset
+pub by_iris : (C : Quad Term → Type 0)
+    → ((s o : Term) (p : List ℕ) (n : Option (List ℕ)) → IsSubject s → IsIri p → IsTerm o → ForSome n IsIri → C (quad_of s p o n))
+    → (q : Quad Term) → IsQuad q → C q
+by_iris C f q is =
+    let p = iri_of q.predicate is.predicate in
+    let g = graph_of q.graph is.graph in
+    let same : q ≡ quad_of q.subject p.iri q.object g.name = λ i. record { subject = q.subject; predicate = p.same i; object = q.object; graph = g.same i } in
+    subst C (sym same) (f q.subject q.object p.iri g.name is.subject p.is is.object g.is)
 
-abbrev triple_of : List ℕ → List ℕ → List ℕ → Quad Term
-triple_of s p o = record { subject = Iri s; predicate = Iri p; object = Iri o; graph = None }
+pub subject_is_term : (t : Term) → IsSubject t → IsTerm t
+subject_is_term (Iri i) is = is
+subject_is_term (Literal l) is = absurd is
+subject_is_term (Blank b) is = is
+subject_is_term (Made r o l s) is = is
 
-abbrev line_for : List ℕ → List ℕ → List ℕ → List ℕ
-line_for s p o = 60 ∷ (s ++ 62 ∷ 32 ∷ 60 ∷ (p ++ 62 ∷ 32 ∷ 60 ∷ (o ++ 62 ∷ 32 ∷ 46 ∷ [])))
+-- ---- lines
 
-regrouped : (a b c d e : List ℕ) → (((a ++ b) ++ c) ++ d) ++ e ≡ a ++ (b ++ (c ++ (d ++ e)))
-regrouped a b c d e = simp append_assoc
+-- a line that says this, and doesn't end before its end
+pub record IsWhole (line : List ℕ) (said : Line) : Type 0 where
+  pub inner : list_all is_inner line ≡ true
+  pub is : IsLine line said
 
-bracketed : (i rest : List ℕ) → iri_text i ++ rest ≡ 60 ∷ (i ++ 62 ∷ rest)
-bracketed i rest = ap (λ (text : List ℕ). 60 ∷ text) (append_assoc i (62 ∷ []) rest)
-
-text_is : (tag : ℕ) (s p o : List ℕ) → quad_text tag (triple_of s p o) ≡ line_for s p o
-text_is tag s p o =
-    let end : List ℕ = 32 ∷ 46 ∷ [] in
-    regrouped (iri_text s) (32 ∷ iri_text p) (32 ∷ iri_text o) [] end
-    ∙ bracketed s (32 ∷ (iri_text p ++ 32 ∷ (iri_text o ++ end)))
-    ∙ ap (λ (text : List ℕ). 60 ∷ (s ++ 62 ∷ 32 ∷ text)) (bracketed p (32 ∷ (iri_text o ++ end)))
-    ∙ ap (λ (text : List ℕ). 60 ∷ (s ++ 62 ∷ 32 ∷ 60 ∷ (p ++ 62 ∷ 32 ∷ text))) (bracketed o end)
-
-inner-append : (xs ys : List ℕ) → list_all is_inner xs ≡ true → list_all is_inner ys ≡ true → list_all is_inner (xs ++ ys) ≡ true
-inner-append xs ys a b = list_all-append is_inner xs ys ∙ rw (a, b) refl
-
-inner_line : (s p o : List ℕ) → IsIri s → IsIri p → IsIri o → list_all is_inner (line_for s p o) ≡ true
-inner_line s p o a b c =
-    inner-append s (62 ∷ 32 ∷ 60 ∷ (p ++ 62 ∷ 32 ∷ 60 ∷ (o ++ 62 ∷ 32 ∷ 46 ∷ []))) (inner_iri s a.form)
-    (inner-append p (62 ∷ 32 ∷ 60 ∷ (o ++ 62 ∷ 32 ∷ 46 ∷ [])) (inner_iri p b.form)
-    (inner-append o (62 ∷ 32 ∷ 46 ∷ []) (inner_iri o c.form) refl))
-
-opens : IsUtf8 (60 ∷ [])
-unfolding encode
-opens = (60 ∷ [], (refl, refl))
-
-goes_on : IsUtf8 (62 ∷ 32 ∷ 60 ∷ [])
-unfolding encode
-goes_on = (62 ∷ 32 ∷ 60 ∷ [], (refl, refl))
-
-closes : IsUtf8 (62 ∷ 32 ∷ 46 ∷ [])
-unfolding encode
-closes = (62 ∷ 32 ∷ 46 ∷ [], (refl, refl))
-
-utf8_line : (s p o : List ℕ) → IsIri s → IsIri p → IsIri o → IsUtf8 (line_for s p o)
-utf8_line s p o a b c =
-    IsUtf8-append (60 ∷ []) (s ++ 62 ∷ 32 ∷ 60 ∷ (p ++ 62 ∷ 32 ∷ 60 ∷ (o ++ 62 ∷ 32 ∷ 46 ∷ []))) opens
-    (IsUtf8-append s (62 ∷ 32 ∷ 60 ∷ (p ++ 62 ∷ 32 ∷ 60 ∷ (o ++ 62 ∷ 32 ∷ 46 ∷ []))) a.utf8
-    (IsUtf8-append (62 ∷ 32 ∷ 60 ∷ []) (p ++ 62 ∷ 32 ∷ 60 ∷ (o ++ 62 ∷ 32 ∷ 46 ∷ [])) goes_on
-    (IsUtf8-append p (62 ∷ 32 ∷ 60 ∷ (o ++ 62 ∷ 32 ∷ 46 ∷ [])) b.utf8
-    (IsUtf8-append (62 ∷ 32 ∷ 60 ∷ []) (o ++ 62 ∷ 32 ∷ 46 ∷ []) goes_on
-    (IsUtf8-append o (62 ∷ 32 ∷ 46 ∷ []) c.utf8 closes)))))
+whole : (line : List ℕ) (said : Line) → IsPiece line → Says line said → IsWhole line said
+whole line said piece says = record { inner = piece.inner; is = record { utf8 = piece.utf8; says = says } }
 
 no_gap : (text : List ℕ) → Gap text text
 no_gap text = record { blanks = []; cut = refl; each = refl }
@@ -104,43 +79,68 @@ no_gap text = record { blanks = []; cut = refl; each = refl }
 space : (text : List ℕ) → Gap (32 ∷ text) text
 space text = record { blanks = 32 ∷ []; cut = refl; each = refl }
 
-iri_front : (i rest : List ℕ) → IsIri i → IriAt (60 ∷ (i ++ 62 ∷ rest)) i rest
-iri_front i rest is = record { cut = refl; is = is }
+-- from the place of the graph on
+abbrev after_object : Option (List ℕ) → List ℕ
+after_object None = 46 ∷ []
+after_object (Some g) = iri_text g ++ 32 ∷ 46 ∷ []
 
-says_line : (s p o : List ℕ) → IsIri s → IsIri p → IsIri o → Says (line_for s p o) (Statement (triple_of s p o))
-says_line s p o a b c =
-    triple (no_gap (line_for s p o)) (iri_front s (32 ∷ 60 ∷ (p ++ 62 ∷ 32 ∷ 60 ∷ (o ++ 62 ∷ 32 ∷ 46 ∷ []))) a)
-    (space (60 ∷ (p ++ 62 ∷ 32 ∷ 60 ∷ (o ++ 62 ∷ 32 ∷ 46 ∷ [])))) (iri_front p (32 ∷ 60 ∷ (o ++ 62 ∷ 32 ∷ 46 ∷ [])) b)
-    (space (60 ∷ (o ++ 62 ∷ 32 ∷ 46 ∷ []))) (iri_front o (32 ∷ 46 ∷ []) c)
-    (space (46 ∷ [])) (at_end (no_gap []))
+end_is : (tag : ℕ) (n : Option (List ℕ)) → graph_text tag (option_map Iri n) ++ 32 ∷ 46 ∷ [] ≡ 32 ∷ after_object n
+end_is tag None = refl
+end_is tag (Some g) = refl
 
--- ---- the line of a plain quad
+graph_front : (tag : ℕ) (n : Option (List ℕ)) → ForSome n IsIri → GraphAt (after_object n) (option_map (named_term tag) (option_map Iri n)) (46 ∷ [])
+graph_front tag None is = default_graph
+graph_front tag (Some g) is = named (iri_front g (32 ∷ 46 ∷ []) (is g refl)) (space (46 ∷ []))
 
--- a line that says this, and doesn't end before its end
-pub record IsWhole (line : List ℕ) (said : Line) : Type 0 where
-  pub inner : list_all is_inner line ≡ true
-  pub is : IsLine line said
+piece_graph : (tag : ℕ) (n : Option (List ℕ)) → ForSome n IsIri → IsPiece (graph_text tag (option_map Iri n))
+piece_graph tag None is = piece_ascii [] refl
+piece_graph tag (Some g) is = piece_append (32 ∷ []) (iri_text g) (piece_ascii (32 ∷ []) refl) (piece_iri g (is g refl))
 
-whole_line : (tag : ℕ) (s p o : List ℕ) → IsIri s → IsIri p → IsIri o → IsWhole (quad_text tag (triple_of s p o)) (Statement (triple_of s p o))
-whole_line tag s p o a b c =
-    subst (λ (line : List ℕ). IsWhole line (Statement (triple_of s p o))) (sym (text_is tag s p o))
-    (record { inner = inner_line s p o a b c; is = record { utf8 = utf8_line s p o a b c; says = says_line s p o a b c } })
+regrouped : (a b c d e : List ℕ) → (((a ++ b) ++ c) ++ d) ++ e ≡ a ++ (b ++ (c ++ (d ++ e)))
+regrouped a b c d e = simp append_assoc
 
-record IriOf (t : Term) : Type 0 where
-  iri : List ℕ
-  same : t ≡ Iri iri
-  is : IsIri iri
+text_is : (tag : ℕ) (s o : Term) (p : List ℕ) (n : Option (List ℕ))
+    → quad_text tag (quad_of s p o n) ≡ term_text tag s ++ 32 ∷ (iri_text p ++ 32 ∷ (term_text tag o ++ 32 ∷ after_object n))
+text_is tag s o p n =
+    regrouped (term_text tag s) (32 ∷ iri_text p) (32 ∷ term_text tag o) (graph_text tag (option_map Iri n)) (32 ∷ 46 ∷ [])
+    ∙ ap (λ (text : List ℕ). term_text tag s ++ 32 ∷ (iri_text p ++ 32 ∷ (term_text tag o ++ text))) (end_is tag n)
 
-iri_of_term : (t : Term) → IsIriTerm t → IriOf t
-iri_of_term (Iri i) is = record { iri = i; same = refl; is = is }
-iri_of_term (Literal l) is = absurd is
-iri_of_term (Blank b) is = absurd is
-iri_of_term (Made r o l s) is = absurd is
+quad_says : (tag : ℕ) (s o : Term) (p : List ℕ) (n : Option (List ℕ)) → IsSubject s → IsIri p → IsTerm o → ForSome n IsIri
+    → Says (quad_text tag (quad_of s p o n)) (Statement (named_quad tag (quad_of s p o n)))
+quad_says tag s o p n a b c d =
+    let third : List ℕ = term_text tag o ++ 32 ∷ after_object n in
+    let second : List ℕ = iri_text p ++ 32 ∷ third in
+    subst (λ (line : List ℕ). Says line (Statement (named_quad tag (quad_of s p o n)))) (sym (text_is tag s o p n))
+    (states (no_gap (term_text tag s ++ 32 ∷ second)) (subject_front tag s second a) (space second) (iri_front p (32 ∷ third) b) (space third) (object_front tag o (after_object n) c)
+    (space (after_object n)) (graph_front tag n d) (at_end (no_gap [])))
 
-pub whole_quad : (tag : ℕ) (q : Quad Term) → IsPlainQuad q → IsWhole (quad_text tag q) (Statement q)
-whole_quad tag q plain =
-    let s = iri_of_term q.subject plain.subject in
-    let p = iri_of_term q.predicate plain.predicate in
-    let o = iri_of_term q.object plain.object in
-    let same : q ≡ triple_of s.iri p.iri o.iri = λ i. record { subject = s.same i; predicate = p.same i; object = o.same i; graph = plain.graph i } in
-    subst (λ (q : Quad Term). IsWhole (quad_text tag q) (Statement q)) (sym same) (whole_line tag s.iri p.iri o.iri s.is p.is o.is)
+piece_quad : (tag : ℕ) (s o : Term) (p : List ℕ) (n : Option (List ℕ)) → IsSubject s → IsIri p → IsTerm o → ForSome n IsIri → IsPiece (quad_text tag (quad_of s p o n))
+piece_quad tag s o p n a b c d =
+    let x : List ℕ = term_text tag s in
+    let y : List ℕ = 32 ∷ iri_text p in
+    let z : List ℕ = 32 ∷ term_text tag o in
+    let g : List ℕ = graph_text tag (option_map Iri n) in
+    let one : IsPiece (32 ∷ []) = piece_ascii (32 ∷ []) refl in
+    piece_append (((x ++ y) ++ z) ++ g) (32 ∷ 46 ∷ [])
+    (piece_append ((x ++ y) ++ z) g
+    (piece_append (x ++ y) z
+    (piece_append x y (piece_term tag s (subject_is_term s a)) (piece_append (32 ∷ []) (iri_text p) one (piece_iri p b)))
+    (piece_append (32 ∷ []) (term_text tag o) one (piece_term tag o c)))
+    (piece_graph tag n d))
+    (piece_ascii (32 ∷ 46 ∷ []) refl)
+
+pub whole_quad : (tag : ℕ) (q : Quad Term) → IsQuad q → IsWhole (quad_text tag q) (Statement (named_quad tag q))
+whole_quad tag q is =
+    by_iris (λ q. IsWhole (quad_text tag q) (Statement (named_quad tag q)))
+    (λ s o p n a b c d. whole (quad_text tag (quad_of s p o n)) (Statement (named_quad tag (quad_of s p o n))) (piece_quad tag s o p n a b c d) (quad_says tag s o p n a b c d)) q is
+
+graph_says : (tag : ℕ) (g : List ℕ) → IsIri g → Says (graph_line tag (Iri g)) (Graph (Iri g))
+graph_says tag g is =
+    let at : IriAt (iri_text g) g [] = subst (λ (text : List ℕ). IriAt text g []) (append-nil (iri_text g)) (iri_front g [] is) in
+    declares refl at (no_gap [])
+
+pub whole_graph : (tag : ℕ) (t : Term) → IsIriTerm t → IsWhole (graph_line tag t) (Graph t)
+whole_graph tag t is =
+    let i = iri_of t is in
+    subst (λ (t : Term). IsWhole (graph_line tag t) (Graph t)) (sym i.same)
+    (whole (graph_line tag (Iri i.iri)) (Graph (Iri i.iri)) (piece_append graph_mark (iri_text i.iri) (piece_ascii graph_mark refl) (piece_iri i.iri i.is)) (graph_says tag i.iri i.is))

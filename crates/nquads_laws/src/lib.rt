@@ -1,28 +1,34 @@
 //! Laws of reading and writing: what is written spells the dataset again. Each function has one law, and calls those that it stands on.
 #![tactic(auto)]
 
-ghost use Rattle.std.specs.Prelude.{◌≡◌, List, ℕ};
+ghost use Rattle.std.specs.Prelude.{◌≡◌, All, List, ℕ, true, false};
+ghost use Rattle.std.specs.List.{Contains};
 ghost use Rattle.datasets.specs.Dataset.{Dataset};
 ghost use Rattle.terms.specs.declared.term.Term.{Term};
 ghost use Rattle.nquads.specs.Spelled.{Spells};
+ghost use Rattle.nquads.specs.Tag.{is_taken};
 ghost use Rattle.nquads.specs.Canonical.{canonical};
-ghost use Rattle.nquads_laws.specs.Plain.{IsPlain};
+ghost use Rattle.nquads_laws.specs.WellFormed.{IsWellFormed, terms_of, is_written};
+ghost use Rattle.nquads_laws.specs.Named.{named_term, named};
 
-use nquads::laws::{first_line_is_ended, lines_are_read, one_dataset};
-use terms::laws::sets_pass_alike;
+use iris::laws::runs_are_longest;
+use nquads::laws::{first_line_is_ended, one_dataset};
 
-/// The canonical text of a plain dataset spells that dataset, whatever the tag.
-pub fn written_spells_again()
-    ensures { (d : Dataset Term) (tag : ℕ) → IsPlain d → Spells (canonical d tag) d }
+/// The canonical text of a well-formed dataset spells it with each made node as the blank node of its label, whatever the tag. Where no
+/// blank label begins with the tag's mark, no two terms of the dataset become one.
+pub fn spells_again()
+    ensures spelled { (d : Dataset Term) (tag : ℕ) → IsWellFormed d → Spells (canonical d tag) (named d tag) }
+    ensures apart { (d : Dataset Term) (tag : ℕ) → IsWellFormed d → is_taken d.quads tag ≡ false → (x y : Term) → Contains (terms_of d) x → Contains (terms_of d) y → named_term tag x ≡ named_term tag y → x ≡ y }
 {
+    runs_are_longest();
     first_line_is_ended();
-    lines_are_read();
-    sets_pass_alike();
+    one_dataset();
 }
 
-/// What a text spells is plain.
-pub fn spelled_is_plain()
-    ensures { (text : List ℕ) (d : Dataset Term) → Spells text d → IsPlain d }
+/// What a text spells is well-formed, and has no made node.
+pub fn spelled_is_well_formed()
+    ensures formed { (text : List ℕ) (d : Dataset Term) → Spells text d → IsWellFormed d }
+    ensures written { (text : List ℕ) (d : Dataset Term) → Spells text d → All (λ t. is_written t ≡ true) (terms_of d) }
 {}
 
 /// What was read and is written spells what was read.
@@ -30,16 +36,16 @@ pub fn read_and_written_again()
     ensures { (text : List ℕ) (d : Dataset Term) (tag : ℕ) → Spells text d → Spells (canonical d tag) d }
 {
     first_line_is_ended();
-    lines_are_read();
-    sets_pass_alike();
+    one_dataset();
 }
 
-/// Two plain datasets have one text only if they are the same, whatever the tags.
+/// Two well-formed datasets have one text only if they are the same by the labels of their made nodes, whatever the tags; and with one tag
+/// whose mark begins no blank label of either, only if they are the same.
 pub fn texts_differ()
-    ensures { (d e : Dataset Term) (tag other : ℕ) → IsPlain d → IsPlain e → canonical d tag ≡ canonical e other → d ≡ e }
+    ensures labels { (d e : Dataset Term) (tag other : ℕ) → IsWellFormed d → IsWellFormed e → canonical d tag ≡ canonical e other → named d tag ≡ named e other }
+    ensures one_tag { (d e : Dataset Term) (tag : ℕ) → IsWellFormed d → IsWellFormed e → is_taken d.quads tag ≡ false → is_taken e.quads tag ≡ false → canonical d tag ≡ canonical e tag → d ≡ e }
 {
+    runs_are_longest();
     first_line_is_ended();
-    lines_are_read();
-    sets_pass_alike();
     one_dataset();
 }

@@ -49,7 +49,7 @@ fn answer_to<T: Wait>(rt: &T, alloc: Global, base: &[u8], block: &[u8], workers:
 /// A base, a block, the status, the new dataset and the replies.
 type Row = (&'static str, &'static str, u8, &'static str, &'static str);
 
-const ROWS: [Row; 22] = [
+const ROWS: [Row; 21] = [
     ("", "", 0, "", ""),
     ("", "\n", 0, "", "0 ok +0 -0\n"),
     (
@@ -139,7 +139,6 @@ const ROWS: [Row; 22] = [
     ),
     ("", "INSERT DATA { }", 0, "", "0 ok +0 -0\n"),
     ("", ";", 0, "", "0 refused syntax\n"),
-    ("#@graph <http://e/g>\n", "", 3, "", ""),
     (
         "<http://e/a> <http://e/p> <http://e/b> .\n<http://e/c> <http://e/p> <http://e/d> .\n",
         "DELETE DATA { <http://e/a> <http://e/p> <http://e/b> , <http://e/c> }\n----\nDELETE { ?s <http://e/p> ?o } INSERT { $o <http://e/q> $s } WHERE { ?s <http://e/p> ?o }",
@@ -186,6 +185,57 @@ fn rows(rt: HostRuntime) {
                 "{block:?} with {workers} workers"
             );
         }
+    }
+}
+
+/// A base, the status of a run of no request, and the new dataset.
+const BASES: [(&str, u8, &str); 13] = [
+    (
+        "#@graph <http://e/g>\n<http://e/a> <http://e/p> \"x\\ty\" <http://e/g> .\n",
+        0,
+        "<http://e/a> <http://e/p> \"x\ty\" <http://e/g> .\n",
+    ),
+    (
+        "<http://e/a><http://e/p>\"\\u0041\\\"é\"@EN-gb.",
+        0,
+        "<http://e/a> <http://e/p> \"A\\\"é\"@en-gb .\n",
+    ),
+    (
+        "#@graph <http://e/h>\r\n#@graph <http://e/g>\t\n",
+        0,
+        "#@graph <http://e/g>\n#@graph <http://e/h>\n",
+    ),
+    ("#@graph http://e/g\n", 3, ""),
+    ("#@graph  <http://e/g>\n", 3, ""),
+    ("#@graph <http://e/g> # why\n", 3, ""),
+    ("#@graphs\n #@graph x\n#@graph", 0, ""),
+    (
+        "<http://e/a> <http://e/p> \"x\"^^<http://www.w3.org/1999/02/22-rdf-syntax-ns#langString> .\n",
+        3,
+        "",
+    ),
+    // One term each, in two spellings.
+    (
+        "_:b <http://e/p> \"x\" .\n_:b <\\u0068ttp://e/p> \"x\"^^<http://www.w3.org/2001/XMLSchema#string> .\n",
+        0,
+        "_:b <http://e/p> \"x\" .\n",
+    ),
+    // Lines are sorted by their bytes.
+    (
+        "_:a <http://e/p> _:b.\n<http://e/a> <http://e/p> \"a b\" .\n<http://e/a> <http://e/p> \"a\" <http://e/g> .\n<http://e/a> <http://e/p> \"a\" .\n#@graph <http://e/z>\n",
+        0,
+        "#@graph <http://e/z>\n<http://e/a> <http://e/p> \"a b\" .\n<http://e/a> <http://e/p> \"a\" .\n<http://e/a> <http://e/p> \"a\" <http://e/g> .\n_:a <http://e/p> _:b .\n",
+    ),
+    ("\"x\" <http://e/p> <http://e/b> .\n", 3, ""),
+    ("<http://e/a> <http://e/p> \"\\uD800\" .\n", 3, ""),
+    ("<http://e/a> <http://e/p> \"x\" @en .\n", 3, ""),
+];
+
+#[test]
+fn bases(rt: HostRuntime) {
+    for (base, status, dataset) in &BASES {
+        let answer = answer_to(&rt, rt.alloc(), base.as_bytes(), &[], 2);
+        assert!(rt; is_as_expected(&answer, *status, dataset, ""), "{base:?}");
     }
 }
 

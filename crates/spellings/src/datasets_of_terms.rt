@@ -1,7 +1,9 @@
 //! Terms and datasets of terms.
 use crate::made::{iri, is_iri, is_quad, two_graphs};
+use iris::Iri;
+use std::alloc::Global;
 use std::test::Fail;
-use terms::{DataSet, Term, canonical, term_text};
+use terms::{Blank, DataSet, Literal, Term, TermTable, canonical, term_text};
 
 const MADE: Term = Term::Made {
     request: 1,
@@ -52,28 +54,156 @@ fn texts_of_terms(rt: HostRuntime) -> Result<(), Fail> {
 
 #[test]
 fn quads_and_names(rt: HostRuntime) -> Result<(), Fail> {
-    assert!(rt; DataSet::new(rt.alloc()).quads().is_empty());
-    assert!(rt; DataSet::new(rt.alloc()).names().is_empty());
+    let none = DataSet::new(rt.alloc());
+    let parts = none.parts();
+    assert!(rt; parts.terms.is_empty() && parts.quads.is_empty() && parts.names.is_empty());
     let dataset = two_graphs(rt.alloc())?;
+    let parts = dataset.parts();
     assert!(rt;
-        matches!(dataset.quads(), [first, second]
-            if is_quad(first, ["x:b", "x:p", "x:c"], None) && is_quad(second, ["x:a", "x:p", "x:c"], Some("x:g")))
+        matches!(parts.quads, [first, second]
+            if is_quad(parts.terms, first, ["x:b", "x:p", "x:c"], None)
+                && is_quad(parts.terms, second, ["x:a", "x:p", "x:c"], Some("x:g")))
     );
+    assert!(rt; matches!(parts.names, [4, 5]));
     assert!(rt;
-        matches!(dataset.names(), [first, second] if is_iri(first, "x:g") && is_iri(second, "x:e"))
+        matches!(parts.terms, [_, _, _, _, named, empty] if is_iri(named, "x:g") && is_iri(empty, "x:e"))
     );
     Ok(())
 }
 
 #[test]
-fn parts(rt: HostRuntime) -> Result<(), Fail> {
-    let (quads, names) = two_graphs(rt.alloc())?.into_parts();
-    assert!(rt;
-        matches!(quads.as_slice(), [first, _] if is_quad(first, ["x:b", "x:p", "x:c"], None))
-    );
-    assert!(rt; matches!(names.as_slice(), [first, _] if is_iri(first, "x:g")));
-    let dataset = DataSet::from_parts(quads, names);
-    assert_eq!(rt; dataset.quads().len(), 2);
-    assert_eq!(rt; dataset.names().len(), 2);
+fn terms_have_one_place(rt: HostRuntime) -> Result<(), Fail> {
+    let mut table = TermTable::new(rt.alloc());
+    assert_eq!(rt; table.place_of(iri(rt.alloc(), "x:a")?)?, 0);
+    assert_eq!(rt; table.place_of(MADE)?, 1);
+    assert_eq!(rt; table.place_of(iri(rt.alloc(), "x:a")?)?, 0);
+    assert_eq!(rt; table.place_of(MADE)?, 1);
+    assert!(rt; matches!(table.as_slice(), [first, _] if is_iri(first, "x:a")));
+    Ok(())
+}
+
+const LANG_STRING: &str = "http://www.w3.org/1999/02/22-rdf-syntax-ns#langString";
+
+/// Datatypes, tags, and whether there is a literal with these.
+const LITERALS: [(&str, Option<&str>, bool); 16] = [
+    ("http://www.w3.org/2001/XMLSchema#string", None, true),
+    ("x:d", None, true),
+    ("x:d", Some("en"), false),
+    (LANG_STRING, None, false),
+    (LANG_STRING, Some("en"), true),
+    (LANG_STRING, Some("en-gb-1a"), true),
+    (LANG_STRING, Some("a-1"), true),
+    (LANG_STRING, Some(""), false),
+    (LANG_STRING, Some("EN"), false),
+    (LANG_STRING, Some("en-GB"), false),
+    (LANG_STRING, Some("1"), false),
+    (LANG_STRING, Some("e1"), false),
+    (LANG_STRING, Some("en-"), false),
+    (LANG_STRING, Some("-en"), false),
+    (LANG_STRING, Some("en--a"), false),
+    (LANG_STRING, Some("en_a"), false),
+];
+
+/// The literal of a line end with this datatype and this tag.
+fn literal(alloc: Global, datatype: &str, tag: Option<&str>) -> Result<Option<Literal>, Fail> {
+    let datatype = Iri::check(alloc, datatype)?.ok_or("no IRI")?;
+    let tag = match tag {
+        None => None,
+        Some(tag) => Some(String::from_str(alloc, tag)?),
+    };
+    Ok(Literal::new(String::from_str(alloc, "é\n")?, datatype, tag))
+}
+
+#[test]
+fn literals_of_parts(rt: HostRuntime) -> Result<(), Fail> {
+    for (datatype, tag, is_one) in &LITERALS {
+        let found = literal(rt.alloc(), datatype, *tag)?;
+        assert_eq!(rt; found.is_some(), *is_one, "{datatype:?} {tag:?}");
+        if let Some(found) = found {
+            let copy = found.copied(rt.alloc())?;
+            assert!(rt; copy.lexical() == "é\n");
+            assert!(rt; copy.datatype().as_str() == *datatype);
+            assert!(rt; copy.tag() == *tag);
+            assert!(rt; Term::Literal(copy) == Term::Literal(found));
+        }
+    }
+    Ok(())
+}
+
+/// Texts, and whether each is a label.
+const LABELS: [(&str, bool); 8] = [
+    ("a", true),
+    ("_9Z", true),
+    ("0", true),
+    ("", false),
+    ("a-b", false),
+    ("a.", false),
+    ("a b", false),
+    ("é", false),
+];
+
+#[test]
+fn labels(rt: HostRuntime) -> Result<(), Fail> {
+    for (text, is_one) in &LABELS {
+        let found = Blank::check(rt.alloc(), text)?;
+        assert_eq!(rt; found.is_some(), *is_one, "{text:?}");
+        if let Some(blank) = found {
+            assert!(rt; blank.copied()?.as_str() == *text, "{text:?}");
+        }
+    }
+    Ok(())
+}
+
+/// Terms in rising order, as they are written.
+const RISING: &[u8] =
+    b"<x:a><x:b>\"\"^^<x:d>\"a\"^^<x:d>\"a\"^^<x:e>\"b\"@e\"b\"@en_:A_:a_:m7r0o0l0s0_:m7r0o0l0s1";
+
+fn labelled(alloc: Global, label: &str) -> Result<Term, Fail> {
+    Ok(Term::Blank(Blank::check(alloc, label)?.ok_or("no label")?))
+}
+
+/// A literal with a tag, or with the datatype that is given in its place.
+fn valued(alloc: Global, lexical: &str, datatype: &str, tag: Option<&str>) -> Result<Term, Fail> {
+    let datatype = Iri::check(alloc, datatype)?.ok_or("no IRI")?;
+    let tag = match tag {
+        None => None,
+        Some(tag) => Some(String::from_str(alloc, tag)?),
+    };
+    let literal = Literal::new(String::from_str(alloc, lexical)?, datatype, tag);
+    Ok(Term::Literal(literal.ok_or("no literal")?))
+}
+
+#[test]
+fn order(rt: HostRuntime) -> Result<(), Fail> {
+    let alloc = rt.alloc();
+    let mut terms = vec![in alloc;
+        Term::Made {
+            request: 0,
+            op: 0,
+            label: 0,
+            rank: 1
+        },
+        labelled(alloc, "a")?,
+        valued(alloc, "b", LANG_STRING, Some("en"))?,
+        valued(alloc, "a", "x:e", None)?,
+        iri(alloc, "x:b")?,
+        Term::Made {
+            request: 0,
+            op: 0,
+            label: 0,
+            rank: 0
+        },
+        labelled(alloc, "A")?,
+        valued(alloc, "b", LANG_STRING, Some("e"))?,
+        valued(alloc, "a", "x:d", None)?,
+        valued(alloc, "", "x:d", None)?,
+        iri(alloc, "x:a")?,
+    ]?;
+    terms.sort()?;
+    let mut text = Vec::new(alloc);
+    for term in &terms {
+        canonical(alloc, term, 7, &mut text)?;
+    }
+    assert!(rt; text.as_slice() == RISING);
     Ok(())
 }

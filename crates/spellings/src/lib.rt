@@ -11,4 +11,6 @@ mod lists;
 #[cfg(test)]
 mod made;
 #[cfg(test)]
+mod objects;
+#[cfg(test)]
 mod texts;

@@ -28,17 +28,22 @@ pub fn quad(alloc: Global, texts: [&str; 3], graph: Option<&str>) -> Result<Quad
     })
 }
 
-pub fn is_quad(quad: &Quad<Term>, texts: [&str; 3], graph: Option<&str>) -> bool {
+fn is_iri_at(terms: &[Term], place: u32, text: &str) -> bool {
+    matches!(terms.get(place as usize), Some(term) if is_iri(term, text))
+}
+
+/// Whether a quad by places is the triple of three IRIs in the graph of this name, or in the default graph.
+pub fn is_quad(terms: &[Term], quad: &Quad<u32>, texts: [&str; 3], graph: Option<&str>) -> bool {
     let [subject, predicate, object] = texts;
-    let is_there = match (&quad.graph, graph) {
+    let is_there = match (quad.graph, graph) {
         (None, None) => true,
-        (Some(name), Some(text)) => is_iri(name, text),
+        (Some(name), Some(text)) => is_iri_at(terms, name, text),
         _ => false,
     };
     is_there
-        && is_iri(&quad.subject, subject)
-        && is_iri(&quad.predicate, predicate)
-        && is_iri(&quad.object, object)
+        && is_iri_at(terms, quad.subject, subject)
+        && is_iri_at(terms, quad.predicate, predicate)
+        && is_iri_at(terms, quad.object, object)
 }
 
 /// Two triples, one of them in a graph, and an empty graph.

@@ -5,7 +5,7 @@ use std::test::Fail;
 use terms::DataSet;
 
 /// Texts, and the canonical text of what each spells.
-const TEXTS: [(&str, &str); 8] = [
+const TEXTS: [(&str, &str); 21] = [
     ("", ""),
     ("\n\r\n\r\t # nothing", ""),
     ("<x:a><x:b><x:c>.", "<x:a> <x:b> <x:c> .\n"),
@@ -26,6 +26,34 @@ const TEXTS: [(&str, &str); 8] = [
         "#@graphs are other comments\n<x:a> <x:b> <x:c> .#@graph ",
         "<x:a> <x:b> <x:c> .\n",
     ),
+    (
+        "<http://e/a><http://e/p>\"\\u0041\\\"é\"@EN-gb.",
+        "<http://e/a> <http://e/p> \"A\\\"é\"@en-gb .\n",
+    ),
+    ("_:a<x:p>_:a.", "_:a <x:p> _:a .\n"),
+    (
+        "<x:a><x:b><x:c><x:g>.#@graph x",
+        "<x:a> <x:b> <x:c> <x:g> .\n",
+    ),
+    (
+        "<x:a> <x:b> \"x\"@EN .\n<x:a> <x:b> \"x\"@en .",
+        "<x:a> <x:b> \"x\"@en .\n",
+    ),
+    ("#@graph <x:g>\t \n#@graph <x:g>", "#@graph <x:g>\n"),
+    ("#@graph <\\u0078:g>", "#@graph <x:g>\n"),
+    (
+        "#@graph <x:g>\n<x:a> <x:b> <x:c> <x:g> .",
+        "<x:a> <x:b> <x:c> <x:g> .\n",
+    ),
+    ("#@graph", ""),
+    ("#@graphs <x:g>", ""),
+    ("#@graph\t<x:g>", ""),
+    (" #@graph x", ""),
+    ("# \0\u{85}\u{2028}", ""),
+    (
+        "<x:a> <x:b> <x:c> <x:h> .\n<x:a> <x:b> <x:c> <x:g> .\n<x:a> <x:b> <x:c> .",
+        "<x:a> <x:b> <x:c> .\n<x:a> <x:b> <x:c> <x:g> .\n<x:a> <x:b> <x:c> <x:h> .\n",
+    ),
 ];
 
 #[test]
@@ -42,16 +70,38 @@ fn read_and_written(rt: HostRuntime) -> Result<(), Fail> {
     Ok(())
 }
 
+/// Bases, and the tag that each has.
+const TAGS: [(&str, u32); 6] = [
+    ("_:m1r <x:p> <x:a> .\n_:m3r5 <x:p> <x:a> .", 2),
+    ("_:m10r1 <x:p> <x:a> .\n_:m01r1 <x:p> <x:a> .", 1),
+    ("<x:a> <x:p> _:m1r0o0l0s0 .", 2),
+    ("_:m1 <x:p> _:m1s .\n_:M1r <x:p> <x:a> .", 1),
+    ("<x:a> <x:p> \"_:m1r\" .", 1),
+    ("_:m3r <x:p> _:m2r .\n_:m1r <x:p> _:m5r .", 4),
+];
+
+#[test]
+fn tags(rt: HostRuntime) -> Result<(), Fail> {
+    for (text, wanted) in &TAGS {
+        let dataset = read_bytes(rt.alloc(), text.as_bytes())?;
+        assert_eq!(rt; tag(rt.alloc(), &dataset)?, *wanted, "{text:?}");
+    }
+    Ok(())
+}
+
 #[test]
 fn one_quad(rt: HostRuntime) -> Result<(), Fail> {
     let dataset = read_bytes(rt.alloc(), b"<x:a> <x:b> <x:c> .")?;
-    assert!(rt; matches!(dataset.quads(), [only] if is_quad(only, ["x:a", "x:b", "x:c"], None)));
-    assert!(rt; dataset.names().is_empty());
+    let parts = dataset.parts();
+    assert!(rt;
+        matches!(parts.quads, [only] if is_quad(parts.terms, only, ["x:a", "x:b", "x:c"], None))
+    );
+    assert!(rt; parts.names.is_empty());
     Ok(())
 }
 
 /// Texts, and the number of the first bad line of each.
-const BAD: [(&[u8], usize); 12] = [
+const BAD: [(&[u8], usize); 24] = [
     (b"x", 1),
     (b"\n<x:a> <x:b> <x:c>", 2),
     (b"\r\n\r<x:a> <x:b> .\r\r", 3),
@@ -59,11 +109,23 @@ const BAD: [(&[u8], usize); 12] = [
     (b"<x:a> <x:b> <x:c> .\n<a> <x:b> <x:c> .", 2),
     (b"# \xff", 1),
     (b"<x:\xff> <x:b> <x:c> .", 1),
-    (b"<x:\\u0061> <x:b> <x:c> .", 1),
-    (b"<x:a> <x:b> \"c\" .", 1),
-    (b"_:a <x:b> <x:c> .", 1),
-    (b"<x:a> <x:b> <x:c> <x:g> .", 1),
-    (b"#@graph <x:g>", 1),
+    (b"<x:a> <x:b> \"\xff\" .", 1),
+    (b"<x:a> <x:b> \"a\rb\" .", 1),
+    (b"\"a\" <x:b> <x:c> .", 1),
+    (b"<x:a> _:b <x:c> .", 1),
+    (b"<x:a> \"b\" <x:c> .", 1),
+    (b"<x:a> <x:b> <x:c> _:g .", 1),
+    (b"<x:a> <x:b> <x:c> \"g\" .", 1),
+    (b"<x:a> <x:b> <x:c> <g> .", 1),
+    (b"<x:a> <x:b> <x:c> <x:g> <x:h> .", 1),
+    (b"#@graph x:g", 1),
+    (b"#@graph  <x:g>", 1),
+    (b"#@graph <x:g> # g", 1),
+    (b"#@graph <x:g> .", 1),
+    (b"#@graph <g>", 1),
+    (b"#@graph <x:g", 1),
+    (b"#@graph _:g", 1),
+    (b"\n#@graph ", 2),
 ];
 
 /// Whether the line of this number is the first bad one. An `Err` where memory ran out.

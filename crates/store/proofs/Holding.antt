@@ -2,7 +2,6 @@
 use Rattle.std.proofs.Common.{◌≡◌, Bool, true, false, List, [], ◌∷◌, ◌++◌, Option, Some, None, Ok, Err, refl, sym, ap, ◌∙◌}
 use Rattle.std.specs.Prelude.{◌||◌, ◌&&◌, not, filter}
 use Rattle.std.specs.List.{list_all, flat_map}
-use Rattle.std.specs.Option.{option_to_list}
 use Rattle.std.specs.Ordering.{eq_by_cmp, is_eq}
 use Rattle.std.specs.Cmp.{tied_itself}
 use Rattle.std.proofs.lemmas.Bool.{and_parts, and_from, or_right}
@@ -11,7 +10,6 @@ use Rattle.sets.proofs.SetLaws.{has-set_of, has-filter}
 use Rattle.terms.specs.Term.{term_order}
 use Rattle.terms.specs.TermLaws.{term_total, term_exact}
 use Rattle.terms.specs.declared.term.Term.{Term}
-use Rattle.datasets.specs.declared.quad.Quad.{Quad}
 use Rattle.dict.specs.Dictionary.{is_written}
 use Rattle.meaning.specs.Run.{Request}
 use Rattle.meaning.specs.declared.update.Slot.{Slot}
@@ -24,9 +22,8 @@ use Rattle.meaning.specs.declared.update.Plan.{Plan}
 use Rattle.meaning.specs.declared.update.Plan.TheVariants.{Empty, Triple}
 use Rattle.meaning.specs.declared.update.Operation.{Operation}
 use Rattle.meaning.specs.declared.update.Operation.TheVariants as operation
-use Rattle.meaning_laws.specs.Renaming.{option_known, quad_known, slot_known, graph_known, template_known, place_known, pattern_known, plan_known, operation_known, request_known}
+use Rattle.meaning_laws.specs.Renaming.{slot_known, graph_known, template_known, place_known, pattern_known, plan_known, operation_known, request_known}
 use Rattle.rules.specs.Terms.{terms_of_slot, terms_of_graph, terms_of_quad as terms_of_template, terms_of_place, terms_of_pattern, terms_of_plan, terms_of_operation, terms_of_request, terms_of}
-use Rattle.store.specs.Collected.{terms_of_quad}
 use Rattle.store.specs.Held.{is_held}
 
 all_such : (p : Term → Bool) (xs : List Term) → ((t : Term) → has term_order xs t ≡ true → p t ≡ true) → list_all p xs ≡ true
@@ -110,29 +107,12 @@ module _ (p : Term → Bool) where
   pub block_held : (block : List (Request Term)) → list_all p (terms_of block) ≡ true → list_all (request_known p) block ≡ true
   block_held block h = spread_parts terms_of_request (request_known p) request_held block h
 
-  name_held : (g : Option Term) → list_all p (option_to_list g) ≡ true → option_known p g ≡ true
-  name_held None h = refl
-  name_held (Some t) h = (and_parts (p t) true h).0
-
-  quad_held : (q : Quad Term) → list_all p (terms_of_quad q) ≡ true → quad_known p q ≡ true
-  quad_held q h =
-      let a = and_parts (p q.subject) (p q.predicate && (p q.object && list_all p (option_to_list q.graph))) h in
-      let b = and_parts (p q.predicate) (p q.object && list_all p (option_to_list q.graph)) a.1 in
-      let c = and_parts (p q.object) (list_all p (option_to_list q.graph)) b.1 in
-      and_from (p q.subject) (p q.predicate && (p q.object && option_known p q.graph)) a.0
-      (and_from (p q.predicate) (p q.object && option_known p q.graph) b.0
-      (and_from (p q.object) (option_known p q.graph) c.0 (name_held q.graph c.1)))
-
-  pub quads_held : (quads : List (Quad Term)) → list_all p (flat_map terms_of_quad quads) ≡ true → list_all (quad_known p) quads ≡ true
-  quads_held quads h = spread_parts terms_of_quad (quad_known p) quad_held quads h
-
--- the parts of what was collected from a block, quads and names
-pub all_three : (found terms : List Term) (block : List (Request Term)) (quads : List (Quad Term)) (names : List Term)
-    → found ≡ (terms_of block ++ flat_map terms_of_quad quads) ++ names → terms ≡ set_of term_order (filter is_written found)
-    → (list_all (request_known (is_held terms)) block ≡ true) × ((list_all (quad_known (is_held terms)) quads ≡ true) × (list_all (is_held terms) names ≡ true))
-all_three found terms block quads names made frozen =
+-- the parts of what was collected from a block and a list of terms
+pub both_held : (found terms : List Term) (block : List (Request Term)) (others : List Term)
+    → found ≡ terms_of block ++ others → terms ≡ set_of term_order (filter is_written found)
+    → (list_all (request_known (is_held terms)) block ≡ true) × (list_all (is_held terms) others ≡ true)
+both_held found terms block others made frozen =
     let held : list_all (is_held terms) found ≡ true = ap (λ (ts : List Term). list_all (is_held ts) found) frozen ∙ all_held found in
-    let whole : list_all (is_held terms) ((terms_of block ++ flat_map terms_of_quad quads) ++ names) ≡ true = sym (ap (λ (ts : List Term). list_all (is_held terms) ts) made) ∙ held in
-    let a = all_parts (is_held terms) (terms_of block ++ flat_map terms_of_quad quads) names whole in
-    let b = all_parts (is_held terms) (terms_of block) (flat_map terms_of_quad quads) a.0 in
-    (block_held (is_held terms) block b.0, (quads_held (is_held terms) quads b.1, a.1))
+    let whole : list_all (is_held terms) (terms_of block ++ others) ≡ true = sym (ap (λ (ts : List Term). list_all (is_held terms) ts) made) ∙ held in
+    let parts = all_parts (is_held terms) (terms_of block) others whole in
+    (block_held (is_held terms) block parts.0, parts.1)

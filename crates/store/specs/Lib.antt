@@ -1,3 +1,3 @@
-pub mod Collected
 pub mod Held
+pub mod Tables
 pub mod Numbered

@@ -5,7 +5,6 @@
 //! `meaning`. Used above: what is numbered, run and named is the sequential run of the block on the base.
 #![tactic(auto)]
 
-pub mod collecting;
 pub mod laws;
 pub mod naming;
 pub mod numbering;

@@ -41,7 +41,7 @@ fn one_refused(alloc: Global) -> Result<Block, AllocError> {
 
 // To numbers and back.
 fn back(alloc: Global, dataset: &DataSet, block: &Block) -> Result<DataSet, AllocError> {
-    let _ = dataset.quads();
+    let _ = dataset.parts();
     let numbered = number(alloc, dataset, block)?;
     named(alloc, &numbered.terms, &numbered.base)
 }
@@ -69,7 +69,15 @@ fn to_numbers(rt: HostRuntime) -> Result<(), AllocError> {
 fn to_terms(rt: HostRuntime) -> Result<(), AllocError> {
     let alloc = rt.alloc();
     let dataset = back(alloc, &one_quad(alloc)?, &one_refused(alloc)?)?;
-    assert!(rt; dataset.quads().len() == 1);
-    assert!(rt; matches!(dataset.names(), [Term::Iri(name)] if name.as_str() == "x:d"));
+    let parts = dataset.parts();
+    let quad = Quad {
+        subject: 2,
+        predicate: 1,
+        object: 0,
+        graph: Some(3),
+    };
+    assert!(rt; matches!(parts.quads, [only] if *only == quad));
+    assert!(rt; matches!(parts.names, [3]));
+    assert!(rt; matches!(parts.terms, [_, _, _, Term::Iri(name)] if name.as_str() == "x:d"));
     Ok(())
 }

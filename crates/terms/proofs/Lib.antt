@@ -1,1 +1,3 @@
 pub mod DataSetLaws
+pub mod PlacedLaws
+pub mod FormLaws

@@ -1,6 +1,9 @@
 pub mod Literal
 pub mod Parts
+pub mod Tag
 pub mod Term
 pub mod TermLaws
+pub mod Hashed
+pub mod Placed
 pub mod DataSet
 pub mod Canonical

@@ -7,6 +7,7 @@ ghost use Rattle.datasets.specs.Dataset.{quad_order, names_of};
 ghost use Rattle.terms.specs.declared.term.Term.{Term};
 ghost use Rattle.terms.specs.Term.{term_order, text_cmp};
 ghost use Rattle.terms.specs.DataSet.{in_named, ListsGrowAsDatasets};
+ghost use Rattle.terms.specs.Placed.{TermsKeepPlaces};
 
 /// The dataset of a list with one more quad is the dataset of the list with that quad put in.
 pub fn lists_grow_as_datasets()
@@ -23,4 +24,9 @@ pub fn sets_pass_alike()
     ensures quads { (test : Quad Term → Bool) (quads : List (Quad Term)) → list_any test (set_of (quad_order term_order) quads) ≡ list_any test quads }
     ensures names { (test : Term → Bool) (names : List Term) → list_any test (set_of term_order names) ≡ list_any test names }
     ensures texts { (test : List ℕ → Bool) (texts : List (List ℕ)) → list_any test (set_of text_cmp texts) ≡ list_any test texts }
+{}
+
+/// Where a list of terms goes on, each term keeps its place.
+pub fn terms_keep_places()
+    ensures { TermsKeepPlaces }
 {}

@@ -5,13 +5,17 @@
 #![tactic(auto)]
 
 mod dataset;
+mod forms;
+mod hash;
 pub mod laws;
 mod literal;
 mod order;
+mod table;
 mod term;
 mod text;
 
-pub use dataset::DataSet;
+pub use dataset::{DataSet, Parts};
 pub use literal::{Blank, Literal};
+pub use table::TermTable;
 pub use term::Term;
 pub use text::{canonical, term_text};

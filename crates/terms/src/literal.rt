@@ -1,8 +1,13 @@
 //! Literals and the labels of blank nodes.
-ghost use Rattle.std.specs.Prelude.{◌≡◌, IfOk};
+ghost use Rattle.std.specs.Prelude.{◌≡◌, IfOk, MatchOption, true, false, nat_eq};
 ghost use Rattle.std.specs.Option.{option_copied};
-ghost use Rattle.terms.specs.Parts.{tag_bytes};
+ghost use Rattle.std.specs.Cmp.Lexicographic.{pointwise};
+ghost use Rattle.iris.specs.Iri.{IsIri};
+ghost use Rattle.iris.specs.Forms.{is_label};
+ghost use Rattle.terms.specs.Literal.{lang_string, IsLiteral};
+ghost use Rattle.terms.specs.Parts.{tag_bytes, parts_value, is_tagged_alike};
 
+use crate::forms::{is_label, is_tag};
 use iris::Iri;
 use std::alloc::{AllocError, Global};
 use std::marker::Model;
@@ -35,7 +40,7 @@ pub struct Blank {
 
 impl Model for Blank {
     ghost use Rattle.std.specs.Prelude.{List, ℕ, string_bytes, ◌≡◌, true};
-    ghost use Rattle.terms.specs.Literal.{is_label};
+    ghost use Rattle.iris.specs.Forms.{is_label};
 
     ghost Value = { List ℕ };
 
@@ -54,7 +59,42 @@ fn tag_copied(tag: &Option<String>) -> Result<Option<String>, AllocError>
     }
 }
 
+fn is_lang_string(datatype: &Iri) -> bool
+    ensures test { result ≡ pointwise nat_eq datatype.now lang_string }
+    ensures iri { IsIri datatype.now }
+{
+    datatype.as_str() == "http://www.w3.org/1999/02/22-rdf-syntax-ns#langString"
+}
+
+/// Whether this tag stands with this datatype: a language tag in lower case with rdf:langString, and none with any other.
+fn is_tagged_alike(datatype: &Iri, tag: &Option<String>) -> bool
+    ensures test { result ≡ is_tagged_alike datatype.now (tag_bytes tag.now) }
+    ensures iri { IsIri datatype.now }
+{
+    let is_lang_string = is_lang_string(datatype);
+    match tag {
+        None => !is_lang_string,
+        Some(tag) => is_lang_string && is_tag(tag.as_bytes()),
+    }
+}
+
 impl Literal {
+    /// The literal of these parts (RDF 1.1 Concepts, 3.3), `None` where they are none: the tag isn't a language tag in lower case, or it
+    /// stands with another datatype than rdf:langString, or it is missing with that one.
+    #[tactic(auto, using(crate::proofs::FormLaws::literals))]
+    pub fn new(lexical: String, datatype: Iri, tag: Option<String>) -> Option<Literal>
+        ensures { MatchOption result (IsLiteral (parts_value lexical datatype tag) → ⊥) (λ l. (l ≡ parts_value lexical datatype tag) × IsLiteral l) }
+    {
+        if !is_tagged_alike(&datatype, &tag) {
+            return None;
+        }
+        Some(Literal {
+            lexical,
+            datatype,
+            tag,
+        })
+    }
+
     /// The same literal again.
     pub fn copied(&self, alloc: Global) -> Result<Literal, AllocError>
         ensures { IfOk result (λ copy. copy ≡ self.now) }
@@ -68,7 +108,8 @@ impl Literal {
 
     /// The lexical form.
     pub fn lexical(&self) -> &str
-        ensures { result.now ≡ self.now.lexical }
+        ensures text { result.now ≡ self.now.lexical }
+        ensures form { IsLiteral self.now }
     {
         self.lexical.as_str()
     }
@@ -92,9 +133,21 @@ impl Literal {
 }
 
 impl Blank {
+    /// The label of a text without `_:`, if it is one: one or more ASCII letters, digits and `_`. An `Err` comes only where memory runs out.
+    pub fn check(alloc: Global, text: &str) -> Result<Option<Blank>, AllocError>
+        ensures { IfOk result (λ found. MatchOption found (is_label text.now ≡ false) (λ blank. (blank ≡ text.now) × (is_label text.now ≡ true))) }
+    {
+        if !is_label(text.as_bytes()) {
+            return Ok(None);
+        }
+        let label = String::from_str(alloc, text)?;
+        Ok(Some(Blank { label }))
+    }
+
     /// The label, without `_:`.
     pub fn as_str(&self) -> &str
-        ensures { result.now ≡ self.now }
+        ensures text { result.now ≡ self.now }
+        ensures form { is_label self.now ≡ true }
     {
         self.label.as_str()
     }

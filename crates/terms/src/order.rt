@@ -33,11 +33,16 @@ fn tag_cmp(a: Option<&str>, b: Option<&str>) -> Ordering
     }
 }
 
+fn lexical_cmp(a: &Literal, b: &Literal) -> Ordering
+    ensures { result ≡ text_cmp a.now.lexical b.now.lexical }
+{
+    a.lexical().cmp(b.lexical())
+}
+
 fn literal_cmp(a: &Literal, b: &Literal) -> Ordering
     ensures { result ≡ literal_order a.now b.now }
 {
-    a.lexical()
-        .cmp(b.lexical())
+    lexical_cmp(a, b)
         .then(a.datatype().as_str().cmp(b.datatype().as_str()))
         .then(tag_cmp(a.tag(), b.tag()))
 }

@@ -8,10 +8,10 @@ pub outcome_of-requires-clause-short : goal.outcome_of-requires-clause-short
 outcome_of-requires-clause-short g c = short _ _ _ _ _ c.in_ok-numbered.ensures c.requires.short
 
 pub named-requires-clause-known : goal.named-requires-clause-known
-named-requires-clause-known g c = known _ _ _ _ _ c.in_ok-numbered.ensures c.carries_block.ensures c.quads-quads.ensures.dataset _ _ c.in_ok-outcome.ensures
+named-requires-clause-known g c = known _ _ _ _ _ c.in_ok-numbered.ensures c.carries_block.ensures c.parts-parts.ensures.dataset _ _ c.in_ok-dataset.ensures
 
 pub named-requires-clause-dataset : goal.named-requires-clause-dataset
-named-requires-clause-dataset g c = named_dataset _ _ _ _ _ c.in_ok-numbered.ensures c.carries_block.ensures c.quads-quads.ensures.dataset _ _ c.in_ok-outcome.ensures
+named-requires-clause-dataset g c = named_dataset _ _ _ _ _ c.in_ok-numbered.ensures c.carries_block.ensures c.parts-parts.ensures.dataset _ _ c.in_ok-dataset.ensures
 
 pub returns : goal.returns
 returns g c = record {
@@ -19,8 +19,8 @@ returns g c = record {
   tagged = c.in_ok-tag.ensures;
   dataset_is =
       c.in_ok-canonical_text.ensures ∙ ap (λ d. canonical d c.in_ok-tag.tag)
-      (c.in_ok-answer.ensures ∙ named_is _ _ _ _ _ c.in_ok-numbered.ensures c.carries_block.ensures c.quads-quads.ensures.dataset _ _ c.in_ok-outcome.ensures);
+      (c.in_ok-answer.ensures ∙ named_is _ _ _ _ _ c.in_ok-numbered.ensures c.carries_block.ensures c.parts-parts.ensures.dataset _ _ c.in_ok-dataset.ensures);
   replies_are =
       c.in_ok-replies_text.ensures ∙ ap reply_lines
-      (c.as_slice.ensures ∙ replies_are _ _ _ _ _ c.in_ok-numbered.ensures c.carries_block.ensures c.quads-quads.ensures.dataset _ _ c.in_ok-outcome.ensures);
+      (c.as_slice.ensures ∙ replies_are _ _ _ _ _ c.in_ok-numbered.ensures c.carries_block.ensures c.parts-parts.ensures.dataset _ _ c.in_ok-dataset.ensures);
 }

@@ -1,12 +1,19 @@
-use Rattle.std.proofs.Common.{◌≡◌, false, sym, ap, ◌∙◌, arith, rules}
-use Rattle.std.proofs.lemmas.Bool.{not-true}
-use Rattle.std.specs.List.{list_any}
-use Rattle.nquads.specs.Tag.{is_marked}
-use Rattle.nquads.proofs.TagLaws.{tag_is}
+use Rattle.std.specs.HashSet.{contains}
+use Rattle.std.specs.Ordering.{eq_by_cmp}
+use Rattle.std.proofs.Common.{◌≡◌, false, true, sym, ap, ◌∙◌, arith, rules}
+use Rattle.std.proofs.lemmas.Bool.{not-true, not-false}
+use Rattle.terms.specs.Term.{text_cmp}
+use Rattle.nquads.proofs.TagLaws.{tag_is, taken_further}
 use Rattle.nquads.proofs.tags.tag.Goals as goal
 
-pub returns-then-not-is_any_marked : goal.returns-then-not-is_any_marked
-returns-then-not-is_any_marked c =
-    let none : c.is_any_marked.result ≡ false = search (rules, not-true) in
-    tag_is c.sets_pass_alike.ensures.quads c.args.dataset.now c.quads-quads.result.now c.loop-tag.tag c.quads-quads.ensures.quads (omega arith)
-    (ap (λ mark. list_any (is_marked mark) c.quads-quads.result.now) (sym (c.as_slice.ensures.value ∙ c.in_ok-mark.ensures)) ∙ sym c.is_any_marked.ensures ∙ none) c.loop-tag.invariant
+pub returns-then-not-contains : goal.returns-then-not-contains
+returns-then-not-contains c =
+    let none : c.contains.result ≡ false = search (rules, not-true) in
+    tag_is c.args.dataset.now c.loop-tag.tag (omega arith)
+    (sym (c.in_ok-taken.ensures c.loop-tag.tag (omega arith)) ∙ ap (contains (eq_by_cmp text_cmp) c.in_ok-taken.taken) (sym c.in_ok-mark.ensures) ∙ sym c.contains.ensures ∙ none) c.loop-tag.invariant
+
+pub loop-tag-preserved : goal.loop-tag-preserved
+loop-tag-preserved c =
+    let there : c.contains.result ≡ true = search (rules, not-false) in
+    taken_further c.args.dataset.now.quads c.loop-tag.tag c.loop-tag.invariant
+    (sym (c.in_ok-taken.ensures c.loop-tag.tag (omega arith)) ∙ ap (contains (eq_by_cmp text_cmp) c.in_ok-taken.taken) (sym c.in_ok-mark.ensures) ∙ sym c.contains.ensures ∙ there)

@@ -3,4 +3,4 @@ use Rattle.nquads.specs.Tag.{is_taken}
 use Rattle.nquads.proofs.tags.tag.Given as goal
 
 abbrev pub invariant-loop-tag : goal.invariant-loop-tag
-invariant-loop-tag l = (n : ℕ) → 1 ≤ n → n < l.tag → is_taken l.quads n ≡ true
+invariant-loop-tag l = (n : ℕ) → 1 ≤ n → n < l.tag → is_taken l.dataset.quads n ≡ true

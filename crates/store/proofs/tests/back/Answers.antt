@@ -8,4 +8,4 @@ pub named-requires-clause-known : goal.named-requires-clause-known
 named-requires-clause-known c = c.in_ok-numbered.ensures.base_known
 
 pub named-requires-clause-dataset : goal.named-requires-clause-dataset
-named-requires-clause-dataset c = subst (λ (e : Dataset Term). IsDataset term_order e) (sym c.in_ok-numbered.ensures.base_is) c.quads.ensures.dataset
+named-requires-clause-dataset c = subst (λ (e : Dataset Term). IsDataset term_order e) (sym c.in_ok-numbered.ensures.base_is) c.parts.ensures.dataset

@@ -1,15 +1,41 @@
-use Rattle.std.proofs.Common.{sym, subst, ap, ◌∙◌}
-use Rattle.datasets.specs.Dataset.{IsDataset}
-use Rattle.terms.specs.Term.{term_order}
-use Rattle.terms.specs.DataSet.{dataset_of, with_quad}
-use Rattle.terms.proofs.DataSetLaws.{quad_pushed, IsDataset-with_quad}
+use Rattle.std.proofs.Common.{refl, ap, ◌∙◌}
+use Rattle.terms.specs.DataSet.{with_quad}
+use Rattle.terms.proofs.PlacedLaws.{on_error, same_placed, same_dataset, with_quad_placed, with_quad_dataset}
 use Rattle.terms.proofs.dataset.DataSet.add.Goals as goal
+
+pub invariant_of-self : goal.invariant_of-self
+invariant_of-self c =
+    same_placed c.self.inside.terms c.placed_quad.new.terms c.in_err-quad.ensures.kept
+    c.self.inside.quads.items c.self.inside.quads.items c.self.inside.names.items c.self.inside.names.items c.self.invariant refl refl
+
+pub returns-in_err-quad-clause-err : goal.returns-in_err-quad-clause-err
+returns-in_err-quad-clause-err c =
+    on_error c.from_residual.result
+    (same_dataset c.self.inside.terms c.placed_quad.new.terms c.in_err-quad.ensures.kept
+    c.self.inside.quads.items c.self.inside.quads.items c.self.inside.names.items c.self.inside.names.items c.self.invariant refl refl ∙ c.self.view_is)
+
+pub invariant_of-self-in_err-push_both : goal.invariant_of-self-in_err-push_both
+invariant_of-self-in_err-push_both c =
+    same_placed c.self.inside.terms c.placed_quad.new.terms c.in_ok-quad.ensures.kept
+    c.self.inside.quads.items c.push_both.new.quads.items c.self.inside.names.items c.push_both.new.names.items c.self.invariant
+    c.in_err-push_both.ensures.err.0 c.in_err-push_both.ensures.err.1
+
+pub returns-in_err-push_both-clause-err : goal.returns-in_err-push_both-clause-err
+returns-in_err-push_both-clause-err c =
+    on_error c.from_residual-in_err-push_both.result
+    (same_dataset c.self.inside.terms c.placed_quad.new.terms c.in_ok-quad.ensures.kept
+    c.self.inside.quads.items c.push_both.new.quads.items c.self.inside.names.items c.push_both.new.names.items c.self.invariant
+    c.in_err-push_both.ensures.err.0 c.in_err-push_both.ensures.err.1 ∙ c.self.view_is)
 
 pub invariant_of-self-2 : goal.invariant_of-self-2
 invariant_of-self-2 c =
-    subst (IsDataset term_order) (sym ((λ i. dataset_of (c.in_ok-push_both.ensures.quads i) (c.in_ok-push_both.ensures.names i)) ∙ quad_pushed c.self.inside.quads.items c.self.inside.names.items c.args.quad))
-    (IsDataset-with_quad c.args.quad (dataset_of c.self.inside.quads.items c.self.inside.names.items) c.self.invariant)
+    with_quad_placed c.self.inside.terms c.placed_quad.new.terms c.in_ok-quad.ensures.kept
+    c.self.inside.quads.items c.push_both.new.quads.items c.self.inside.names.items c.push_both.new.names.items c.self.invariant
+    c.in_ok-quad.quad c.args.quad c.in_ok-quad.ensures.quad c.in_ok-quad.ensures.within c.in_ok-push_both.ensures.quads c.in_ok-push_both.ensures.names
 
 pub returns-clause-ok : goal.returns-clause-ok
 returns-clause-ok c =
-    (λ i. dataset_of (c.in_ok-push_both.ensures.quads i) (c.in_ok-push_both.ensures.names i)) ∙ quad_pushed c.self.inside.quads.items c.self.inside.names.items c.args.quad ∙ ap (with_quad c.args.quad) c.self.view_is
+    with_quad_dataset c.self.inside.terms c.placed_quad.new.terms c.in_ok-quad.ensures.kept
+    c.self.inside.quads.items c.push_both.new.quads.items c.self.inside.names.items c.push_both.new.names.items c.self.invariant
+    c.in_ok-quad.quad c.args.quad c.in_ok-quad.ensures.quad c.in_ok-quad.ensures.within c.in_ok-push_both.ensures.quads c.in_ok-push_both.ensures.names
+    ∙ ap (with_quad c.args.quad) c.self.view_is

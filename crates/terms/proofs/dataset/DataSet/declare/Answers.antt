@@ -1,13 +1,41 @@
-use Rattle.std.proofs.Common.{sym, subst, ap, ◌∙◌}
-use Rattle.datasets.specs.Dataset.{IsDataset}
-use Rattle.terms.specs.Term.{term_order}
-use Rattle.terms.specs.DataSet.{dataset_of, with_graph}
-use Rattle.terms.proofs.DataSetLaws.{graph_pushed, IsDataset-with_graph}
+use Rattle.std.proofs.Common.{refl, ap, ◌∙◌}
+use Rattle.terms.specs.DataSet.{with_graph}
+use Rattle.terms.proofs.PlacedLaws.{on_error, same_placed, same_dataset, with_graph_placed, with_graph_dataset}
 use Rattle.terms.proofs.dataset.DataSet.declare.Goals as goal
+
+pub invariant_of-self : goal.invariant_of-self
+invariant_of-self c =
+    same_placed c.self.inside.terms c.place_of.new.self c.in_err-place.ensures.kept
+    c.self.inside.quads.items c.self.inside.quads.items c.self.inside.names.items c.self.inside.names.items c.self.invariant refl refl
+
+pub returns-in_err-place-clause-err : goal.returns-in_err-place-clause-err
+returns-in_err-place-clause-err c =
+    on_error c.from_residual.result
+    (same_dataset c.self.inside.terms c.place_of.new.self c.in_err-place.ensures.kept
+    c.self.inside.quads.items c.self.inside.quads.items c.self.inside.names.items c.self.inside.names.items c.self.invariant refl refl ∙ c.self.view_is)
+
+pub invariant_of-self-in_err-push : goal.invariant_of-self-in_err-push
+invariant_of-self-in_err-push c =
+    same_placed c.self.inside.terms c.place_of.new.self c.in_ok-place.ensures.kept
+    c.self.inside.quads.items c.self.inside.quads.items c.self.inside.names.items c.push.new.self.items c.self.invariant
+    refl c.in_err-push.ensures.items
+
+pub returns-in_err-push-clause-err : goal.returns-in_err-push-clause-err
+returns-in_err-push-clause-err c =
+    on_error c.from_residual-in_err-push.result
+    (same_dataset c.self.inside.terms c.place_of.new.self c.in_ok-place.ensures.kept
+    c.self.inside.quads.items c.self.inside.quads.items c.self.inside.names.items c.push.new.self.items c.self.invariant
+    refl c.in_err-push.ensures.items ∙ c.self.view_is)
 
 pub invariant_of-self-2 : goal.invariant_of-self-2
 invariant_of-self-2 c =
-    subst (IsDataset term_order) (sym (ap (dataset_of c.self.inside.quads.items) c.in_ok-push.ensures.items ∙ graph_pushed c.self.inside.quads.items c.self.inside.names.items c.args.name)) (IsDataset-with_graph c.args.name (dataset_of c.self.inside.quads.items c.self.inside.names.items) c.self.invariant)
+    with_graph_placed c.self.inside.terms c.place_of.new.self c.in_ok-place.ensures.kept
+    c.self.inside.quads.items c.self.inside.quads.items c.self.inside.names.items c.push.new.self.items c.self.invariant
+    c.in_ok-place.place c.args.name c.in_ok-place.ensures.term c.in_ok-place.ensures.within refl c.in_ok-push.ensures.items
 
 pub returns-clause-ok : goal.returns-clause-ok
-returns-clause-ok c = ap (dataset_of c.self.inside.quads.items) c.in_ok-push.ensures.items ∙ graph_pushed c.self.inside.quads.items c.self.inside.names.items c.args.name ∙ ap (with_graph c.args.name) c.self.view_is
+returns-clause-ok c =
+    with_graph_dataset c.self.inside.terms c.place_of.new.self c.in_ok-place.ensures.kept
+    c.self.inside.quads.items c.self.inside.quads.items c.self.inside.names.items c.push.new.self.items c.self.invariant
+    c.in_ok-place.place c.args.name c.in_ok-place.ensures.term c.in_ok-place.ensures.within refl c.in_ok-push.ensures.items
+    ∙ ap (with_graph c.args.name) c.self.view_is
