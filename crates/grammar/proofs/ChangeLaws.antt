@@ -170,8 +170,8 @@ module _ (below : Below) where
       let c = below.quads_takes r xs rest is in
       omega arith
 
-  pub where_takes : {ts r rest : List Token} {ps : List Part} → ReadsKeyword (codes "WHERE") ts r → ReadsGroup most_nested r ps rest → length rest < length ts
-  where_takes {ts} {r} {rest} {ps} word is =
+  pub where_takes : {ts r : List Token} (ps : List Part) (rest : List Token) → ReadsKeyword (codes "WHERE") ts r → ReadsGroup most_nested r ps rest → length rest < length ts
+  where_takes {ts} {r} ps rest word is =
       let a = keyword_takes word in
       let c = below.group_takes most_nested r ps rest is in
       omega arith

@@ -151,7 +151,7 @@ module _ (below : Below) where
   operation_takes _ _ _ (reads.modify in_graph change where_word is) =
       let a = with_keeps in_graph in
       let c = change_takes below change in
-      let d = where_takes below where_word is in
+      let d = where_takes below _ _ where_word is in
       omega arith
 
   pub no_tokens : {x : Operation} {rest : List Token} → ReadsOperation [] x rest → ⊥

@@ -367,7 +367,12 @@ fn groups(rt: HostRuntime) -> Result<(), AllocError> {
     let text = "DELETE WHERE { ?s <a:p> ?o GRAPH ?g { } }";
     let modify = only_modify(alloc, text)?;
     assert!(rt; modify.width == 3 && modify.delete.len() == 1 && modify.insert.is_empty());
-    let Plan::Join(_, right) = modify.pattern.plan() else {
+    // Behind a GRAPH block more of the default graph may stand, here nothing.
+    let Plan::Join(before, last) = modify.pattern.plan() else {
+        return Err(AllocError);
+    };
+    assert!(rt; matches!(&**last, Plan::Basic(triples) if triples.is_empty()));
+    let Plan::Join(_, right) = &**before else {
         return Err(AllocError);
     };
     assert!(rt; matches!(&**right, Plan::InGraph(Place::Variable(0), _)));
