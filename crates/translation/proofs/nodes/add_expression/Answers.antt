@@ -1,5 +1,4 @@
-use Rattle.std.proofs.Common.{List, [], ◌∷◌, refl, ap, sym, ◌∙◌}
-use Rattle.syntax_trees.specs.declared.tree.Node.{Node}
+use Rattle.std.proofs.Common.{[], ◌∷◌, refl, ap, sym, ◌∙◌}
 use Rattle.syntax_trees.specs.declared.tree.Node.TheVariants as node
 use Rattle.syntax_trees.specs.Expressions.{tree_of}
 use Rattle.translation.specs.Nodes.{nodes_of_tree}
