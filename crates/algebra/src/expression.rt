@@ -34,7 +34,6 @@ pub enum TwoOperator {
 }
 
 /// A filter expression (SPARQL 1.1 Query, section 17). Variables have the numbers that they have in patterns.
-#[derive(Drop)]
 pub enum Expression<T> {
     Constant(T),
     Variable(u32),
@@ -42,4 +41,19 @@ pub enum Expression<T> {
     Bound(u32),
     One(OneOperator, Box<Expression<T>>),
     Two(TwoOperator, Box<Expression<T>>, Box<Expression<T>>),
+}
+
+// A loop: the first operands of a text lie as deep as it is long.
+impl<T: Drop> Drop for Expression<T> {
+    fn drop(mut self) {
+        loop {
+            match self {
+                Expression::Two(_, first, _second) => self = Box::into_inner(first),
+                Expression::One(_, inner) => self = Box::into_inner(inner),
+                Expression::Constant(_term) => return,
+                Expression::Variable(_) => return,
+                Expression::Bound(_) => return,
+            }
+        }
+    }
 }

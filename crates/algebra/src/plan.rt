@@ -8,7 +8,6 @@ use sets::Items;
 use std::marker::Model;
 
 /// A graph pattern of the algebra (SPARQL 1.1 Query, 18.2 and 18.6). The filters of a list all have to hold.
-#[derive(Drop)]
 pub enum Plan<T> {
     /// A basic graph pattern, asked of the active graph. With no triple pattern it is the empty group.
     Basic(Items<TriplePattern<T>>),
@@ -19,6 +18,23 @@ pub enum Plan<T> {
     Filter(Vec<Expression<T>>, Box<Plan<T>>),
     /// A pattern that is asked of a named graph, or of each.
     InGraph(Place<T>, Box<Plan<T>>),
+}
+
+// A loop: the left operands of a text lie as deep as it is long.
+impl<T: Drop> Drop for Plan<T> {
+    fn drop(mut self) {
+        loop {
+            match self {
+                Plan::Join(left, _right) => self = Box::into_inner(left),
+                Plan::LeftJoin(left, _right, _condition) => self = Box::into_inner(left),
+                Plan::Union(left, _right) => self = Box::into_inner(left),
+                Plan::Minus(left, _right) => self = Box::into_inner(left),
+                Plan::Filter(_filters, inner) => self = Box::into_inner(inner),
+                Plan::InGraph(_place, inner) => self = Box::into_inner(inner),
+                Plan::Basic(_triples) => return,
+            }
+        }
+    }
 }
 
 /// The pattern of a WHERE. Contracts see its tree.

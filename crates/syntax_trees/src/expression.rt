@@ -53,7 +53,6 @@ pub enum Two {
 }
 
 /// A filter expression (SPARQL 1.1 Query, 19.8, production 110). Operands of one level stand from left to right.
-#[derive(Drop)]
 pub enum Expression<'a> {
     Binary(Operator, Box<Expression<'a>>, Box<Expression<'a>>),
     Not(Box<Expression<'a>>),
@@ -63,6 +62,22 @@ pub enum Expression<'a> {
     Bound(Piece<'a>),
     One(One, Box<Expression<'a>>),
     Two(Two, Box<Expression<'a>>, Box<Expression<'a>>),
+}
+
+// A loop: the left operands of a text lie as deep as it is long.
+impl Drop for Expression<'_> {
+    fn drop(mut self) {
+        loop {
+            match self {
+                Expression::Binary(_, left, _right) => self = Box::into_inner(left),
+                Expression::Not(_inner) => return,
+                Expression::Value(_node) => return,
+                Expression::Bound(_name) => return,
+                Expression::One(_, _inner) => return,
+                Expression::Two(_, _left, _right) => return,
+            }
+        }
+    }
 }
 
 impl Level {

@@ -29,7 +29,6 @@ pub struct Group<'a> {
 impl<'a> Model for Group<'a> {
     ghost use Rattle.std.specs.Prelude.{List};
     ghost use Rattle.syntax_trees.specs.Groups.{Part, parts_of};
-
     ghost use Rattle.std.specs.Coded.{codes};
     ghost use Rattle.syntax_trees.specs.Codes.{group_code};
 

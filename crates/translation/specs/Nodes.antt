@@ -1,5 +1,5 @@
 -- The nodes that stand in an operation, in the order of its text. A variable of BOUND counts as a node.
-use Rattle.std.specs.Prelude.{ℕ, List, [], ◌∷◌, ◌++◌, Option, Some, None}
+use Rattle.std.specs.Prelude.{List, [], ◌∷◌, ◌++◌, Option, Some, None}
 use Rattle.std.specs.List.{flat_map}
 use Rattle.std.specs.Option.{option_to_list}
 use Rattle.syntax_trees.specs.declared.tree.Name.{Name}

@@ -1,6 +1,6 @@
 -- Requests as updates over terms: names are IRIs by the latest declaration before them, variables and labels are numbers, and groups are
 -- patterns of the algebra.
-use Rattle.std.specs.Prelude.{ℕ, Bool, List, [], ◌∷◌, length, Option, Some, None}
+use Rattle.std.specs.Prelude.{ℕ, List, [], ◌∷◌, length, Option, Some, None}
 use Rattle.std.specs.Option.{option_map}
 use Rattle.terms.specs.declared.term.Term.{Term}
 use Rattle.algebra.specs.declared.update.Operation.{Operation as Made}

@@ -8,6 +8,7 @@ ghost use Rattle.algebra.specs.Plans.{plan_of};
 ghost use Rattle.translation.specs.Triples.{place_of, patterns_of};
 ghost use Rattle.syntax_trees.specs.Expressions.{tree_of};
 ghost use Rattle.syntax_trees.specs.Groups.{part_of, parts_of, group};
+ghost use Rattle.translation.specs.Chains.{chained, step_of};
 ghost use Rattle.translation.specs.Groups.{operator_of, function_of, function_of_two, value_of, translated_tree, filter_of, filters_of, filtered, empty_group, or_empty, united_with, with_part, with_parts, translated_group, block_in, with_block, with_blocks, quads_pattern};
 
 use crate::scope::Scope;
@@ -96,6 +97,24 @@ fn two_of(
     Ok(Made::Two(operator, left, Box::new(alloc, right)?))
 }
 
+/// An expression, and operators over it with their right operands, the outermost first.
+#[tactic(auto, using(crate::proofs::GroupLaws::map_push, crate::proofs::TreeLaws::chained_push))]
+fn chained(
+    alloc: Global,
+    first: Made<Term>,
+    mut steps: Vec<(TwoOperator, Made<Term>)>,
+) -> Result<Made<Term>, AllocError>
+    ensures { IfOk result (λ m. expression_of m ≡ chained (expression_of first) (map step_of steps.items)) }
+{
+    let mut made = first;
+    while let Some((operator, right)) = steps.pop() {
+        made = two_of(alloc, operator, made, right)?;
+    }
+    Ok(made)
+}
+
+/// The translation of an expression. Left operands lie as deep as a text is long: it goes down them by a loop.
+#[tactic(auto, using(crate::proofs::GroupLaws::map_push, crate::proofs::TreeLaws::chained_push))]
 fn translated_tree<'a>(
     alloc: Global,
     scope: &Scope<'_, 'a>,
@@ -103,28 +122,33 @@ fn translated_tree<'a>(
 ) -> Result<Made<Term>, AllocError>
     ensures { IfOk result (λ m. expression_of m ≡ translated_tree scope.now.prefixes.now scope.now.variables.now (tree_of expression.now)) }
 {
-    match expression {
-        Expression::Binary(operator, left, right) => {
-            let left = translated_tree(alloc, scope, left)?;
-            let right = translated_tree(alloc, scope, right)?;
-            two_of(alloc, operator_of(*operator), left, right)
+    let mut steps = Vec::new(alloc);
+    let mut rest = expression;
+    let first = loop {
+        match rest {
+            Expression::Binary(operator, left, right) => {
+                let right = translated_tree(alloc, scope, right)?;
+                steps.push((operator_of(*operator), right))?;
+                rest = left;
+            }
+            Expression::Not(inner) => {
+                let inner = translated_tree(alloc, scope, inner)?;
+                break one_of(alloc, OneOperator::Not, inner)?;
+            }
+            Expression::Value(node) => break value_of(alloc, scope, node)?,
+            Expression::Bound(name) => break Made::Bound(scope.variables.number(name)),
+            Expression::One(function, inner) => {
+                let inner = translated_tree(alloc, scope, inner)?;
+                break one_of(alloc, function_of(*function), inner)?;
+            }
+            Expression::Two(function, left, right) => {
+                let left = translated_tree(alloc, scope, left)?;
+                let right = translated_tree(alloc, scope, right)?;
+                break two_of(alloc, function_of_two(*function), left, right)?;
+            }
         }
-        Expression::Not(inner) => {
-            let inner = translated_tree(alloc, scope, inner)?;
-            one_of(alloc, OneOperator::Not, inner)
-        }
-        Expression::Value(node) => value_of(alloc, scope, node),
-        Expression::Bound(name) => Ok(Made::Bound(scope.variables.number(name))),
-        Expression::One(function, inner) => {
-            let inner = translated_tree(alloc, scope, inner)?;
-            one_of(alloc, function_of(*function), inner)
-        }
-        Expression::Two(function, left, right) => {
-            let left = translated_tree(alloc, scope, left)?;
-            let right = translated_tree(alloc, scope, right)?;
-            two_of(alloc, function_of_two(*function), left, right)
-        }
-    }
+    };
+    chained(alloc, first, steps)
 }
 
 /// Adds the filter that an element is, if it is one.

@@ -6,7 +6,7 @@ ghost use Rattle.syntax_trees.specs.Expressions.{tree_of};
 ghost use Rattle.syntax_trees.specs.Groups.{part_of, parts_of, group};
 ghost use Rattle.translation.specs.Nodes.{nodes_of_property, nodes_of_subject, nodes_of_triples, nodes_of_block, nodes_of_blocks, nodes_of_tree, nodes_of_part, nodes_of_parts, nodes_of_target, nodes_of_place, nodes_of_with, nodes_of_where, nodes_of_operation};
 
-use std::alloc::AllocError;
+use std::alloc::{AllocError, Global};
 use syntax_trees::{
     Block, Element, Expression, Literal, Name, Node, Operation, Place, Property, SameSubject,
     Target,
@@ -104,64 +104,74 @@ pub fn add_blocks<'a>(found: &mut Vec<Node<'a>>, blocks: &[Block<'a>]) -> Result
     Ok(())
 }
 
+/// Adds the nodes of an expression. Left operands lie as deep as a text is long: what is still to come stands on a stack.
+#[tactic(auto, using(crate::proofs::TreeLaws::pending_push, crate::proofs::TreeLaws::weight_push))]
 fn add_expression<'a>(
+    alloc: Global,
     found: &mut Vec<Node<'a>>,
     expression: &Expression<'a>,
 ) -> Result<(), AllocError>
     ensures { OnOk result (found.new.items ≡ found.old.items ++ nodes_of_tree (tree_of expression.now)) }
 {
-    match expression {
-        Expression::Binary(_, left, right) => {
-            add_expression(found, left)?;
-            add_expression(found, right)
-        }
-        Expression::Not(inner) => add_expression(found, inner),
-        Expression::Value(node) => {
-            found.push(node_again(node))?;
-            Ok(())
-        }
-        Expression::Bound(name) => {
-            found.push(Node::Variable(name.again()))?;
-            Ok(())
-        }
-        Expression::One(_, inner) => add_expression(found, inner),
-        Expression::Two(_, left, right) => {
-            add_expression(found, left)?;
-            add_expression(found, right)
+    let mut pending = Vec::new(alloc);
+    pending.push(expression)?;
+    while let Some(next) = pending.pop() {
+        match next {
+            Expression::Value(node) => found.push(node_again(node))?,
+            Expression::Bound(name) => found.push(Node::Variable(name.again()))?,
+            Expression::Not(inner) => pending.push(inner)?,
+            Expression::One(_, inner) => pending.push(inner)?,
+            Expression::Binary(_, left, right) => {
+                pending.push(right)?;
+                pending.push(left)?;
+            }
+            Expression::Two(_, left, right) => {
+                pending.push(right)?;
+                pending.push(left)?;
+            }
         }
     }
+    Ok(())
 }
 
 #[cycle(add_group)]
-fn add_group<'a>(found: &mut Vec<Node<'a>>, elements: &[Element<'a>]) -> Result<(), AllocError>
+fn add_group<'a>(
+    alloc: Global,
+    found: &mut Vec<Node<'a>>,
+    elements: &[Element<'a>],
+) -> Result<(), AllocError>
     ensures { OnOk result (found.new.items ≡ found.old.items ++ nodes_of_parts (group (parts_of elements.now))) }
 {
     for element in elements {
-        add_element(found, element)?;
+        add_element(alloc, found, element)?;
     }
     Ok(())
 }
 
 #[cycle(add_group)]
 #[tactic(auto, using(crate::proofs::GroupLaws::union_lists))]
-fn add_element<'a>(found: &mut Vec<Node<'a>>, element: &Element<'a>) -> Result<(), AllocError>
+fn add_element<'a>(
+    alloc: Global,
+    found: &mut Vec<Node<'a>>,
+    element: &Element<'a>,
+) -> Result<(), AllocError>
     ensures { OnOk result (found.new.items ≡ found.old.items ++ nodes_of_part (part_of element.now)) }
 {
     match element {
         Element::Triples(triples) => add_triples(found, triples.as_slice()),
         Element::Union(groups) => {
             for group in groups {
-                add_group(found, group.as_slice())?;
+                add_group(alloc, found, group.as_slice())?;
             }
             Ok(())
         }
-        Element::Optional(group) => add_group(found, group.as_slice()),
-        Element::Minus(group) => add_group(found, group.as_slice()),
+        Element::Optional(group) => add_group(alloc, found, group.as_slice()),
+        Element::Minus(group) => add_group(alloc, found, group.as_slice()),
         Element::Graph(node, group) => {
             found.push(node_again(node))?;
-            add_group(found, group.as_slice())
+            add_group(alloc, found, group.as_slice())
         }
-        Element::Filter(expression) => add_expression(found, expression),
+        Element::Filter(expression) => add_expression(alloc, found, expression),
     }
 }
 
@@ -200,12 +210,16 @@ fn add_with<'a>(found: &mut Vec<Node<'a>>, graph: &Option<Name<'a>>) -> Result<(
 }
 
 /// Adds the nodes of an operation's WHERE. An error comes only where a growth was refused.
-pub fn add_where<'a>(found: &mut Vec<Node<'a>>, operation: &Operation<'a>) -> Result<(), AllocError>
+pub fn add_where<'a>(
+    alloc: Global,
+    found: &mut Vec<Node<'a>>,
+    operation: &Operation<'a>,
+) -> Result<(), AllocError>
     ensures { OnOk result (found.new.items ≡ found.old.items ++ nodes_of_where operation.now) }
 {
     match operation {
         Operation::DeleteWhere(quads) => add_blocks(found, quads.as_slice()),
-        Operation::Modify { pattern, .. } => add_group(found, pattern.elements()),
+        Operation::Modify { pattern, .. } => add_group(alloc, found, pattern.elements()),
         Operation::Create { .. }
         | Operation::Drop { .. }
         | Operation::Clear { .. }
@@ -217,6 +231,7 @@ pub fn add_where<'a>(found: &mut Vec<Node<'a>>, operation: &Operation<'a>) -> Re
 
 /// Adds the nodes of an operation. An error comes only where a growth was refused.
 pub fn add_operation<'a>(
+    alloc: Global,
     found: &mut Vec<Node<'a>>,
     operation: &Operation<'a>,
 ) -> Result<(), AllocError>
@@ -242,7 +257,7 @@ pub fn add_operation<'a>(
             add_with(found, with)?;
             add_blocks(found, delete.as_slice())?;
             add_blocks(found, insert.as_slice())?;
-            add_group(found, pattern.elements())
+            add_group(alloc, found, pattern.elements())
         }
     }
 }

@@ -2,7 +2,10 @@
 ghost use Rattle.std.specs.Prelude.{◌≡◌, IfOk, map};
 ghost use Rattle.std.specs.Option.{option_map};
 ghost use Rattle.algebra.specs.Plans.{plan_of};
-ghost use Rattle.std.specs.Prelude.{[]};
+ghost use Rattle.std.specs.Prelude.{[], None};
+ghost use Rattle.algebra.specs.declared.update.Operation.TheVariants as made;
+ghost use Rattle.algebra.specs.declared.update.GraphOperation.TheVariants as graphs;
+ghost use Rattle.translation.specs.Groups.{empty_group, quads_pattern};
 ghost use Rattle.names.specs.Names.{name_term};
 ghost use Rattle.names.specs.Numbers.{variables_of, labels_of, with_labels};
 ghost use Rattle.translation.specs.Nodes.{nodes_of_where, nodes_of_operation};
@@ -94,6 +97,92 @@ fn modify_with<'a>(
     }))
 }
 
+/// CREATE.
+fn created<'a>(
+    alloc: Global,
+    prefixes: &Prefixes<'a>,
+    silent: bool,
+    graph: &Name<'a>,
+) -> Result<Operation<Term>, AllocError>
+    ensures { IfOk result (λ operation. operation ≡ made.Graphs silent (graphs.Create (name_term prefixes.now graph.now))) }
+{
+    Ok(Operation::Graphs {
+        silent,
+        operation: GraphOperation::Create(prefixes.name_term(alloc, graph)?),
+    })
+}
+
+/// DROP.
+fn dropped<'a>(
+    alloc: Global,
+    prefixes: &Prefixes<'a>,
+    silent: bool,
+    target: &Target<'a>,
+) -> Result<Operation<Term>, AllocError>
+    ensures { IfOk result (λ operation. operation ≡ made.Graphs silent (graphs.Drop (target_of prefixes.now target.now))) }
+{
+    Ok(Operation::Graphs {
+        silent,
+        operation: GraphOperation::Drop(target_of(alloc, prefixes, target)?),
+    })
+}
+
+/// CLEAR.
+fn cleared<'a>(
+    alloc: Global,
+    prefixes: &Prefixes<'a>,
+    silent: bool,
+    target: &Target<'a>,
+) -> Result<Operation<Term>, AllocError>
+    ensures { IfOk result (λ operation. operation ≡ made.Graphs silent (graphs.Clear (target_of prefixes.now target.now))) }
+{
+    Ok(Operation::Graphs {
+        silent,
+        operation: GraphOperation::Clear(target_of(alloc, prefixes, target)?),
+    })
+}
+
+/// What is done with two graphs.
+fn between<'a>(
+    alloc: Global,
+    prefixes: &Prefixes<'a>,
+    how: Transfer,
+    from: &Place<'a>,
+    to: &Place<'a>,
+) -> Result<GraphOperation<Term>, AllocError>
+    ensures { IfOk result (λ operation. operation ≡ graphs.Transfer (transfer_of how) (graph_at prefixes.now from.now) (graph_at prefixes.now to.now)) }
+{
+    Ok(GraphOperation::Transfer {
+        how: transfer_of(how),
+        from: graph_at(alloc, prefixes, from)?,
+        to: graph_at(alloc, prefixes, to)?,
+    })
+}
+
+/// INSERT DATA or DELETE DATA, which have the empty group as WHERE.
+fn data_with<'a>(
+    alloc: Global,
+    scope: &Scope<'_, 'a>,
+    delete: &[Block<'a>],
+    insert: &[Block<'a>],
+) -> Result<Operation<Term>, AllocError>
+    ensures { IfOk result (λ operation. operation ≡ modify_with scope.now.prefixes.now scope.now.variables.now scope.now.labels.now None delete.now insert.now empty_group) }
+{
+    modify_with(alloc, scope, &None, delete, insert, empty_group(alloc))
+}
+
+/// DELETE WHERE, which has its quads as WHERE.
+fn delete_where<'a>(
+    alloc: Global,
+    scope: &Scope<'_, 'a>,
+    quads: &[Block<'a>],
+) -> Result<Operation<Term>, AllocError>
+    ensures { IfOk result (λ operation. operation ≡ modify_with scope.now.prefixes.now scope.now.variables.now scope.now.labels.now None quads.now [] (quads_pattern scope.now.prefixes.now scope.now.variables.now quads.now)) }
+{
+    let pattern = quads_pattern(alloc, scope, quads)?;
+    modify_with(alloc, scope, &None, quads, &[], pattern)
+}
+
 fn operation_with<'a>(
     alloc: Global,
     scope: &Scope<'_, 'a>,
@@ -102,18 +191,9 @@ fn operation_with<'a>(
     ensures { IfOk result (λ made. made ≡ operation_with scope.now.prefixes.now scope.now.variables.now scope.now.labels.now operation.now) }
 {
     match operation {
-        Written::Create { silent, graph } => Ok(Operation::Graphs {
-            silent: *silent,
-            operation: GraphOperation::Create(scope.prefixes.name_term(alloc, graph)?),
-        }),
-        Written::Drop { silent, target } => Ok(Operation::Graphs {
-            silent: *silent,
-            operation: GraphOperation::Drop(target_of(alloc, scope.prefixes, target)?),
-        }),
-        Written::Clear { silent, target } => Ok(Operation::Graphs {
-            silent: *silent,
-            operation: GraphOperation::Clear(target_of(alloc, scope.prefixes, target)?),
-        }),
+        Written::Create { silent, graph } => created(alloc, scope.prefixes, *silent, graph),
+        Written::Drop { silent, target } => dropped(alloc, scope.prefixes, *silent, target),
+        Written::Clear { silent, target } => cleared(alloc, scope.prefixes, *silent, target),
         Written::Transfer {
             how,
             silent,
@@ -121,36 +201,11 @@ fn operation_with<'a>(
             to,
         } => Ok(Operation::Graphs {
             silent: *silent,
-            operation: GraphOperation::Transfer {
-                how: transfer_of(*how),
-                from: graph_at(alloc, scope.prefixes, from)?,
-                to: graph_at(alloc, scope.prefixes, to)?,
-            },
+            operation: between(alloc, scope.prefixes, *how, from, to)?,
         }),
-        Written::InsertData(quads) => {
-            modify_with(
-                alloc,
-                scope,
-                &None,
-                &[],
-                quads.as_slice(),
-                empty_group(alloc),
-            )
-        }
-        Written::DeleteData(quads) => {
-            modify_with(
-                alloc,
-                scope,
-                &None,
-                quads.as_slice(),
-                &[],
-                empty_group(alloc),
-            )
-        }
-        Written::DeleteWhere(quads) => {
-            let pattern = quads_pattern(alloc, scope, quads.as_slice())?;
-            modify_with(alloc, scope, &None, quads.as_slice(), &[], pattern)
-        }
+        Written::InsertData(quads) => data_with(alloc, scope, &[], quads.as_slice()),
+        Written::DeleteData(quads) => data_with(alloc, scope, quads.as_slice(), &[]),
+        Written::DeleteWhere(quads) => delete_where(alloc, scope, quads.as_slice()),
         Written::Modify {
             with,
             delete,
@@ -158,14 +213,8 @@ fn operation_with<'a>(
             pattern,
         } => {
             let pattern = translated_group(alloc, scope, pattern.elements())?;
-            modify_with(
-                alloc,
-                scope,
-                with,
-                delete.as_slice(),
-                insert.as_slice(),
-                pattern,
-            )
+            let (delete, insert) = (delete.as_slice(), insert.as_slice());
+            modify_with(alloc, scope, with, delete, insert, pattern)
         }
     }
 }
@@ -178,7 +227,7 @@ pub fn operation_nodes<'a>(
     ensures { IfOk result (λ nodes. nodes.items ≡ nodes_of_operation operation.now) }
 {
     let mut nodes = Vec::new(alloc);
-    add_operation(&mut nodes, operation)?;
+    add_operation(alloc, &mut nodes, operation)?;
     Ok(nodes)
 }
 
@@ -187,7 +236,7 @@ fn variables_of<'a>(alloc: Global, operation: &Written<'a>) -> Result<Variables<
     ensures { IfOk result (λ variables. variables ≡ variables_of (nodes_of_where operation.now)) }
 {
     let mut nodes = Vec::new(alloc);
-    add_where(&mut nodes, operation)?;
+    add_where(alloc, &mut nodes, operation)?;
     Variables::of(alloc, nodes.as_slice())
 }
 
