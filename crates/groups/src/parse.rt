@@ -71,7 +71,7 @@ fn filter_at<'t, 'a>(
 }
 
 /// The group at the front of the tokens (SPARQL 1.1 Query, 19.8, production 53), and what follows it. Braces and parentheses nest at most
-/// `depth` deep in it, its own included. `NoReading` comes only where no such group is there.
+/// `depth` deep in it, its own included. `NoReading` comes only where no such group is there, and `Memory` only where a growth was refused.
 #[cycle(groups)]
 #[tactic(auto, unfolding(crate::specs::Reading::group_at))]
 pub fn group_at<'t, 'a>(

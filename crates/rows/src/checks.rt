@@ -101,6 +101,29 @@ fn limits_of_a_request(rt: HostRuntime) -> Result<(), Fail> {
     Ok(())
 }
 
+/// The front of a request, what follows it again and again, how often, and the back.
+type Chain = (&'static str, &'static str, u32, &'static str);
+
+// Each has nearly 2^20 bytes. What they are read as is as deep to the left as they are long.
+const CHAINS: [Chain; 3] = [
+    ("INSERT { } WHERE { FILTER(1", "+1", 524_000, ") }"),
+    ("INSERT { } WHERE { ", "{}", 524_000, " }"),
+    ("INSERT { } WHERE { {}", "UNION{}", 149_700, " }"),
+];
+
+#[test]
+fn long_chains(rt: HostRuntime) -> Result<(), Fail> {
+    let alloc = rt.alloc();
+    for (front, link, times, back) in &CHAINS {
+        let mut block = repeated(alloc, front.as_bytes(), 1)?;
+        let links = repeated(alloc, link.as_bytes(), *times)?;
+        block.extend_from_slice(links.as_slice())?;
+        block.extend_from_slice(back.as_bytes())?;
+        assert!(rt; told_of(alloc, &block).is(0, "0 accepted\n"), "{front:?}");
+    }
+    Ok(())
+}
+
 #[test]
 fn faults_of_blocks(rt: HostRuntime) -> Result<(), Fail> {
     let alloc = rt.alloc();
