@@ -41,6 +41,11 @@ abbrev pub iri_of : Prefixes → Name → Option (List ℕ)
 iri_of ds (name.Iri i) = Some i
 iri_of ds (name.Prefixed p l) = option_map (λ namespace. namespace ++ l) (namespace_of ds p)
 
+-- the IRI is rdf:langString; a name whose prefix isn't declared has none
+abbrev pub is_lang_iri : Option (List ℕ) → Bool
+is_lang_iri None = false
+is_lang_iri (Some iri) = bytes_eq iri lang_string
+
 -- the literal of these parts: a tag and the datatype rdf:langString stand together
 abbrev pub literal_from : List ℕ → List ℕ → Option (List ℕ) → Option LiteralValue
 literal_from text datatype None = if bytes_eq datatype lang_string then None else Some (record { lexical = text; datatype = datatype; tag = None })

@@ -10,4 +10,4 @@ mod prefixes;
 mod search;
 
 pub use numbers::{Labels, Variables};
-pub use prefixes::{Prefixes, is_lang_string};
+pub use prefixes::Prefixes;

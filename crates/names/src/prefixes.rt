@@ -7,7 +7,7 @@ ghost use Rattle.terms.specs.Parts.{tag_bytes};
 ghost use Rattle.terms.specs.Literal.{lang_string};
 ghost use Rattle.terms.specs.declared.term.Term.TheVariants as term;
 ghost use Rattle.syntax_trees.specs.declared.tree.Node.TheVariants as node;
-ghost use Rattle.names.specs.Names.{declare, namespace_of, rdf_type, iri_of, literal_from as the_literal_from, typed_literal, truth as the_truth, literal_of, no_term, name_term, term_of};
+ghost use Rattle.names.specs.Names.{declare, namespace_of, rdf_type, iri_of, is_lang_iri, literal_from as the_literal_from, typed_literal, truth as the_truth, literal_of, no_term, name_term, term_of};
 
 use crate::key::Key;
 use iris::Iri;
@@ -80,11 +80,16 @@ fn joined(
     iri_from(alloc, text.as_slice())
 }
 
-/// Whether an IRI is rdf:langString.
-pub fn is_lang_string(iri: &Iri) -> bool
-    ensures { result ≡ bytes_eq iri.now lang_string }
+/// Whether a text is two texts, one after the other. It looks at no more bytes than the text has.
+#[tactic(auto, using(crate::proofs::JoinLaws::joined_is, crate::proofs::JoinLaws::too_long))]
+fn is_joined(front: &[u8], back: &[u8], text: &[u8]) -> bool
+    ensures { result ≡ bytes_eq (front.now ++ back.now) text.now }
 {
-    iri.as_str().as_bytes() == LANG_STRING
+    if front.len() > text.len() {
+        return false;
+    }
+    let (first, rest) = text.split_at(front.len());
+    front == first && back == rest
 }
 
 /// The literal of these parts.
@@ -149,6 +154,19 @@ impl<'a> Prefixes<'a> {
         match name {
             Name::Iri(_) => false,
             Name::Prefixed { prefix, .. } => self.namespace_of(prefix).is_none(),
+        }
+    }
+
+    /// Whether a name is rdf:langString. No IRI is made.
+    pub fn is_lang_string(&self, name: &Name<'a>) -> bool
+        ensures { result ≡ is_lang_iri (iri_of self.now name.now) }
+    {
+        match name {
+            Name::Iri(iri) => iri.as_bytes() == LANG_STRING,
+            Name::Prefixed { prefix, local } => match self.namespace_of(prefix) {
+                Some(namespace) => is_joined(namespace.as_bytes(), local.as_bytes(), LANG_STRING),
+                None => false,
+            },
         }
     }
 

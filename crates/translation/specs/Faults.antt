@@ -1,7 +1,6 @@
 -- What requests are refused for (SPARQL 1.1 Update, 19.8, notes 8 to 12, and the limits of this program).
-use Rattle.std.specs.Prelude.{ℕ, ◌+◌, ◌^◌, ◌||◌, Bool, true, false, List, [], ◌∷◌, Option, Some, None, bytes_eq, nat_lt, is_none}
+use Rattle.std.specs.Prelude.{ℕ, ◌+◌, ◌^◌, ◌||◌, Bool, true, false, List, [], ◌∷◌, nat_lt, is_none}
 use Rattle.std.specs.List.{list_any}
-use Rattle.terms.specs.Literal.{lang_string}
 use Rattle.meaning.specs.declared.reply.Refusal.{Refusal}
 use Rattle.meaning.specs.declared.reply.Refusal.TheVariants as refusal
 use Rattle.syntax_trees.specs.declared.tree.Name.{Name}
@@ -15,16 +14,11 @@ use Rattle.syntax_trees.specs.declared.tree.Operation.TheVariants as operation
 use Rattle.syntax_trees.specs.declared.tree.Step.{Step}
 use Rattle.syntax_trees.specs.declared.tree.Step.TheVariants as step
 use Rattle.syntax_trees.specs.declared.tree.Syntax.{Syntax}
-use Rattle.names.specs.Names.{Prefixes, declare, iri_of}
+use Rattle.names.specs.Names.{Prefixes, declare, iri_of, is_lang_iri}
 use Rattle.translation.specs.Nodes.{nodes_of_operation, nodes_of_blocks}
 use Rattle.names.specs.Numbers.{Labels, labels_of, is_label_in, with_labels}
 
 -- ---- names
-
--- the IRI is rdf:langString; a name whose prefix isn't declared has none
-abbrev pub is_lang_iri : Option (List ℕ) → Bool
-is_lang_iri None = false
-is_lang_iri (Some iri) = bytes_eq iri lang_string
 
 abbrev pub is_lang_literal : Prefixes → Literal → Bool
 is_lang_literal ds (literal.Plain text) = false

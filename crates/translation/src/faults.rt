@@ -9,7 +9,7 @@ ghost use Rattle.translation.specs.Faults.{is_lang_literal, is_lang_node, is_und
 use crate::nodes::add_blocks;
 use crate::operations::operation_nodes;
 use meaning::Refusal;
-use names::{Labels, Prefixes, is_lang_string};
+use names::{Labels, Prefixes};
 use std::alloc::{AllocError, Global};
 use syntax_trees::{Block, Literal, Node, Operation, Step, Syntax};
 
@@ -19,32 +19,23 @@ const MOST_BYTES: usize = 1 << 20;
 /// How many operations a request has at most.
 const MOST_OPERATIONS: usize = 256;
 
-fn is_lang_literal<'a>(
-    alloc: Global,
-    prefixes: &Prefixes<'a>,
-    literal: &Literal<'a>,
-) -> Result<bool, AllocError>
-    ensures { IfOk result (λ is. is ≡ is_lang_literal prefixes.now literal.now) }
+fn is_lang_literal<'a>(prefixes: &Prefixes<'a>, literal: &Literal<'a>) -> bool
+    ensures { result ≡ is_lang_literal prefixes.now literal.now }
 {
-    let Literal::Typed(_, datatype) = literal else {
-        return Ok(false);
-    };
-    match prefixes.iri_of(alloc, datatype)? {
-        Some(iri) => Ok(is_lang_string(&iri)),
-        None => Ok(false),
+    match literal {
+        Literal::Typed(_, datatype) => prefixes.is_lang_string(datatype),
+        Literal::Plain(_) | Literal::Tagged(_, _) | Literal::Integer(_) | Literal::Boolean(_) => {
+            false
+        }
     }
 }
 
-fn is_lang_node<'a>(
-    alloc: Global,
-    prefixes: &Prefixes<'a>,
-    node: &Node<'a>,
-) -> Result<bool, AllocError>
-    ensures { IfOk result (λ is. is ≡ is_lang_node prefixes.now node.now) }
+fn is_lang_node<'a>(prefixes: &Prefixes<'a>, node: &Node<'a>) -> bool
+    ensures { result ≡ is_lang_node prefixes.now node.now }
 {
     match node {
-        Node::Literal(literal) => is_lang_literal(alloc, prefixes, literal),
-        Node::Name(_) | Node::Type | Node::Variable(_) | Node::Blank(_) => Ok(false),
+        Node::Literal(literal) => is_lang_literal(prefixes, literal),
+        Node::Name(_) | Node::Type | Node::Variable(_) | Node::Blank(_) => false,
     }
 }
 
@@ -69,19 +60,15 @@ fn is_undeclared_node<'a>(prefixes: &Prefixes<'a>, node: &Node<'a>) -> bool
     }
 }
 
-fn any_lang<'a>(
-    alloc: Global,
-    prefixes: &Prefixes<'a>,
-    nodes: &[Node<'a>],
-) -> Result<bool, AllocError>
-    ensures { IfOk result (λ is. is ≡ list_any (is_lang_node prefixes.now) nodes.now) }
+fn any_lang<'a>(prefixes: &Prefixes<'a>, nodes: &[Node<'a>]) -> bool
+    ensures { result ≡ list_any (is_lang_node prefixes.now) nodes.now }
 {
     for node in nodes {
-        if is_lang_node(alloc, prefixes, node)? {
-            return Ok(true);
+        if is_lang_node(prefixes, node) {
+            return true;
         }
     }
-    Ok(false)
+    false
 }
 
 fn any_undeclared<'a>(prefixes: &Prefixes<'a>, nodes: &[Node<'a>]) -> bool
@@ -168,7 +155,7 @@ fn is_refused<'a>(
     match kind {
         Refusal::Syntax => {
             let nodes = operation_nodes(alloc, operation)?;
-            any_lang(alloc, prefixes, nodes.as_slice())
+            Ok(any_lang(prefixes, nodes.as_slice()))
         }
         Refusal::Prefix => {
             let nodes = operation_nodes(alloc, operation)?;
