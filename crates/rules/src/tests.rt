@@ -385,6 +385,7 @@ fn graphs(rt: HostRuntime) -> Result<(), AllocError> {
     let Ok(operations) = checked(alloc, "MOVE SILENT DEFAULT TO <a:g>")? else {
         return Err(AllocError);
     };
+    assert!(rt; operations.len() == 1);
     let Operation::Graphs { silent, operation } = &operations.as_slice()[0] else {
         return Err(AllocError);
     };
