@@ -6,9 +6,8 @@ ghost use Rattle.datasets.specs.Dataset.{quad_order};
 ghost use Rattle.datasets.specs.Id.{id_order};
 
 use datasets::{Id, Quad};
-use dict::search::place_of;
 use reads::lists::copied_quads;
-use sets::set_of;
+use sets::{place_of, set_of};
 use std::alloc::{AllocError, Global};
 
 // Whether a set has the quad.

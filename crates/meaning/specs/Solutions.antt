@@ -9,7 +9,6 @@ use Rattle.algebra.specs.declared.pattern.Place.TheVariants as place
 use Rattle.algebra.specs.declared.pattern.TriplePattern.{TriplePattern}
 use Rattle.algebra.specs.Expressions.{Expression}
 use Rattle.algebra.specs.Plans.{Plan, Basic, Join, LeftJoin, Union, Minus, Filter, InGraph}
-use Rattle.meaning.specs.Vocabulary.{Vocabulary}
 use Rattle.meaning.specs.Mapping.{Mapping, empty_mapping, mapping_cmp, fitted}
 use Rattle.meaning.specs.Operators.{join, union_of, minus, left_join}
 
@@ -34,18 +33,18 @@ module _ {K : Type 0} (R : K → K → Ordering) (width : ℕ) where
   basic_solutions ts triples = joined_with (empty_mapping width ∷ []) ts triples
 
 -- whether a mapping passes each filter
-abbrev pub passes_all : {K : Type 0} → Vocabulary K → List (Expression K) → Mapping K → Bool
-passes_all V filters mapping = list_all (λ e. V.passes e mapping) filters
+abbrev pub passes_all : {K : Type 0} → (Expression K → Mapping K → Bool) → List (Expression K) → Mapping K → Bool
+passes_all passes filters mapping = list_all (λ e. passes e mapping) filters
 
-module _ {K : Type 0} (V : Vocabulary K) (width : ℕ) where
+module _ {K : Type 0} (R : K → K → Ordering) (passes : Expression K → Mapping K → Bool) (width : ℕ) where
   -- the solutions of a pattern in a dataset, with this graph as the active one
   abbrev pub solutions : Plan K → Dataset K → Option K → List (Mapping K)
-  solutions (Basic ts) d graph = basic_solutions V.order width ts (quads_in V.order graph d.quads)
-  solutions (Join a b) d graph = join V.order (solutions a d graph) (solutions b d graph)
-  solutions (LeftJoin a b es) d graph = left_join V.order (passes_all V es) (solutions a d graph) (solutions b d graph)
-  solutions (Union a b) d graph = union_of V.order (solutions a d graph) (solutions b d graph)
-  solutions (Minus a b) d graph = minus V.order (solutions a d graph) (solutions b d graph)
-  solutions (Filter es a) d graph = filter (passes_all V es) (solutions a d graph)
-  solutions (InGraph (place.Term name) a) d graph = cond (has V.order d.names name) (solutions a d (Some name)) []
+  solutions (Basic ts) d graph = basic_solutions R width ts (quads_in R graph d.quads)
+  solutions (Join a b) d graph = join R (solutions a d graph) (solutions b d graph)
+  solutions (LeftJoin a b es) d graph = left_join R (passes_all passes es) (solutions a d graph) (solutions b d graph)
+  solutions (Union a b) d graph = union_of R (solutions a d graph) (solutions b d graph)
+  solutions (Minus a b) d graph = minus R (solutions a d graph) (solutions b d graph)
+  solutions (Filter es a) d graph = filter (passes_all passes es) (solutions a d graph)
+  solutions (InGraph (place.Term name) a) d graph = cond (has R d.names name) (solutions a d (Some name)) []
   solutions (InGraph (place.Variable v) a) d graph =
-      set_of (mapping_cmp V.order) (flat_map (λ name. filter_map (fitted V.order (place.Variable v) name) (solutions a d (Some name))) d.names)
+      set_of (mapping_cmp R) (flat_map (λ name. filter_map (fitted R (place.Variable v) name) (solutions a d (Some name))) d.names)

@@ -1,5 +1,5 @@
-use Rattle.names.proofs.Places.{absent}
-use Rattle.names.proofs.search.place_of.Goals as goal
+use Rattle.sets.proofs.Places.{absent}
+use Rattle.sets.proofs.search.place_of.Goals as goal
 
 pub returns-clause-none : goal.returns-clause-none
 returns-clause-none g c =

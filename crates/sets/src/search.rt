@@ -3,7 +3,7 @@ ghost use Rattle.std.specs.Prelude.{◌≡◌, false, Some, IfSome, IfNone, slic
 ghost use Rattle.std.specs.List.Sorted.{IsStrictlySortedBy};
 ghost use Rattle.sets.specs.Sets.{has};
 
-use sets::Exact;
+use crate::Exact;
 
 /// The place of a value in a set, counted from 0, or nothing where the set lacks it.
 pub fn place_of<T: Exact>(set: &[T], value: &T) -> Option<usize>
