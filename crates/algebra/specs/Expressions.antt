@@ -1,5 +1,5 @@
 -- Filter expressions, wherever they lie in memory.
-use Rattle.std.specs.Prelude.{ℕ, List, [], ◌∷◌}
+use Rattle.std.specs.Prelude.{ℕ, List, [], ◌∷◌, map}
 use Rattle.algebra.specs.declared.expression.OneOperator.{OneOperator}
 use Rattle.algebra.specs.declared.expression.TwoOperator.{TwoOperator}
 use Rattle.algebra.specs.declared.expression.Expression.{Expression as Kept, fold-Expression}
@@ -29,3 +29,6 @@ module _ {K : Type 0} where
 
   abbrev pub expression_of : Kept K → Expression K
   expression_of = fold-Expression K (Expression K) expression_step
+
+  abbrev pub steps_of : List (TwoOperator × Kept K) → List (TwoOperator × Expression K)
+  steps_of steps = map (λ (s : TwoOperator × Kept K). (s.0, expression_of s.1)) steps

@@ -55,3 +55,6 @@ module _ {K : Type 0} where
 
   abbrev pub plan_of : Kept K → Plan K
   plan_of = fold-Plan K (Plan K) plan_step
+
+  abbrev pub parts_of : List (Link K × Kept K) → List (Link K × Plan K)
+  parts_of parts = map (λ (p : Link K × Kept K). (p.0, plan_of p.1)) parts

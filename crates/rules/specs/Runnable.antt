@@ -6,10 +6,10 @@ use Rattle.std.specs.Option.{option_map}
 use Rattle.terms.specs.declared.term.Term.{Term}
 use Rattle.meaning.specs.declared.reply.Refusal.{Refusal}
 use Rattle.meaning.specs.declared.reply.Refusal.TheVariants as refusal
-use Rattle.meaning.specs.declared.update.Slot.{Slot}
-use Rattle.meaning.specs.declared.update.Slot.TheVariants as slot
-use Rattle.meaning.specs.declared.update.QuadTemplate.{QuadTemplate}
-use Rattle.meaning.specs.declared.update.TriplePattern.{TriplePattern}
+use Rattle.algebra.specs.declared.template.Slot.{Slot}
+use Rattle.algebra.specs.declared.template.Slot.TheVariants as slot
+use Rattle.algebra.specs.declared.template.QuadTemplate.{QuadTemplate}
+use Rattle.algebra.specs.declared.pattern.TriplePattern.{TriplePattern}
 use Rattle.meaning.specs.declared.update.Plan.{Plan as RunPlan}
 use Rattle.meaning.specs.declared.update.Plan.TheVariants.{Empty, Triple}
 use Rattle.meaning.specs.declared.update.Operation.{Operation as RunOperation}

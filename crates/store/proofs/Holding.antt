@@ -12,12 +12,12 @@ use Rattle.terms.specs.TermLaws.{term_total, term_exact}
 use Rattle.terms.specs.declared.term.Term.{Term}
 use Rattle.dict.specs.Dictionary.{is_written}
 use Rattle.meaning.specs.Run.{Request}
-use Rattle.meaning.specs.declared.update.Slot.{Slot}
-use Rattle.meaning.specs.declared.update.Slot.TheVariants as slot
-use Rattle.meaning.specs.declared.update.QuadTemplate.{QuadTemplate}
-use Rattle.meaning.specs.declared.update.Place.{Place}
-use Rattle.meaning.specs.declared.update.Place.TheVariants as place
-use Rattle.meaning.specs.declared.update.TriplePattern.{TriplePattern}
+use Rattle.algebra.specs.declared.template.Slot.{Slot}
+use Rattle.algebra.specs.declared.template.Slot.TheVariants as slot
+use Rattle.algebra.specs.declared.template.QuadTemplate.{QuadTemplate}
+use Rattle.algebra.specs.declared.pattern.Place.{Place}
+use Rattle.algebra.specs.declared.pattern.Place.TheVariants as place
+use Rattle.algebra.specs.declared.pattern.TriplePattern.{TriplePattern}
 use Rattle.meaning.specs.declared.update.Plan.{Plan}
 use Rattle.meaning.specs.declared.update.Plan.TheVariants.{Empty, Triple}
 use Rattle.meaning.specs.declared.update.Operation.{Operation}

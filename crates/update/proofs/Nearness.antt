@@ -19,9 +19,9 @@ use Rattle.meaning.specs.Template.{term_at, graph_at, is_legal, legal_quad, inst
 use Rattle.meaning.specs.declared.update.Modify.{Modify}
 use Rattle.meaning.specs.declared.update.Operation.{Operation}
 use Rattle.meaning.specs.declared.update.Operation.TheVariants as operation
-use Rattle.meaning.specs.declared.update.QuadTemplate.{QuadTemplate}
-use Rattle.meaning.specs.declared.update.Slot.{Slot}
-use Rattle.meaning.specs.declared.update.Slot.TheVariants as slot
+use Rattle.algebra.specs.declared.template.QuadTemplate.{QuadTemplate}
+use Rattle.algebra.specs.declared.template.Slot.{Slot}
+use Rattle.algebra.specs.declared.template.Slot.TheVariants as slot
 use Rattle.eval.specs.Changes.{replaced_change}
 use Rattle.eval.specs.Scans.{is_for_plan}
 use Rattle.reads.specs.Reads.{Read, Delta, no_change}
