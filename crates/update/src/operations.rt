@@ -14,7 +14,8 @@ ghost use Rattle.update.specs.Failures.{performed_so, modification_of as the_mod
 
 use crate::modify::modify;
 use dict::{Dict, Id};
-use meaning::{Cause, Modify, Operation};
+use algebra::Modify;
+use meaning::{Cause, Operation};
 use reads::{Delta, Note, Source, Stop};
 use std::alloc::Global;
 

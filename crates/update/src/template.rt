@@ -6,7 +6,7 @@ ghost use Rattle.meaning.specs.Template.{term_at as the_term_at, graph_at as the
 
 use datasets::Quad;
 use dict::{Dict, Id};
-use meaning::{QuadTemplate, Slot};
+use algebra::{QuadTemplate, Slot};
 use solution::Mapping;
 use std::alloc::{AllocError, Global};
 

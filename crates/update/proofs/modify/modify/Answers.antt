@@ -1,5 +1,4 @@
-use Rattle.std.proofs.Common.{arith, sym, ◌∙◌, ◌≤◌, length, subst, None}
-use Rattle.datasets.specs.Id.{id_order}
+use Rattle.std.proofs.Common.{arith, sym, ◌∙◌, ◌≤◌, length, subst}
 use Rattle.dict.specs.Dictionary.{numbers}
 use Rattle.meaning.specs.Effect.{replaced}
 use Rattle.meaning.specs.Template.{instances}
@@ -23,7 +22,7 @@ returns-clause-effect g c d a =
     let deleted = c.in_ok-deleted.ensures ∙ (λ i. instances V r o (c.as_slice.ensures i) (c.deref.ensures.value i)) in
     let inserted = c.in_ok-inserted.ensures ∙ (λ i. instances V r o (c.as_slice-2.ensures i) (c.deref-2.ensures.value i)) in
     let few : length found ≤ 1000000 = omega (arith, c.if-len-gt-MOST_SOLUTIONS.false, c.len.ensures) in
-    modified_is V r o m.delete m.insert found (solutions id_order m.width m.pattern D None) D (applied c.in_ok-change.change d) solved few
+    modified_is V r o m.delete m.insert found (solutions V.order V.passes m.width m.pattern D m.active) D (applied c.in_ok-change.change d) solved few
     (c.in_ok-change.ensures.effect d ∙ (λ k. replaced V D (deleted k) (inserted k)))
 
 pub returns-clause-within : goal.returns-clause-within
