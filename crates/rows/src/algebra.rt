@@ -2,7 +2,6 @@
 
 use crate::tests::{Row, answer_to, is_as_expected};
 
-
 const ROWS: [Row; 21] = [
     // Taking out the last triple of a graph leaves the graph there.
     (

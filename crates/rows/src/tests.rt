@@ -22,7 +22,13 @@ pub(crate) fn status_of(outcome: &Result<(), Fault>) -> u8 {
     }
 }
 
-pub(crate) fn answer_to<T: Wait>(rt: &T, alloc: Global, base: &[u8], block: &[u8], workers: u32) -> Answer
+pub(crate) fn answer_to<T: Wait>(
+    rt: &T,
+    alloc: Global,
+    base: &[u8],
+    block: &[u8],
+    workers: u32,
+) -> Answer
     requires some { 0 < workers }
     requires most { workers ≤ 64 }
 {

@@ -238,7 +238,11 @@ fn add_request(alloc: Global, found: &mut Vec<Term>, request: &Taken) -> Result<
 }
 
 /// Adds the terms of requests.
-pub fn add_requests(alloc: Global, found: &mut Vec<Term>, requests: &[Taken]) -> Result<(), AllocError>
+pub fn add_requests(
+    alloc: Global,
+    found: &mut Vec<Term>,
+    requests: &[Taken],
+) -> Result<(), AllocError>
     ensures { OnOk result (found.new.items ≡ found.old.items ++ terms_of requests.now) }
 {
     for request in requests {

@@ -280,7 +280,10 @@ fn blocks(rt: HostRuntime) -> Result<(), BlockFault> {
 /// Texts, and whether each is accepted and can be run now.
 const RUNS: [(&str, bool); 8] = [
     ("INSERT DATA { <a:b> <a:c> \"x\"@en }", true),
-    ("INSERT DATA { _:x <a:c> 1 GRAPH <a:g> { <a:b> <a:c> 1 } }", true),
+    (
+        "INSERT DATA { _:x <a:c> 1 GRAPH <a:g> { <a:b> <a:c> 1 } }",
+        true,
+    ),
     ("DELETE DATA { <a:b> <a:c> 1 }", true),
     (
         "WITH <a:g> DELETE { ?s ?p ?o } INSERT { _:x ?p 1 } WHERE { ?s ?p ?o }",

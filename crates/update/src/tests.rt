@@ -4,10 +4,10 @@ ghost use Rattle.std.specs.Prelude.{IsTrue};
 ghost use Rattle.update.specs.Asked.{IsShort};
 
 use crate::{Request, execute};
+use algebra::{Modify, Pattern, Place, Plan, QuadTemplate, Slot, TriplePattern};
 use datasets::{Answer, Id, Quad, Read};
 use dict::Dict;
 use iris::Iri;
-use algebra::{Modify, Pattern, Place, Plan, QuadTemplate, Slot, TriplePattern};
 use meaning::{Operation, Refusal, Reply};
 use reads::{Answered, Finished, Source, Stop, View};
 use sets::Items;
