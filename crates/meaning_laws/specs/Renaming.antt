@@ -144,7 +144,8 @@ pub record IsRenaming {A B : Type 0} (V : Vocabulary A) (W : Vocabulary B) (f : 
   pub literals : (x : A) → known x ≡ true → W.is_literal (f x) ≡ V.is_literal x
   pub nodes : (request operation label rank : ℕ) → f (V.made request operation label rank) ≡ W.made request operation label rank
   pub nodes_known : (request operation label rank : ℕ) → known (V.made request operation label rank) ≡ true
-  pub passes : (e : Expression A) (m : Mapping A) → expression_known known e ≡ true → mapping_known known m ≡ true → W.passes (renamed_expression f e) (renamed_mapping f m) ≡ V.passes e m
+  pub passes : (e : Expression A) (m : Mapping A) → expression_known known e ≡ true → mapping_known known m ≡ true
+      → W.passes (renamed_expression f e) (renamed_mapping f m) ≡ V.passes e m
 
 -- the run of a renamed block on a renamed dataset is the renamed run, with the same replies, and its terms are known
 pub record IsRenamedRun {A B : Type 0} (V : Vocabulary A) (W : Vocabulary B) (f : A → B) (known : A → Bool) (requests : List (Request A)) (d : Dataset A) : Type 0 where
