@@ -1,0 +1,5 @@
+pub mod NumeralLaws
+pub mod ReadingLaws
+pub mod OutcomeLaws
+pub mod PartsLaws
+pub mod TextLaws
