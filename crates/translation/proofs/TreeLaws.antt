@@ -15,7 +15,7 @@ use Rattle.translation.proofs.GroupLaws.{map_push}
 use Rattle.translation.specs.Nodes.{nodes_of_tree}
 
 -- a step as it is seen
-step_of : TwoOperator × Made Term → TwoOperator × Expression Term
+abbrev step_of : TwoOperator × Made Term → TwoOperator × Expression Term
 step_of s = (s.0, expression_of s.1)
 
 pub stacked_push : (e : Expression Term) (ss : List (TwoOperator × Expression Term)) (s : TwoOperator × Expression Term) → stacked e (ss ++ s ∷ []) ≡ stacked (made.Two s.0 e s.1) ss

@@ -4,7 +4,7 @@ ghost use Rattle.std.specs.Option.{option_map};
 ghost use Rattle.algebra.specs.Expressions as made;
 ghost use Rattle.algebra.specs.Expressions.{chained, expression_of, steps_of};
 ghost use Rattle.algebra.specs.Plans as plans;
-ghost use Rattle.algebra.specs.Plans.{Plan as Tree, linked_all, nothing, parts_of as linked_parts, plan_of};
+ghost use Rattle.algebra.specs.Plans.{linked_all, nothing, parts_of as linked_parts, plan_of};
 ghost use Rattle.translation.specs.Triples.{place_of, patterns_of};
 ghost use Rattle.syntax_trees.specs.Expressions.{tree_of};
 ghost use Rattle.syntax_trees.specs.Groups.{part_of, parts_of, lists_of, group, groups};
@@ -218,7 +218,7 @@ type Part = (Link<Term>, Plan<Term>);
 /// Goes on with a pattern.
 #[tactic(auto, using(crate::proofs::GroupLaws::linked_push))]
 fn link(parts: &mut Vec<Part>, link: Link<Term>, plan: Plan<Term>) -> Result<(), AllocError>
-    ensures { (before : Tree Term) → OnOk result (linked_all before (linked_parts parts.new.items) ≡ plans.linked (linked_all before (linked_parts parts.old.items)) link (plan_of plan)) }
+    ensures { OnOk result (linked_all nothing (linked_parts parts.new.items) ≡ plans.linked (linked_all nothing (linked_parts parts.old.items)) link (plan_of plan)) }
 {
     parts.push((link, plan))?;
     Ok(())
@@ -235,7 +235,7 @@ fn parts_of<'a>(
 {
     let mut parts = Vec::new(alloc);
     for element in elements {
-        add_part(alloc, scope, &mut parts, element)?;
+        add_part(alloc, scope, element, &mut parts)?;
     }
     Ok(parts)
 }
@@ -246,8 +246,8 @@ fn parts_of<'a>(
 fn add_part<'a>(
     alloc: Global,
     scope: &Scope<'_, 'a>,
-    parts: &mut Vec<Part>,
     element: &Element<'a>,
+    parts: &mut Vec<Part>,
 ) -> Result<(), AllocError>
     ensures { OnOk result (linked_all nothing (linked_parts parts.new.items) ≡ with_part scope.now.prefixes.now scope.now.variables.now (linked_all nothing (linked_parts parts.old.items)) (part_of element.now)) }
 {
