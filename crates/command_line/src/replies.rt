@@ -53,11 +53,7 @@ pub fn replies_text(alloc: Global, replies: &[Reply]) -> Result<String, AllocErr
 }
 
 /// Adds the line of the verdict on the request at a place of the block, with its LF.
-fn push_verdict(
-    text: &mut String,
-    place: usize,
-    verdict: Option<Refusal>,
-) -> Result<(), AllocError>
+fn push_verdict(text: &mut String, place: usize, verdict: Option<Refusal>) -> Result<(), AllocError>
     ensures { OnOk result (string_bytes text.new ≡ string_bytes text.old ++ (verdict_line place verdict ++ 10 ∷ [])) }
 {
     match verdict {
