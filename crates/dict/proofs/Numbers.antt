@@ -64,4 +64,5 @@ module _ (terms : List Term) (dictionary : IsDictionary terms) where
     literals = λ x h. refl;
     nodes = λ r o l s. refl;
     nodes_known = λ r o l s. refl;
+    passes = λ e m he hm. refl;
   }
