@@ -3,3 +3,5 @@ pub mod ReadingLaws
 pub mod OutcomeLaws
 pub mod PartsLaws
 pub mod TextLaws
+pub mod ArithmeticLaws
+pub mod ValueLaws

@@ -41,17 +41,17 @@ parsed_bounded (Err e) Q z h to from = cases (fits_64 z) refl
     cases true e = absurd (h (from e))
     cases false e = refl
 
-pos_fits : (n : ℕ) → n < 2 ^ 63 → fits_64 (pos n) ≡ true
+pub pos_fits : (n : ℕ) → n < 2 ^ 63 → fits_64 (pos n) ≡ true
 pos_fits n h = grind (arith, nat_tests)
 
-fits_pos : (n : ℕ) → fits_64 (pos n) ≡ true → n < 2 ^ 63
+pub fits_pos : (n : ℕ) → fits_64 (pos n) ≡ true → n < 2 ^ 63
 fits_pos n h = grind (arith, nat_tests)
 
-negative_fits : (n : ℕ) → n ≤ 2 ^ 63 → fits_64 (neg_ℤ (pos n)) ≡ true
+pub negative_fits : (n : ℕ) → n ≤ 2 ^ 63 → fits_64 (neg_ℤ (pos n)) ≡ true
 negative_fits zero h = refl
 negative_fits (suc n) h = grind (arith, nat_tests)
 
-fits_negative : (n : ℕ) → fits_64 (neg_ℤ (pos n)) ≡ true → n ≤ 2 ^ 63
+pub fits_negative : (n : ℕ) → fits_64 (neg_ℤ (pos n)) ≡ true → n ≤ 2 ^ 63
 fits_negative zero h = omega arith
 fits_negative (suc n) h = grind (arith, nat_tests)
 

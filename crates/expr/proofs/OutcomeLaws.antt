@@ -1,13 +1,13 @@
 -- Values of expressions, by what their sides are read as.
 use Rattle.std.proofs.Common.{◌≡◌, Bool, true, false, ℤ, refl, sym, ap, ◌∙◌}
-use Rattle.std.specs.Prelude.{Option, Some, None, not}
+use Rattle.std.specs.Prelude.{Option, Some, None, not, option_and_then, unwrap_or}
 use Rattle.std.specs.Option.{option_map}
 use Rattle.std.specs.declared.cmp.Ordering.{Ordering}
 use Rattle.std.specs.Ordering.{is_eq}
 use Rattle.terms.specs.declared.term.Term.{Term}
 use Rattle.algebra.specs.declared.expression.OneOperator.TheVariants as one
 use Rattle.values.specs.Readings.{Reading, read_as}
-use Rattle.values.specs.Values.{truth_of, effective_of, truth_value, value_order, decided, is_equal, same_or_unknown, strict, is_ordered}
+use Rattle.values.specs.Values.{truth_of, effective_of, truth_value, value_order, decided, is_equal, same_or_unknown, strict, is_ordered, text_length, one_value, truth, is_true}
 use Rattle.expr.specs.Outcomes.{of_two, of_readings}
 
 pub effective_some : (v : Option Term) (r : Reading) → Some r ≡ option_map read_as v → truth_of r ≡ effective_of v
@@ -77,3 +77,25 @@ pub strict_ordered : (test : Ordering → Bool) (a b : Option Term) → truth_va
 strict_ordered test None b = refl
 strict_ordered test (Some x) None = refl
 strict_ordered test (Some x) (Some y) = refl
+
+-- ---- functions of one value
+
+pub length_some : (v : Option Term) (r : Reading) → Some r ≡ option_map read_as v → text_length r ≡ option_and_then (λ t. text_length (read_as t)) v
+length_some None r h = (cc)
+length_some (Some t) r h = let e : r ≡ read_as t = cc in ap text_length e
+
+pub length_none : (v : Option Term) → None ≡ option_map read_as v → None ≡ option_and_then (λ t. text_length (read_as t)) v
+length_none None h = refl
+length_none (Some t) h = (cc)
+
+pub not_is : (v : Option Term) → truth_value (option_map not (effective_of v)) ≡ option_and_then (one_value one.Not) v
+not_is None = refl
+not_is (Some t) = refl
+
+pub kind_is : (is : Term → Bool) (v : Option Term) → truth_value (option_map is v) ≡ option_and_then (λ t. Some (truth (is t))) v
+kind_is is None = refl
+kind_is is (Some t) = refl
+
+pub is_true_or : (o : Option Bool) → unwrap_or o false ≡ is_true o
+is_true_or None = refl
+is_true_or (Some b) = refl

@@ -1,6 +1,7 @@
 -- Where a text occurs in another.
 use Rattle.std.proofs.Common.{◌≡◌, Bool, true, false, ℕ, suc, List, [], ◌∷◌, ◌++◌, length, take, drop, inl, inr, refl, ap}
 use Rattle.std.specs.Prelude.{◌⊎◌, ◌||◌, MatchBool, Option, Some, None, nat_eq}
+use Rattle.std.specs.Option.{option_map}
 use Rattle.std.specs.List.{starts_with}
 use Rattle.std.specs.Str.Iter.{HasSubslice}
 use Rattle.std.specs.Str.Pattern.{HasMatch, FindsText}
@@ -8,7 +9,9 @@ use Rattle.std.proofs.lemmas.Str.Pattern.{contains_text}
 use Rattle.std.proofs.lemmas.Slice.Eq.{starts_is}
 use Rattle.std.proofs.lemmas.Bool.Decides.{Decides-eqb}
 use Rattle.std.proofs.lemmas.Bool.{or_cases, or_left, or_right}
-use Rattle.values.specs.Values.{occurs_in}
+use Rattle.terms.specs.declared.term.Term.{Term}
+use Rattle.values.specs.Values.{occurs_in, truth, text_pair, strict, on_texts}
+use Rattle.expr.specs.Outcomes.{of_readings}
 use Rattle.expr.proofs.PartsLaws.{both_ways}
 
 starts_told : (s p : List ℕ) → starts_with nat_eq s p ≡ true → s ≡ p ++ drop (length p) s
@@ -37,3 +40,15 @@ pub occurs : (r : Bool) (p s : List ℕ) → MatchBool r (HasMatch (FindsText p)
 occurs r p s h =
     let found = contains_text r p s h in
     both_ways r (occurs_in s p) (λ e. let at = found.0 e in occurs_tells s p at.0 at.1 at.2) (λ e. found.1 (occurs_told s p e))
+
+-- ---- tests of two texts
+
+pub tested_some : (test : List ℕ → List ℕ → Bool) (a b : Option Term) (x y : List ℕ) → Some (x, y) ≡ of_readings text_pair a b → Some (truth (test x y)) ≡ strict (on_texts test) a b
+tested_some test None b x y h = (cc)
+tested_some test (Some s) None x y h = (cc)
+tested_some test (Some s) (Some t) x y h = ap (option_map (λ (p : List ℕ × List ℕ). truth (test p.0 p.1))) h
+
+pub tested_none : (test : List ℕ → List ℕ → Bool) (a b : Option Term) → None ≡ of_readings text_pair a b → None ≡ strict (on_texts test) a b
+tested_none test None b h = refl
+tested_none test (Some s) None h = refl
+tested_none test (Some s) (Some t) h = ap (option_map (λ (p : List ℕ × List ℕ). truth (test p.0 p.1))) h

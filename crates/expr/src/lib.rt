@@ -4,12 +4,19 @@
 //! `values`. The contract used above: a `Filtering` decides filters as the dictionary's vocabulary of numbers does.
 #![tactic(auto)]
 
+mod arithmetic;
 mod comparing;
+mod evaluate;
+mod filtering;
+mod functions;
 mod logic;
+mod operators;
 mod outcome;
 mod parts;
 mod reading;
 mod texts;
 
+pub use evaluate::value;
+pub use filtering::Filtering;
 pub use logic::effective;
 pub use outcome::Outcome;
