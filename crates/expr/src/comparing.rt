@@ -31,11 +31,7 @@ pub fn ordered(a: &Outcome<'_>, b: &Outcome<'_>) -> Option<Ordering>
     value_order(a, b)
 }
 
-fn same_or_unknown(
-    alloc: Global,
-    a: Parts<'_>,
-    b: Parts<'_>,
-) -> Result<Option<bool>, AllocError>
+fn same_or_unknown(alloc: Global, a: Parts<'_>, b: Parts<'_>) -> Result<Option<bool>, AllocError>
     ensures { IfOk result (λ so. so ≡ same_or_unknown (whole a.entry) (whole b.entry)) }
 {
     if is_same_term(alloc, a, b)? {
@@ -49,11 +45,7 @@ fn same_or_unknown(
 
 #[tactic(auto, using(crate::proofs::OutcomeLaws::equal_ordered, crate::proofs::OutcomeLaws::equal_unordered, crate::proofs::OutcomeLaws::two_left, crate::proofs::OutcomeLaws::two_right))]
 /// Whether two values are equal (SPARQL 1.1 Query, 17.4.1.7), and nothing where that is an error.
-pub fn equal(
-    alloc: Global,
-    a: &Outcome<'_>,
-    b: &Outcome<'_>,
-) -> Result<Option<bool>, AllocError>
+pub fn equal(alloc: Global, a: &Outcome<'_>, b: &Outcome<'_>) -> Result<Option<bool>, AllocError>
     ensures { IfOk result (λ so. so ≡ of_two is_equal (seen a.entry.now) (seen b.entry.now)) }
 {
     if let Some(order) = ordered(a, b) {

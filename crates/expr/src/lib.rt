@@ -14,6 +14,8 @@ mod operators;
 mod outcome;
 mod parts;
 mod reading;
+#[cfg(test)]
+mod tests;
 mod texts;
 
 pub use evaluate::value;

@@ -1,5 +1,5 @@
 //! Functions on texts (SPARQL 1.1 Query, 17.4.3).
-ghost use Rattle.std.specs.Prelude.{◌≡◌, IfOk, ◌<◌, ◌^◌, nat_eq};
+ghost use Rattle.std.specs.Prelude.{◌≡◌, nat_eq};
 ghost use Rattle.std.specs.Option.{option_map};
 ghost use Rattle.std.specs.List.{starts_with, ends_with};
 ghost use Rattle.values.specs.Values.{text_pair, occurs_in, characters, two_value};
@@ -18,7 +18,13 @@ fn text_pair<'v>(a: Reading<'v>, b: Reading<'v>) -> Option<(&'v str, &'v str)>
     match (a, b) {
         (Reading::Text(a), Reading::Text(b)) => Some((a, b)),
         (Reading::Tagged(a, _), Reading::Text(b)) => Some((a, b)),
-        (Reading::Tagged(a, tag), Reading::Tagged(b, other)) => { if is_text(tag, other) { Some((a, b)) } else { None } }
+        (Reading::Tagged(a, tag), Reading::Tagged(b, other)) => {
+            if is_text(tag, other) {
+                Some((a, b))
+            } else {
+                None
+            }
+        }
         _ => None,
     }
 }
@@ -62,5 +68,8 @@ fn is_first(byte: u8) -> bool
 pub fn characters(text: &str) -> usize
     ensures { result ≡ characters text.now }
 {
-    text.as_bytes().iter().filter(|byte| is_first(**byte)).count()
+    text.as_bytes()
+        .iter()
+        .filter(|byte| is_first(**byte))
+        .count()
 }
