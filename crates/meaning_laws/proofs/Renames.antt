@@ -16,8 +16,8 @@ use Rattle.meaning.specs.Run.{Request, Failure, then_next, performed, count_new,
 use Rattle.meaning.specs.declared.update.Slot.{Slot}
 use Rattle.meaning.specs.declared.update.Slot.TheVariants as slot
 use Rattle.meaning.specs.declared.update.QuadTemplate.{QuadTemplate}
-use Rattle.meaning.specs.declared.update.Operation.{Operation}
-use Rattle.meaning.specs.declared.update.Operation.TheVariants as operation
+use Rattle.algebra.specs.declared.update.Operation.{Operation}
+use Rattle.algebra.specs.declared.update.Operation.TheVariants as operation
 use Rattle.meaning.specs.declared.reply.Cause.{Cause}
 use Rattle.meaning.specs.declared.reply.Cause.TheVariants.{TooManySolutions}
 use Rattle.meaning.specs.declared.reply.Reply.{Reply}
