@@ -14,6 +14,7 @@ use crate::Request;
 use crate::least::least_of;
 use crate::operations::perform;
 use dict::{Dict, Id};
+use algebra::Operation;
 use meaning::Reply;
 use reads::{Delta, Finished, Note, Source, Stop};
 use sets::Items;
