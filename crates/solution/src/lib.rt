@@ -4,7 +4,9 @@
 #![tactic(auto)]
 
 pub mod among;
+pub mod filters;
 pub mod mapping;
 
 pub use among::solutions_among;
+pub use filters::Filters;
 pub use mapping::Mapping;
