@@ -1,0 +1,130 @@
+//! The operators of the algebra on lists of mappings, one mapping at a time.
+ghost use Rattle.std.specs.Prelude.{◌≡◌, ◌++◌, ◌&&◌, ◌||◌, not, map, filter, filter_map, IfOk, OnOk};
+ghost use Rattle.std.specs.List.{list_all};
+ghost use Rattle.algebra.specs.Expressions.{expression_of};
+ghost use Rattle.datasets.specs.Id.{id_order};
+ghost use Rattle.meaning.specs.Mapping.{joined, compatible, merge, shares, fitted};
+ghost use Rattle.meaning.specs.Operators.{diff, minus};
+ghost use Rattle.meaning.specs.Solutions.{passes_all};
+
+use crate::filters::Filters;
+use crate::mapping::Mapping;
+use algebra::{Expression, Place};
+use datasets::Id;
+use std::alloc::{AllocError, Global};
+
+/// Adds the merges of a mapping with those that it is compatible with.
+pub fn push_joined(found: &mut Vec<Mapping>, a: &Mapping, right: &[Mapping]) -> Result<(), AllocError>
+    ensures { OnOk result (found.new.items ≡ found.old.items ++ filter_map (joined id_order a.now) right.now) }
+{
+    for b in right {
+        if a.is_compatible(b) {
+            found.push(a.merge(b)?)?;
+        }
+    }
+    Ok(())
+}
+
+/// Adds the mappings under which a place of a pattern is this term.
+pub fn push_fitted(
+    found: &mut Vec<Mapping>,
+    place: Place<Id>,
+    term: Id,
+    mappings: Vec<Mapping>,
+) -> Result<(), AllocError>
+    ensures { OnOk result (found.new.items ≡ found.old.items ++ filter_map (fitted id_order place term) mappings.items) }
+{
+    for mapping in mappings {
+        if let Some(fit) = mapping.fit(place, term) {
+            found.push(fit)?;
+        }
+    }
+    Ok(())
+}
+
+// Whether each on the right is incompatible with a mapping, or shares no variable with it.
+fn is_apart(a: &Mapping, right: &[Mapping]) -> bool
+    ensures { result ≡ list_all (λ b. not (compatible id_order a.now b) || not (shares a.now b)) right.now }
+{
+    right.iter().all(|b| !a.is_compatible(b) || !a.shares(b))
+}
+
+/// Those that each on the right is incompatible with or shares no variable with.
+pub fn apart_from(mut mappings: Vec<Mapping>, right: &[Mapping]) -> Vec<Mapping>
+    ensures { result.items ≡ minus id_order mappings.items right.now }
+{
+    mappings.retain(|a| is_apart(a, right));
+    mappings
+}
+
+// Whether a mapping passes each filter.
+fn passes_each<F: Filters>(
+    alloc: Global,
+    filters: &[Expression<Id>],
+    by: &F,
+    mapping: &Mapping,
+) -> Result<bool, AllocError>
+    ensures { IfOk result (λ so. so ≡ passes_all (F.passes by.now) (map expression_of filters.now) mapping.now) }
+{
+    for filter in filters {
+        if !by.is_passed(alloc, filter, mapping)? {
+            return Ok(false);
+        }
+    }
+    Ok(true)
+}
+
+// Whether no merge of a mapping with one that it is compatible with passes the filters.
+fn fails_all<F: Filters>(
+    alloc: Global,
+    filters: &[Expression<Id>],
+    by: &F,
+    a: &Mapping,
+    right: &[Mapping],
+) -> Result<bool, AllocError>
+    ensures { IfOk result (λ so. so ≡ list_all (λ b. not (compatible id_order a.now b && passes_all (F.passes by.now) (map expression_of filters.now) (merge a.now b))) right.now) }
+{
+    for b in right {
+        if a.is_compatible(b) && passes_each(alloc, filters, by, &a.merge(b)?)? {
+            return Ok(false);
+        }
+    }
+    Ok(true)
+}
+
+/// Those that pass each filter.
+pub fn passing<F: Filters>(
+    alloc: Global,
+    filters: &[Expression<Id>],
+    by: &F,
+    mappings: Vec<Mapping>,
+) -> Result<Vec<Mapping>, AllocError>
+    ensures { IfOk result (λ kept. kept.items ≡ filter (passes_all (F.passes by.now) (map expression_of filters.now)) mappings.items) }
+{
+    let mut kept = Vec::new(alloc);
+    for mapping in mappings {
+        if passes_each(alloc, filters, by, &mapping)? {
+            kept.push(mapping)?;
+        }
+    }
+    Ok(kept)
+}
+
+/// Those that no mapping on the right goes on from under the filters.
+pub fn difference<F: Filters>(
+    alloc: Global,
+    filters: &[Expression<Id>],
+    by: &F,
+    mappings: Vec<Mapping>,
+    right: &[Mapping],
+) -> Result<Vec<Mapping>, AllocError>
+    ensures { IfOk result (λ kept. kept.items ≡ diff id_order (passes_all (F.passes by.now) (map expression_of filters.now)) mappings.items right.now) }
+{
+    let mut kept = Vec::new(alloc);
+    for a in mappings {
+        if fails_all(alloc, filters, by, &a, right)? {
+            kept.push(a)?;
+        }
+    }
+    Ok(kept)
+}
