@@ -1,6 +1,6 @@
 //! The operators of the algebra on lists of mappings, one mapping at a time.
 ghost use Rattle.std.specs.Prelude.{◌≡◌, ◌++◌, ◌&&◌, ◌||◌, not, map, filter, filter_map, IfOk, OnOk};
-ghost use Rattle.std.specs.List.{list_all};
+ghost use Rattle.std.specs.List.{list_all, flat_map};
 ghost use Rattle.algebra.specs.Expressions.{expression_of};
 ghost use Rattle.datasets.specs.Id.{id_order};
 ghost use Rattle.meaning.specs.Mapping.{joined, compatible, merge, shares, fitted};
@@ -13,8 +13,8 @@ use algebra::{Expression, Place};
 use datasets::Id;
 use std::alloc::{AllocError, Global};
 
-/// Adds the merges of a mapping with those that it is compatible with.
-pub fn push_joined(found: &mut Vec<Mapping>, a: &Mapping, right: &[Mapping]) -> Result<(), AllocError>
+// Adds the merges of a mapping with those that it is compatible with.
+fn push_joined(found: &mut Vec<Mapping>, a: &Mapping, right: &[Mapping]) -> Result<(), AllocError>
     ensures { OnOk result (found.new.items ≡ found.old.items ++ filter_map (joined id_order a.now) right.now) }
 {
     for b in right {
@@ -23,6 +23,21 @@ pub fn push_joined(found: &mut Vec<Mapping>, a: &Mapping, right: &[Mapping]) -> 
         }
     }
     Ok(())
+}
+
+/// The merges of all compatible pairs, in any order and with repeats.
+pub fn joins(
+    alloc: Global,
+    left: &[Mapping],
+    right: &[Mapping],
+) -> Result<Vec<Mapping>, AllocError>
+    ensures { IfOk result (λ found. found.items ≡ flat_map (λ a. filter_map (joined id_order a) right.now) left.now) }
+{
+    let mut found = Vec::new(alloc);
+    for a in left {
+        push_joined(&mut found, a, right)?;
+    }
+    Ok(found)
 }
 
 /// Adds the mappings under which a place of a pattern is this term.
@@ -50,11 +65,20 @@ fn is_apart(a: &Mapping, right: &[Mapping]) -> bool
 }
 
 /// Those that each on the right is incompatible with or shares no variable with.
-pub fn apart_from(mut mappings: Vec<Mapping>, right: &[Mapping]) -> Vec<Mapping>
-    ensures { result.items ≡ minus id_order mappings.items right.now }
+pub fn apart_from(
+    alloc: Global,
+    mappings: Vec<Mapping>,
+    right: &[Mapping],
+) -> Result<Vec<Mapping>, AllocError>
+    ensures { IfOk result (λ kept. kept.items ≡ minus id_order mappings.items right.now) }
 {
-    mappings.retain(|a| is_apart(a, right));
-    mappings
+    let mut kept = Vec::new(alloc);
+    for a in mappings {
+        if is_apart(&a, right) {
+            kept.push(a)?;
+        }
+    }
+    Ok(kept)
 }
 
 // Whether a mapping passes each filter.

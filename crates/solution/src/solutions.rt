@@ -10,7 +10,7 @@ ghost use Rattle.sets.specs.Sets.{has, set_of as the_set_of};
 use crate::among::solutions_among;
 use crate::filters::Filters;
 use crate::mapping::Mapping;
-use crate::operators::{apart_from, difference, passing, push_fitted, push_joined};
+use crate::operators::{apart_from, difference, joins, passing, push_fitted};
 use algebra::{Expression, Place, TriplePattern};
 use datasets::{Id, Quad};
 use sets::{place_of, set_of};
@@ -114,13 +114,10 @@ impl Solutions {
     }
 
     /// The merges of all compatible pairs (SPARQL 1.1 Query, 18.5, Join).
-    pub fn join(&self, alloc: Global, right: &Solutions) -> Result<Solutions, AllocError>
-        ensures { IfOk result (λ found. found ≡ operators.join id_order self.now right.now) }
+    pub fn join(&self, alloc: Global, right: Solutions) -> Result<Solutions, AllocError>
+        ensures { IfOk result (λ found. found ≡ operators.join id_order self.now right) }
     {
-        let mut found = Vec::new(alloc);
-        for a in self.mappings.as_slice() {
-            push_joined(&mut found, a, &right.mappings)?;
-        }
+        let found = joins(alloc, &self.mappings, &right.mappings)?;
         Ok(Solutions::from_mappings(found))
     }
 
@@ -128,34 +125,40 @@ impl Solutions {
     pub fn left_join<F: Filters>(
         self,
         alloc: Global,
-        right: &Solutions,
+        right: Solutions,
         filters: &[Expression<Id>],
         by: &F,
     ) -> Result<Solutions, AllocError>
-        ensures { IfOk result (λ found. found ≡ operators.left_join id_order (passes_all (F.passes by.now) (map expression_of filters.now)) self right.now) }
+        ensures { IfOk result (λ found. found ≡ operators.left_join id_order (passes_all (F.passes by.now) (map expression_of filters.now)) self right) }
     {
-        let found = self.join(alloc, right)?.filter(alloc, filters, by)?;
-        let rest = self.diff(alloc, right, filters, by)?;
-        found.union(rest)
+        let merges = Solutions::from_mappings(joins(alloc, &self.mappings, &right.mappings)?);
+        let found = merges.filter(alloc, filters, by)?;
+        let rest = difference(alloc, filters, by, self.mappings, &right.mappings)?;
+        found.union_with(rest)
     }
 
     /// The solutions of either (SPARQL 1.1 Query, 18.5, Union).
     pub fn union(self, other: Solutions) -> Result<Solutions, AllocError>
         ensures { IfOk result (λ found. found ≡ operators.union_of id_order self other) }
     {
+        self.union_with(other.mappings)
+    }
+
+    // These, and others in any order.
+    fn union_with(self, mut others: Vec<Mapping>) -> Result<Solutions, AllocError>
+        ensures { IfOk result (λ found. found ≡ operators.union_of id_order self others.items) }
+    {
         let mut mappings = self.mappings;
-        let mut others = other.mappings;
         mappings.append(&mut others)?;
         Ok(Solutions::from_mappings(mappings))
     }
 
     /// Those that each on the right is incompatible with or shares no variable with (SPARQL 1.1 Query, 18.5, Minus).
-    pub fn minus(self, right: &Solutions) -> Solutions
-        ensures { result ≡ operators.minus id_order self right.now }
+    pub fn minus(self, alloc: Global, right: Solutions) -> Result<Solutions, AllocError>
+        ensures { IfOk result (λ found. found ≡ operators.minus id_order self right) }
     {
-        Solutions {
-            mappings: apart_from(self.mappings, &right.mappings),
-        }
+        let mappings = apart_from(alloc, self.mappings, &right.mappings)?;
+        Ok(Solutions { mappings })
     }
 
     /// Those that pass each filter (SPARQL 1.1 Query, 18.5, Filter).
@@ -168,20 +171,6 @@ impl Solutions {
         ensures { IfOk result (λ found. found ≡ filter (passes_all (F.passes by.now) (map expression_of filters.now)) self) }
     {
         let mappings = passing(alloc, filters, by, self.mappings)?;
-        Ok(Solutions { mappings })
-    }
-
-    /// Those whose merges with what they are compatible with all fail a filter (SPARQL 1.1 Query, 18.5, Diff).
-    pub fn diff<F: Filters>(
-        self,
-        alloc: Global,
-        right: &Solutions,
-        filters: &[Expression<Id>],
-        by: &F,
-    ) -> Result<Solutions, AllocError>
-        ensures { IfOk result (λ found. found ≡ operators.diff id_order (passes_all (F.passes by.now) (map expression_of filters.now)) self right.now) }
-    {
-        let mappings = difference(alloc, filters, by, self.mappings, &right.mappings)?;
         Ok(Solutions { mappings })
     }
 }

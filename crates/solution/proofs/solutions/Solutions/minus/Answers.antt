@@ -7,4 +7,4 @@ use Rattle.solution.proofs.solutions.Solutions.minus.Goals as goal
 
 pub invariant_of-result : goal.invariant_of-result
 invariant_of-result c =
-    rises-filter _ (λ a. list_all (λ b. not (compatible id_order a b) || not (shares a b)) c.deref.result.now) _ c.self.invariant c.apart_from.ensures
+    rises-filter _ (λ a. list_all (λ b. not (compatible id_order a b) || not (shares a b)) c.deref.result.now) _ c.self.invariant c.in_ok-mappings.ensures
