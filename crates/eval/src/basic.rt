@@ -55,7 +55,7 @@ fn join_scanned<S: Source, F>(
     let wanted = scan_of(pattern, graph);
     let quads = scan(query.alloc, &wanted, query.changes, source, notes)?;
     let found = Solutions::among(query.alloc, query.width, pattern, &quads)?;
-    let joined = before.join(query.alloc, &found)?;
+    let joined = before.join(query.alloc, found)?;
     Ok(joined)
 }
 

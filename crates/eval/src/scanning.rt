@@ -15,7 +15,11 @@ use reads::{Answered, Delta, Note, Source, Stop};
 use std::alloc::{AllocError, Global};
 
 /// Puts a read with its answer at the end.
-pub(crate) fn note(notes: &mut Vec<Note>, read: Read<Id>, answer: Answered) -> Result<(), AllocError>
+pub(crate) fn note(
+    notes: &mut Vec<Note>,
+    read: Read<Id>,
+    answer: Answered,
+) -> Result<(), AllocError>
     ensures ok { OnOk result (notes.new.items ≡ notes.old.items ++ record { read = read; answer = answer } ∷ []) }
     ensures err { OnErr result (notes.new.items ≡ notes.old.items) }
 {

@@ -1,7 +1,7 @@
 //! The solutions of a pattern.
 ghost use Rattle.std.specs.Prelude.{◌≡◌, ℕ, ◌<◌, ◌^◌, true, Option, Some, IfOk, map};
 ghost use Rattle.sets.specs.Sets.{set_of as the_set_of};
-ghost use Rattle.algebra.specs.Plans.{plan_of, nothing, linked_all, united};
+ghost use Rattle.algebra.specs.Plans.{plan_of, nothing, linked_all, united, InGraph};
 ghost use Rattle.algebra.specs.declared.template.Slot.{Slot};
 ghost use Rattle.algebra.specs.declared.template.Slot.TheVariants as slot;
 ghost use Rattle.datasets.specs.Id.{id_order};
@@ -29,19 +29,18 @@ fn combined<F: Filters>(
     query: &Query<'_, F>,
     before: Solutions,
     link: &Link<Id>,
-    found: &Solutions,
+    found: Solutions,
 ) -> Result<Solutions, AllocError>
-    ensures { IfOk result (λ both. both ≡ the_combined (F.passes query.now.filters.now) link.now before found.now) }
+    ensures { IfOk result (λ both. both ≡ the_combined (F.passes query.now.filters.now) link.now before found) }
 {
     match link {
         Link::Join => before.join(query.alloc, found),
         Link::LeftJoin(filters) => before.left_join(query.alloc, found, filters, query.filters),
-        Link::Minus => Ok(before.minus(found)),
+        Link::Minus => before.minus(query.alloc, found),
     }
 }
 
-/// The solutions of a pattern, with this graph as the active one, in each changed dataset that agrees with the notes. GRAPH with a name
-/// asks for the name first, and for nothing within where it is absent; GRAPH with a variable asks for all names.
+/// The solutions of a pattern, with this graph as the active one, in each changed dataset that agrees with the notes.
 #[cycle(solve)]
 #[tactic(auto, using(asking::proofs::Notes::goes_on))]
 pub fn solve<S: Source, F: Filters>(
@@ -63,17 +62,7 @@ pub fn solve<S: Source, F: Filters>(
             Ok(kept)
         }
         Plan::Union(plans) => solve_union(query, plans, active, source, notes),
-        Plan::InGraph(Place::Term(name), inner) => {
-            if is_graph(*name, query.changes, source, notes)? {
-                solve(query, inner, Some(*name), source, notes)
-            } else {
-                Ok(Solutions::none(query.alloc))
-            }
-        }
-        Plan::InGraph(Place::Variable(variable), inner) => {
-            let names = graphs(query.alloc, query.changes, source, notes)?;
-            solve_graphs(query, *variable, inner, &names, source, notes)
-        }
+        Plan::InGraph(place, inner) => solve_in(query, *place, inner, source, notes),
     }
 }
 
@@ -94,7 +83,7 @@ fn solve_parts<S: Source, F: Filters>(
     let mut found = Solutions::empty_mapping(query.alloc, query.width)?;
     for (link, plan) in parts {
         let next = solve(query, plan, active, source, notes)?;
-        found = combined(query, found, link, &next)?;
+        found = combined(query, found, link, next)?;
     }
     Ok(found)
 }
@@ -122,6 +111,36 @@ fn solve_union<S: Source, F: Filters>(
         found = found.union(next)?;
     }
     Ok(found)
+}
+
+// The solutions of a pattern in the graph of this name, or in each. A name is asked for first, and where it is absent nothing within; for
+// a variable all names are asked for.
+#[cycle(solve)]
+#[tactic(auto, using(asking::proofs::Notes::goes_on))]
+fn solve_in<S: Source, F: Filters>(
+    query: &Query<'_, F>,
+    place: Place<Id>,
+    plan: &Plan<Id>,
+    source: &mut S,
+    notes: &mut Vec<Note>,
+) -> Result<Solutions, Stop>
+    ensures about { S.subject source.new ≡ S.subject source.old }
+    ensures goes { (written : Option (Slot Number)) → Goes (is_for_plan id_order written (InGraph place (plan_of plan.now))) (S.may source.old) (S.may source.new) notes.old.items notes.new.items }
+    ensures solved { IfOk result (λ found. (d : View) (active : Option Number) → Agrees notes.new.items d → found ≡ solutions id_order (F.passes query.now.filters.now) query.now.width (InGraph place (plan_of plan.now)) (applied query.now.changes.now d) active) }
+{
+    match place {
+        Place::Term(name) => {
+            if is_graph(name, query.changes, source, notes)? {
+                solve(query, plan, Some(name), source, notes)
+            } else {
+                Ok(Solutions::none(query.alloc))
+            }
+        }
+        Place::Variable(variable) => {
+            let names = graphs(query.alloc, query.changes, source, notes)?;
+            solve_graphs(query, variable, plan, &names, source, notes)
+        }
+    }
 }
 
 // The solutions of a pattern in each of these graphs, with a variable bound to the graph's name.

@@ -17,6 +17,11 @@ pub trait Filters {
     ghost passes: { Self → expressions.Expression ids.Id → List (Option ids.Id) → Bool };
 
     /// Whether a mapping passes a filter. An error comes only where a growth was refused.
-    fn is_passed(&self, alloc: Global, filter: &Expression<Id>, mapping: &Mapping) -> Result<bool, AllocError>
+    fn is_passed(
+        &self,
+        alloc: Global,
+        filter: &Expression<Id>,
+        mapping: &Mapping,
+    ) -> Result<bool, AllocError>
         ensures { IfOk result (λ so. so ≡ passes self.now (expression_of filter.now) mapping.now) };
 }

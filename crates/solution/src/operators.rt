@@ -26,11 +26,7 @@ fn push_joined(found: &mut Vec<Mapping>, a: &Mapping, right: &[Mapping]) -> Resu
 }
 
 /// The merges of all compatible pairs, in any order and with repeats.
-pub fn joins(
-    alloc: Global,
-    left: &[Mapping],
-    right: &[Mapping],
-) -> Result<Vec<Mapping>, AllocError>
+pub fn joins(alloc: Global, left: &[Mapping], right: &[Mapping]) -> Result<Vec<Mapping>, AllocError>
     ensures { IfOk result (λ found. found.items ≡ flat_map (λ a. filter_map (joined id_order a) right.now) left.now) }
 {
     let mut found = Vec::new(alloc);

@@ -6,8 +6,8 @@ use Rattle.eval.specs.Scans.{scan_of}
 use Rattle.eval.proofs.Members.{all_at}
 use Rattle.eval.proofs.basic.solve_basic.Goals as goal
 
-pub returns-in_err-found-clause-goes : goal.returns-in_err-found-clause-goes
-returns-in_err-found-clause-goes g c allowed h =
+pub returns-in_err-found-2-clause-goes : goal.returns-in_err-found-2-clause-goes
+returns-in_err-found-2-clause-goes g c allowed h =
     goes_on (c.loop-pattern.invariant.goes allowed h) (c.join_scanned.ensures.goes allowed (all_at (λ t. allowed (Scan (scan_of t c.args.graph)) ≡ true) _ _ _ h c.loop-pattern-test.true))
 
 pub loop-pattern-preserved : goal.loop-pattern-preserved
