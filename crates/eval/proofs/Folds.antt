@@ -1,10 +1,11 @@
 -- Patterns one after another, at their solutions.
 use Rattle.std.specs.Prelude.{ℕ, Bool, true, cond, filter, map}
-use Rattle.std.proofs.Common.{◌≡◌, List, [], ◌∷◌, Option, refl, sym, ap, ◌∙◌}
+use Rattle.std.proofs.Common.{◌≡◌, ◌≤◌, ◌-◌, List, [], ◌∷◌, Option, length, take, drop, get_or, refl, sym, ap, ◌∙◌, arith}
+use Rattle.std.proofs.lemmas.List.{take_all}
 use Rattle.datasets.specs.Id.{id_order}
 use Rattle.datasets.specs.declared.id.Id.{Id}
 use Rattle.algebra.specs.Expressions.{Expression}
-use Rattle.algebra.specs.Plans.{Plan, Union, plan_of, linked, linked_all, filtered, united_with}
+use Rattle.algebra.specs.Plans.{Plan, Union, plan_of, parts_of, linked, linked_all, filtered, united, united_with}
 use Rattle.algebra.specs.declared.plan.Link.{Link}
 use Rattle.algebra.specs.declared.plan.Link.TheVariants as link
 use Rattle.algebra.specs.declared.plan.Plan.{Plan as Kept}
@@ -12,7 +13,18 @@ use Rattle.meaning.specs.Mapping.{Mapping}
 use Rattle.meaning.specs.Operators.{union_of}
 use Rattle.meaning.specs.Solutions.{solutions, passes_all}
 use Rattle.reads.specs.Reads.{View}
-use Rattle.eval.specs.Groups.{combined, parts_of}
+use Rattle.eval.specs.Groups.{combined}
+
+-- the patterns of a union behind the first
+abbrev pub behind : List (Kept Id) → List (Kept Id)
+behind plans = take (length plans - 1) (drop 1 plans)
+
+pub union_begins : (plans : List (Kept Id)) (first : Kept Id) → 1 ≤ length plans → first ≡ get_or plans 0 first
+    → united (map plan_of plans) ≡ united_with (plan_of first) (map plan_of (behind plans))
+union_begins [] first le is = absurd (omega (arith, le))
+union_begins (p ∷ ps) first le is =
+    ap (λ f. united_with (plan_of f) (map plan_of ps)) (sym is)
+    ∙ ap (λ xs. united_with (plan_of first) (map plan_of xs)) (sym (take_all (length (p ∷ ps) - 1) ps (omega (arith, le))))
 
 module _ (passes : Expression Id → Mapping Id → Bool) (width : ℕ) (d : View) (graph : Option Id) where
   abbrev pub solved : Plan Id → List (Mapping Id)

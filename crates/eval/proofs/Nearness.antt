@@ -9,7 +9,7 @@ use Rattle.datasets.specs.declared.read.GraphPlace.TheVariants.{Only}
 use Rattle.datasets.specs.declared.read.Read.TheVariants.{Scan, GraphIs, Graphs}
 use Rattle.datasets.specs.Id.{id_order, id_total}
 use Rattle.algebra.specs.Expressions.{Expression}
-use Rattle.algebra.specs.Plans.{Plan, Union, InGraph, plan_of, linked, linked_all, filtered, united_with}
+use Rattle.algebra.specs.Plans.{Plan, Union, InGraph, plan_of, parts_of, linked, linked_all, filtered, united_with}
 use Rattle.algebra.specs.declared.pattern.Place.TheVariants as place
 use Rattle.algebra.specs.declared.plan.Link.{Link}
 use Rattle.algebra.specs.declared.plan.Link.TheVariants as link
@@ -18,7 +18,6 @@ use Rattle.algebra.specs.declared.template.Slot.{Slot}
 use Rattle.algebra.specs.declared.template.Slot.TheVariants as slot
 use Rattle.meaning.specs.Near.{is_for_plan, is_graph_written}
 use Rattle.reads.specs.Reads.{Read}
-use Rattle.eval.specs.Groups.{parts_of}
 
 -- a named graph is written by its name
 pub named_here : (t : Id) → is_graph_written id_order (Some (slot.Term t)) (Only (Some t)) ≡ true

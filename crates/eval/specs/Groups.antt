@@ -2,24 +2,16 @@
 use Rattle.std.specs.Prelude.{ℕ, Bool, List, Some, map, filter_map}
 use Rattle.std.specs.List.{flat_map}
 use Rattle.algebra.specs.Expressions.{Expression, expression_of}
-use Rattle.algebra.specs.Plans.{Plan, plan_of}
+use Rattle.algebra.specs.Plans.{Plan}
 use Rattle.algebra.specs.declared.pattern.Place.TheVariants as place
 use Rattle.algebra.specs.declared.plan.Link.{Link}
 use Rattle.algebra.specs.declared.plan.Link.TheVariants as link
-use Rattle.algebra.specs.declared.plan.Plan.{Plan as Kept}
 use Rattle.datasets.specs.declared.id.Id.{Id}
 use Rattle.datasets.specs.Id.{id_order}
 use Rattle.meaning.specs.Mapping.{Mapping, fitted}
 use Rattle.meaning.specs.Operators.{join, minus, left_join}
 use Rattle.meaning.specs.Solutions.{passes_all, solutions}
 use Rattle.reads.specs.Reads.{View}
-
--- the patterns of a group, wherever they lie in memory
-abbrev pub part_of : Link Id × Kept Id → Link Id × Plan Id
-part_of part = (part.0, plan_of part.1)
-
-abbrev pub parts_of : List (Link Id × Kept Id) → List (Link Id × Plan Id)
-parts_of = map part_of
 
 -- the solutions before, and those of the pattern that a group goes on with
 abbrev pub combined : (Expression Id → Mapping Id → Bool) → Link Id → List (Mapping Id) → List (Mapping Id) → List (Mapping Id)

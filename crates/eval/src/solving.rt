@@ -1,7 +1,7 @@
 //! The solutions of a pattern.
 ghost use Rattle.std.specs.Prelude.{◌≡◌, ℕ, ◌<◌, ◌^◌, true, Option, Some, IfOk, map};
 ghost use Rattle.sets.specs.Sets.{set_of as the_set_of};
-ghost use Rattle.algebra.specs.Plans.{plan_of, nothing, linked_all, united, InGraph};
+ghost use Rattle.algebra.specs.Plans.{plan_of, parts_of, nothing, linked_all, united, InGraph};
 ghost use Rattle.algebra.specs.declared.template.Slot.{Slot};
 ghost use Rattle.algebra.specs.declared.template.Slot.TheVariants as slot;
 ghost use Rattle.datasets.specs.Id.{id_order};
@@ -13,7 +13,7 @@ ghost use Rattle.meaning.specs.Solutions.{solutions};
 ghost use Rattle.reads.specs.Reads.{View, applied};
 ghost use Rattle.reads.specs.Runs.{Agrees};
 ghost use Rattle.asking.specs.Goes.{Goes};
-ghost use Rattle.eval.specs.Groups.{combined as the_combined, in_graphs, parts_of};
+ghost use Rattle.eval.specs.Groups.{combined as the_combined, in_graphs};
 
 use crate::basic::solve_basic;
 use crate::naming::{graphs, is_graph};

@@ -2,7 +2,7 @@ use Rattle.std.proofs.Common.{◌≡◌, ◌++◌, true, drop, map, Option, Some
 use Rattle.datasets.specs.Id.{id_order}
 use Rattle.datasets.specs.declared.id.Id.{Id}
 use Rattle.datasets.specs.declared.read.GraphPlace.TheVariants.{Only}
-use Rattle.algebra.specs.Plans.{plan_of, nothing, linked_all, united}
+use Rattle.algebra.specs.Plans.{plan_of, parts_of, nothing, linked_all, united}
 use Rattle.algebra.specs.declared.template.Slot.{Slot}
 use Rattle.algebra.specs.declared.template.Slot.TheVariants.{Variable}
 use Rattle.meaning.specs.Near.{is_for_plan, is_graph_written}
@@ -10,7 +10,7 @@ use Rattle.meaning.specs.Solutions.{solutions}
 use Rattle.reads.specs.Reads.{View, applied}
 use Rattle.reads.specs.Runs.{Agrees}
 use Rattle.asking.specs.Goes.{Goes}
-use Rattle.eval.specs.Groups.{in_graphs, parts_of}
+use Rattle.eval.specs.Groups.{in_graphs}
 use Rattle.eval.proofs.Folds.{parts_on, union_on}
 use Rattle.eval.proofs.solving.+solve.Given as goal
 
