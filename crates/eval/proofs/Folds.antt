@@ -1,5 +1,5 @@
 -- Patterns one after another, at their solutions.
-use Rattle.std.specs.Prelude.{ℕ, Bool, true, cond, filter, map}
+use Rattle.std.specs.Prelude.{ℕ, Bool, filter, map}
 use Rattle.std.proofs.Common.{◌≡◌, ◌≤◌, ◌-◌, List, [], ◌∷◌, Option, length, take, drop, get_or, refl, sym, ap, ◌∙◌, arith}
 use Rattle.std.proofs.lemmas.List.{take_all}
 use Rattle.datasets.specs.Id.{id_order}

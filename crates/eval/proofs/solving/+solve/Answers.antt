@@ -1,22 +1,17 @@
-use Rattle.std.proofs.Common.{◌≡◌, true, false, [], Option, Some, refl, sym, ap, ◌∙◌, map, arith}
+use Rattle.std.proofs.Common.{[], Some, refl, sym, ap, ◌∙◌, map, arith}
 use Rattle.std.specs.Prelude.{cond, filter}
 use Rattle.std.proofs.lemmas.Grind.{common_steps}
 use Rattle.std.proofs.lemmas.Result.{IfOk-weaker}
-use Rattle.sets.specs.Sets.{set_of}
 use Rattle.algebra.proofs.Folds.{group_is, union_is}
 use Rattle.algebra.specs.Expressions.{expression_of}
 use Rattle.algebra.specs.Plans.{Basic, InGraph, plan_of, parts_of, nothing, linked_all, filtered, united}
-use Rattle.algebra.specs.declared.pattern.Place.TheVariants as place
 use Rattle.algebra.specs.declared.template.Slot.TheVariants as slot
 use Rattle.datasets.specs.declared.read.Read.TheVariants.{Graphs}
-use Rattle.datasets.specs.Dataset.{quads_in}
 use Rattle.datasets.specs.Id.{id_order}
-use Rattle.meaning.specs.Mapping.{mapping_cmp}
 use Rattle.meaning.specs.Near.{is_for_plan}
-use Rattle.meaning.specs.Solutions.{solutions, basic_solutions, passes_all}
+use Rattle.meaning.specs.Solutions.{solutions, passes_all}
 use Rattle.reads.specs.Reads.{applied}
 use Rattle.asking.proofs.Notes.{goes_on, goes_within, goes_nowhere}
-use Rattle.eval.specs.Groups.{in_graphs}
 use Rattle.eval.proofs.Scanned.{basic_asked}
 use Rattle.eval.proofs.Folds.{parts_on, parts_solved, behind, union_begins, union_on, union_solved, filtered_solved}
 use Rattle.eval.proofs.Nearness.{named_here, part_near, first_near, other_near, filtered_near, named_near, each_near}
