@@ -1,5 +1,5 @@
 -- Trees by their left operands, and trees that are still to come.
-use Rattle.std.proofs.Common.{rules, Bor, ℕ, suc, ◌≡◌, ◌+◌, List, [], ◌∷◌, ◌++◌, map, reverse, refl, sym, ap, ◌∙◌}
+use Rattle.std.proofs.Common.{rules, Bor, ℕ, suc, ◌≡◌, ◌+◌, List, [], ◌∷◌, ◌++◌, reverse, refl, sym, ap, ◌∙◌}
 use Rattle.std.proofs.lemmas.List.{append_assoc, reverse-append}
 use Rattle.terms.specs.declared.term.Term.{Term}
 use Rattle.algebra.specs.declared.expression.TwoOperator.{TwoOperator}

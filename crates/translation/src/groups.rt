@@ -242,7 +242,7 @@ fn parts_of<'a>(
 
 /// Goes on with an element of a group.
 #[cycle(groups)]
-#[tactic(auto, using(crate::proofs::GroupLaws::union_lists, crate::proofs::GroupLaws::folded))]
+#[tactic(auto, using(crate::proofs::GroupLaws::union_lists, crate::proofs::GroupLaws::folded, crate::proofs::GroupLaws::map_push))]
 fn add_part<'a>(
     alloc: Global,
     scope: &Scope<'_, 'a>,
@@ -257,11 +257,17 @@ fn add_part<'a>(
             link(parts, Link::Join, Plan::Basic(patterns))
         }
         Element::Union(members) => {
-            let union = union_of(alloc, scope, members.as_slice())?;
-            link(parts, Link::Join, union)
+            let mut plans = Vec::new(alloc);
+            for elements in members {
+                plans.push(translated_group(alloc, scope, elements.as_slice())?)?;
+            }
+            link(parts, Link::Join, Plan::Union(plans))
         }
         Element::Optional(elements) => {
-            let right = Plan::Group(parts_of(alloc, scope, elements.as_slice())?, Vec::new(alloc));
+            let right = Plan::Group(
+                parts_of(alloc, scope, elements.as_slice())?,
+                Vec::new(alloc),
+            );
             let condition = filters_of(alloc, scope, elements.as_slice())?;
             link(parts, Link::LeftJoin(condition), right)
         }
@@ -275,23 +281,6 @@ fn add_part<'a>(
         }
         Element::Filter(_) => Ok(()),
     }
-}
-
-/// The union of groups from left to right.
-#[cycle(groups)]
-#[tactic(auto, using(crate::proofs::GroupLaws::folded, crate::proofs::GroupLaws::map_push))]
-fn union_of<'a>(
-    alloc: Global,
-    scope: &Scope<'_, 'a>,
-    members: &[Vec<Element<'a>>],
-) -> Result<Plan<Term>, AllocError>
-    ensures { IfOk result (λ plan. plan_of plan ≡ plans.united (translated_groups scope.now.prefixes.now scope.now.variables.now (groups (map group (lists_of members.now))))) }
-{
-    let mut plans = Vec::new(alloc);
-    for elements in members {
-        plans.push(translated_group(alloc, scope, elements.as_slice())?)?;
-    }
-    Ok(Plan::Union(plans))
 }
 
 /// A group: its parts from the empty group on, and then its own filters over all of it.

@@ -10,7 +10,7 @@ invariant-parts_of-loop-element l =
     with_parts l.scope.prefixes.now l.scope.variables.now (linked_all nothing (plans.parts_of l.parts.items)) (group (parts_of (drop l.element-index l.elements)))
     ≡ with_parts l.scope.prefixes.now l.scope.variables.now nothing (group (parts_of l.fn.elements))
 
-abbrev pub invariant-union_of-loop-elements : goal.invariant-union_of-loop-elements
-invariant-union_of-loop-elements l =
-    map plan_of l.plans.items ++ translated_groups l.scope.prefixes.now l.scope.variables.now (groups (map group (lists_of (drop l.elements-index l.members))))
-    ≡ translated_groups l.scope.prefixes.now l.scope.variables.now (groups (map group (lists_of l.fn.members)))
+abbrev pub invariant-add_part-loop-elements : goal.invariant-add_part-loop-elements
+invariant-add_part-loop-elements l =
+    map plan_of l.plans.items ++ translated_groups l.scope.prefixes.now l.scope.variables.now (groups (map group (lists_of (drop l.elements-index l.elements-items))))
+    ≡ translated_groups l.scope.prefixes.now l.scope.variables.now (groups (map group (lists_of l.elements-items)))
