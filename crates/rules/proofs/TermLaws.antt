@@ -5,16 +5,21 @@ use Rattle.std.specs.List.{flat_map}
 use Rattle.std.specs.Global.{Vec, Box}
 use Rattle.terms.specs.declared.term.Term.{Term}
 use Rattle.algebra.specs.declared.expression.TwoOperator.{TwoOperator}
-use Rattle.algebra.specs.declared.expression.Expression.{Expression as KeptExpression}
+use Rattle.algebra.specs.declared.expression.Expression.{Expression as KeptExpression, fold-roll-Expression}
+use Rattle.algebra.specs.declared.expression.Expression.TheOpen.{Expression-F}
 use Rattle.algebra.specs.declared.expression.Expression.TheVariants as kept_expression
+use Rattle.algebra.specs.declared.expression.Expression.TheVariants.{rolls-Two}
 use Rattle.algebra.specs.declared.plan.Link.{Link}
 use Rattle.algebra.specs.declared.plan.Link.TheVariants as link
-use Rattle.algebra.specs.declared.plan.Plan.{Plan as Kept}
+use Rattle.algebra.specs.declared.pattern.Place.{Place}
+use Rattle.algebra.specs.declared.plan.Plan.{Plan as Kept, fold-roll-Plan}
+use Rattle.algebra.specs.declared.plan.Plan.TheOpen.{Plan-F}
 use Rattle.algebra.specs.declared.plan.Plan.TheVariants as kept
-use Rattle.algebra.specs.Expressions.{Expression, Two, chained, expression_of, steps_of}
-use Rattle.algebra.specs.Plans.{Plan, Union, nothing, linked, linked_all, filtered, united, united_with, parts_of, plan_of}
+use Rattle.algebra.specs.declared.plan.Plan.TheVariants.{rolls-InGraph}
+use Rattle.algebra.specs.Expressions.{Expression, Two, chained, expression_of, expression_step, steps_of}
+use Rattle.algebra.specs.Plans.{Plan, Union, nothing, linked, linked_all, filtered, united, united_with, parts_of, plan_of, plan_step}
 use Rattle.algebra.proofs.Folds.{group_is, union_is, chain_is}
-use Rattle.rules.specs.Terms.{terms_of_expression, terms_of_plan}
+use Rattle.rules.specs.Terms.{terms_of_place, terms_of_expression, terms_of_plan}
 use Rattle.rules.specs.Parts.{terms_of_link, terms_of_part}
 
 link_terms : (before : Plan Term) (l : Link Term) (p : Plan Term) → terms_of_plan (linked before l p) ≡ terms_of_plan before ++ (terms_of_plan p ++ terms_of_link l)
@@ -56,5 +61,11 @@ union_terms ps = ap terms_of_plan (union_is ps) ∙ united_terms (map plan_of ps
 
 pub chain_terms : (e : Box (KeptExpression Term)) (steps : Vec (TwoOperator × KeptExpression Term)) → terms_of_expression (expression_of (kept_expression.Chain e steps)) ≡ terms_of_expression (expression_of e.value) ++ flat_map (λ (s : TwoOperator × KeptExpression Term). terms_of_expression (expression_of s.1)) steps.items
 chain_terms e steps = ap terms_of_expression (chain_is e steps) ∙ chained_terms (expression_of e.value) steps.items
+
+pub graph_terms : (n : Place Term) (p : Box (Kept Term)) → terms_of_plan (plan_of (kept.InGraph n p)) ≡ terms_of_place n ++ terms_of_plan (plan_of p.value)
+graph_terms n p = ap terms_of_plan (ap plan_of (sym (rolls-InGraph n p)) ∙ fold-roll-Plan Term (Plan Term) plan_step (Plan-F.InGraph n p))
+
+pub two_terms : (o : TwoOperator) (l r : Box (KeptExpression Term)) → terms_of_expression (expression_of (kept_expression.Two o l r)) ≡ terms_of_expression (expression_of l.value) ++ terms_of_expression (expression_of r.value)
+two_terms o l r = ap terms_of_expression (ap expression_of (sym (rolls-Two o l r)) ∙ fold-roll-Expression Term (Expression Term) expression_step (Expression-F.Two o l r))
 
 pub ruleset folded = (group_terms, union_terms, chain_terms)

@@ -16,12 +16,16 @@ pub struct Block {
 }
 
 impl Model for Block {
+    ghost use Rattle.std.specs.Coded.{codes};
     ghost use Rattle.std.specs.Prelude.{List, Result};
+    ghost use Rattle.algebra.specs.Codes.{plan_code};
     ghost use Rattle.terms.specs.declared.term.Term.{Term};
     ghost use Rattle.meaning.specs.declared.update.Operation.{Operation};
     ghost use Rattle.meaning.specs.declared.reply.Refusal.{Refusal};
 
     ghost Value = { List (Result (List (Operation Term)) Refusal) };
+
+    ghost coded = { Prim.hlevel (codes, plan_code {K = Term} (Prim.hlevel codes)) };
 
     ghost view = { λ b. b.requests };
 }
