@@ -1,5 +1,5 @@
 -- Whether all terms of a group's parts are among those that are renamed.
-use Rattle.std.specs.Prelude.{Bool, true, ◌&&◌, List, map}
+use Rattle.std.specs.Prelude.{Bool, true, ◌&&◌, map}
 use Rattle.std.specs.List.{list_all}
 use Rattle.algebra.specs.Expressions.{expression_of}
 use Rattle.algebra.specs.Plans.{Plan}
