@@ -22,14 +22,23 @@ enum Kind {
 type Written = (Kind, &'static str);
 
 const IRI: Written = (Kind::Iri, "http://e/a");
+
 const YES: Written = (Kind::Boolean, "true");
+
 const NO: Written = (Kind::Boolean, "false");
+
 const ILL: Written = (Kind::Boolean, "yes");
+
 const ONE: Written = (Kind::Integer, "1");
+
 const MOST: Written = (Kind::Integer, "9223372036854775807");
+
 const LEAST: Written = (Kind::Integer, "-9223372036854775808");
+
 const LARGE: Written = (Kind::Integer, "9223372036854775808");
+
 const TEXT: Written = (Kind::Text, "a");
+
 const TAGGED: Written = (Kind::English, "a");
 
 /// Operators on two constants, and the effective values.
@@ -44,7 +53,12 @@ const TWO: [(TwoOperator, Written, Written, Option<bool>); 50] = [
     (TwoOperator::And, LARGE, YES, None),
     (TwoOperator::And, ONE, TAGGED, Some(true)),
     (TwoOperator::Equal, ONE, (Kind::Integer, "+01"), Some(true)),
-    (TwoOperator::Equal, (Kind::Integer, "-0"), (Kind::Integer, "0"), Some(true)),
+    (
+        TwoOperator::Equal,
+        (Kind::Integer, "-0"),
+        (Kind::Integer, "0"),
+        Some(true),
+    ),
     (TwoOperator::Equal, ONE, (Kind::Text, "1"), None),
     (TwoOperator::Equal, ONE, IRI, Some(false)),
     (TwoOperator::Equal, YES, (Kind::Boolean, "1"), Some(true)),
@@ -55,12 +69,27 @@ const TWO: [(TwoOperator, Written, Written, Option<bool>); 50] = [
     (TwoOperator::Equal, TAGGED, TAGGED, Some(true)),
     (TwoOperator::Equal, TAGGED, (Kind::German, "a"), None),
     (TwoOperator::Equal, TAGGED, TEXT, None),
-    (TwoOperator::Equal, IRI, (Kind::Iri, "http://e/b"), Some(false)),
+    (
+        TwoOperator::Equal,
+        IRI,
+        (Kind::Iri, "http://e/b"),
+        Some(false),
+    ),
     (TwoOperator::NotEqual, IRI, TEXT, Some(true)),
     (TwoOperator::NotEqual, TEXT, (Kind::Text, "b"), Some(true)),
     (TwoOperator::NotEqual, LARGE, ONE, None),
-    (TwoOperator::Less, (Kind::Integer, "9"), (Kind::Integer, "10"), Some(true)),
-    (TwoOperator::Less, (Kind::Text, "9"), (Kind::Text, "10"), Some(false)),
+    (
+        TwoOperator::Less,
+        (Kind::Integer, "9"),
+        (Kind::Integer, "10"),
+        Some(true),
+    ),
+    (
+        TwoOperator::Less,
+        (Kind::Text, "9"),
+        (Kind::Text, "10"),
+        Some(false),
+    ),
     (TwoOperator::Less, NO, YES, Some(true)),
     (TwoOperator::Less, IRI, IRI, None),
     (TwoOperator::LessEqual, TAGGED, TAGGED, None),
@@ -73,13 +102,28 @@ const TWO: [(TwoOperator, Written, Written, Option<bool>); 50] = [
     (TwoOperator::Minus, LEAST, ONE, None),
     (TwoOperator::Minus, MOST, ONE, Some(true)),
     (TwoOperator::Times, LEAST, (Kind::Integer, "-1"), None),
-    (TwoOperator::SameTerm, ONE, (Kind::Integer, "01"), Some(false)),
+    (
+        TwoOperator::SameTerm,
+        ONE,
+        (Kind::Integer, "01"),
+        Some(false),
+    ),
     (TwoOperator::SameTerm, TAGGED, TAGGED, Some(true)),
     (TwoOperator::StrStarts, TEXT, TAGGED, None),
     (TwoOperator::StrStarts, TAGGED, TEXT, Some(true)),
-    (TwoOperator::StrStarts, (Kind::English, "ab"), TAGGED, Some(true)),
+    (
+        TwoOperator::StrStarts,
+        (Kind::English, "ab"),
+        TAGGED,
+        Some(true),
+    ),
     (TwoOperator::StrStarts, (Kind::German, "ab"), TAGGED, None),
-    (TwoOperator::StrStarts, TEXT, (Kind::Text, "ab"), Some(false)),
+    (
+        TwoOperator::StrStarts,
+        TEXT,
+        (Kind::Text, "ab"),
+        Some(false),
+    ),
     (TwoOperator::StrEnds, (Kind::Text, "ba"), TEXT, Some(true)),
     (TwoOperator::Contains, (Kind::Text, "bab"), TEXT, Some(true)),
     (TwoOperator::Contains, TEXT, (Kind::Text, ""), Some(true)),
@@ -97,7 +141,11 @@ const FUNCTIONS: [(OneOperator, Written, Option<Written>); 21] = [
     (OneOperator::IsIri, IRI, Some(YES)),
     (OneOperator::IsBlank, IRI, Some(NO)),
     (OneOperator::IsLiteral, TAGGED, Some(YES)),
-    (OneOperator::Str, (Kind::Integer, "01"), Some((Kind::Text, "01"))),
+    (
+        OneOperator::Str,
+        (Kind::Integer, "01"),
+        Some((Kind::Text, "01")),
+    ),
     (OneOperator::Str, IRI, Some((Kind::Text, "http://e/a"))),
     (OneOperator::Lang, TAGGED, Some((Kind::Text, "en"))),
     (OneOperator::Lang, ONE, Some((Kind::Text, ""))),
@@ -110,11 +158,22 @@ const FUNCTIONS: [(OneOperator, Written, Option<Written>); 21] = [
     (
         OneOperator::Datatype,
         TAGGED,
-        Some((Kind::Iri, "http://www.w3.org/1999/02/22-rdf-syntax-ns#langString")),
+        Some((
+            Kind::Iri,
+            "http://www.w3.org/1999/02/22-rdf-syntax-ns#langString",
+        )),
     ),
     (OneOperator::Datatype, IRI, None),
-    (OneOperator::StrLen, (Kind::Text, "aé"), Some((Kind::Integer, "2"))),
-    (OneOperator::StrLen, (Kind::English, ""), Some((Kind::Integer, "0"))),
+    (
+        OneOperator::StrLen,
+        (Kind::Text, "aé"),
+        Some((Kind::Integer, "2")),
+    ),
+    (
+        OneOperator::StrLen,
+        (Kind::English, ""),
+        Some((Kind::Integer, "0")),
+    ),
     (OneOperator::StrLen, ONE, None),
     (OneOperator::StrLen, IRI, None),
 ];
@@ -131,7 +190,9 @@ fn literal(
         None => None,
     };
     match Iri::check(alloc, datatype)? {
-        Some(datatype) => Ok(Literal::new(lexical, datatype, tag).map(|literal| Term::Literal(literal))),
+        Some(datatype) => Ok(Literal::new(lexical, datatype, tag).map(|literal| Term::Literal(
+            literal,
+        ))),
         None => Ok(None),
     }
 }
@@ -142,8 +203,18 @@ fn term(alloc: Global, written: Written) -> Result<Option<Term>, AllocError> {
     match kind {
         Kind::Iri => Ok(Iri::check(alloc, text)?.map(|iri| Term::Iri(iri))),
         Kind::Text => literal(alloc, text, "http://www.w3.org/2001/XMLSchema#string", None),
-        Kind::Integer => literal(alloc, text, "http://www.w3.org/2001/XMLSchema#integer", None),
-        Kind::Boolean => literal(alloc, text, "http://www.w3.org/2001/XMLSchema#boolean", None),
+        Kind::Integer => literal(
+            alloc,
+            text,
+            "http://www.w3.org/2001/XMLSchema#integer",
+            None,
+        ),
+        Kind::Boolean => literal(
+            alloc,
+            text,
+            "http://www.w3.org/2001/XMLSchema#boolean",
+            None,
+        ),
         Kind::English => literal(alloc, text, lang_string, Some("en")),
         Kind::German => literal(alloc, text, lang_string, Some("de")),
     }
@@ -215,7 +286,11 @@ fn is_function(
     let inner = constant(alloc, &dict, inner)?;
     let computed = one(alloc, operator, inner)?;
     let want = constant(alloc, &dict, want)?;
-    holds(alloc, &dict, &two(alloc, TwoOperator::SameTerm, computed, want)?)
+    holds(
+        alloc,
+        &dict,
+        &two(alloc, TwoOperator::SameTerm, computed, want)?,
+    )
 }
 
 #[test]
@@ -259,11 +334,31 @@ fn is_computed(
     steps: &[(TwoOperator, Written)],
     want: Written,
 ) -> Result<(Option<bool>, Option<bool>), AllocError> {
-    let dict = dictionary(alloc, &[first, (Kind::Integer, "0"), (Kind::Integer, "3"), ONE, want, (Kind::Text, want.1)])?;
+    let dict = dictionary(
+        alloc,
+        &[
+            first,
+            (Kind::Integer, "0"),
+            (Kind::Integer, "3"),
+            ONE,
+            want,
+            (Kind::Text, want.1),
+        ],
+    )?;
     let computed = chain(alloc, &dict, first, steps)?;
-    let term = two(alloc, TwoOperator::SameTerm, computed, constant(alloc, &dict, want)?)?;
+    let term = two(
+        alloc,
+        TwoOperator::SameTerm,
+        computed,
+        constant(alloc, &dict, want)?,
+    )?;
     let text = one(alloc, OneOperator::Str, chain(alloc, &dict, first, steps)?)?;
-    let text = two(alloc, TwoOperator::Equal, text, constant(alloc, &dict, (Kind::Text, want.1))?)?;
+    let text = two(
+        alloc,
+        TwoOperator::Equal,
+        text,
+        constant(alloc, &dict, (Kind::Text, want.1))?,
+    )?;
     Ok((holds(alloc, &dict, &term)?, holds(alloc, &dict, &text)?))
 }
 
@@ -273,7 +368,10 @@ fn computed(rt: HostRuntime) -> Result<(), AllocError> {
     let both = (Some(true), Some(true));
     let none = [(TwoOperator::Plus, (Kind::Integer, "0"))];
     assert!(rt; is_computed(alloc, (Kind::Integer, "01"), &none, ONE)? == both);
-    let more = [(TwoOperator::Plus, ONE), (TwoOperator::Times, (Kind::Integer, "3"))];
+    let more = [
+        (TwoOperator::Plus, ONE),
+        (TwoOperator::Times, (Kind::Integer, "3")),
+    ];
     assert!(rt; is_computed(alloc, (Kind::Integer, "-2"), &more, (Kind::Integer, "-3"))? == both);
     Ok(())
 }
@@ -282,7 +380,10 @@ fn computed(rt: HostRuntime) -> Result<(), AllocError> {
 fn passes(alloc: Global, dict: &Dict, mapping: &Mapping) -> Result<(bool, bool), AllocError> {
     let filtering = Filtering::new(dict);
     let bound = filtering.is_passed(alloc, &Expression::Bound(0), mapping)?;
-    Ok((bound, filtering.is_passed(alloc, &Expression::Variable(0), mapping)?))
+    Ok((
+        bound,
+        filtering.is_passed(alloc, &Expression::Variable(0), mapping)?,
+    ))
 }
 
 /// Whether those pass where the variable is bound to this number.
