@@ -4,10 +4,11 @@ ghost use Rattle.std.specs.List.{list_all, flat_map};
 ghost use Rattle.algebra.specs.Expressions.{expression_of};
 ghost use Rattle.datasets.specs.Id.{id_order};
 ghost use Rattle.meaning.specs.Mapping.{joined, compatible, merge, shares, fitted};
-ghost use Rattle.meaning.specs.Operators.{diff, minus};
 ghost use Rattle.meaning.specs.Solutions.{passes_all};
+ghost use Rattle.solution.specs.Lookups.{tied};
 
 use crate::filters::Filters;
+use crate::lookup::Lookup;
 use crate::mapping::Mapping;
 use algebra::{Expression, Place};
 use datasets::Id;
@@ -31,7 +32,7 @@ pub fn joins(alloc: Global, left: &[Mapping], right: &[Mapping]) -> Result<Vec<M
 {
     let mut found = Vec::new(alloc);
     for a in left {
-        push_joined(&mut found, a, right)?;
+        push_joined(&mut found, a, right.near(a))?;
     }
     Ok(found)
 }
@@ -64,13 +65,13 @@ fn is_apart(a: &Mapping, right: &[Mapping]) -> bool
 pub fn apart_from(
     alloc: Global,
     mappings: Vec<Mapping>,
-    right: &[Mapping],
+    right: &Lookup,
 ) -> Result<Vec<Mapping>, AllocError>
-    ensures { IfOk result (λ kept. kept.items ≡ minus id_order mappings.items right.now) }
+    ensures { IfOk result (λ kept. kept.items ≡ filter (λ a. list_all (λ b. not (compatible id_order a b) || not (shares a b)) (tied right.now.variables.items right.now.mappings.items a)) mappings.items) }
 {
     let mut kept = Vec::new(alloc);
     for a in mappings {
-        if is_apart(&a, right) {
+        if is_apart(&a, right.near(&a)) {
             kept.push(a)?;
         }
     }
@@ -136,13 +137,13 @@ pub fn difference<F: Filters>(
     filters: &[Expression<Id>],
     by: &F,
     mappings: Vec<Mapping>,
-    right: &[Mapping],
+    right: &Lookup,
 ) -> Result<Vec<Mapping>, AllocError>
-    ensures { IfOk result (λ kept. kept.items ≡ diff id_order (passes_all (F.passes by.now) (map expression_of filters.now)) mappings.items right.now) }
+    ensures { IfOk result (λ kept. kept.items ≡ filter (λ a. list_all (λ b. not (compatible id_order a b && passes_all (F.passes by.now) (map expression_of filters.now) (merge a b))) (tied right.now.variables.items right.now.mappings.items a)) mappings.items) }
 {
     let mut kept = Vec::new(alloc);
     for a in mappings {
-        if fails_all(alloc, filters, by, &a, right)? {
+        if fails_all(alloc, filters, by, &a, right.near(&a))? {
             kept.push(a)?;
         }
     }
