@@ -26,9 +26,9 @@ fn push_joined(found: &mut Vec<Mapping>, a: &Mapping, right: &[Mapping]) -> Resu
     Ok(())
 }
 
-/// The merges of all compatible pairs, in any order and with repeats.
-pub fn joins(alloc: Global, left: &[Mapping], right: &[Mapping]) -> Result<Vec<Mapping>, AllocError>
-    ensures { IfOk result (λ found. found.items ≡ flat_map (λ a. filter_map (joined id_order a) right.now) left.now) }
+/// The merges of all compatible pairs that tie, in any order and with repeats.
+pub fn joins(alloc: Global, left: &[Mapping], right: &Lookup) -> Result<Vec<Mapping>, AllocError>
+    ensures { IfOk result (λ found. found.items ≡ flat_map (λ a. filter_map (joined id_order a) (tied right.now.variables.items right.now.mappings.items a)) left.now) }
 {
     let mut found = Vec::new(alloc);
     for a in left {

@@ -7,5 +7,7 @@ use Rattle.solution.proofs.solutions.Solutions.join.Goals as goal
 
 pub returns : goal.returns
 returns c =
-    c.from_mappings.ensures
-    ∙ ap (set_of (mapping_cmp id_order)) (c.in_ok-found.ensures ∙ joins_are c.in_ok-right.right.variables.items c.in_ok-right.right.mappings.items _ c.deref.result.now c.in_ok-right.ensures)
+    let e = c.in_ok-found.ensures in
+    let f = c.in_ok-right.ensures in
+    let h = c.right-2-1 in
+    ?

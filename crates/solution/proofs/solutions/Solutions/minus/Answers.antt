@@ -6,5 +6,10 @@ use Rattle.solution.proofs.Rising.{rises-filter}
 use Rattle.solution.proofs.solutions.Solutions.minus.Goals as goal
 
 pub invariant_of-result : goal.invariant_of-result
-invariant_of-result c =
-    rises-filter _ (λ a. list_all (λ b. not (compatible id_order a b) || not (shares a b)) c.deref.result.now) _ c.self.invariant c.in_ok-mappings.ensures
+invariant_of-result c = rises-filter _ _ _ c.self.invariant c.in_ok-mappings.ensures
+
+pub returns : goal.returns
+returns c =
+    let e = c.in_ok-mappings.ensures in
+    let f = c.in_ok-right.ensures in
+    ?
