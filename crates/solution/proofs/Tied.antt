@@ -8,10 +8,11 @@ use Rattle.std.specs.Ordering.{is_eq, is_lt, ordering_reverse, ordering_then, eq
 use Rattle.std.specs.declared.cmp.Ordering.{Ordering}
 use Rattle.std.specs.declared.cmp.Ordering.TheVariants.{Less, Equal, Greater}
 use Rattle.std.proofs.lemmas.Bool.{false≢true}
-use Rattle.std.proofs.Common.{◌≡◌, true, false, ◌&&◌, ◌||◌, zero, suc, List, [], ◌∷◌, ◌++◌, Option, Some, None, refl, sym, ap, ◌∙◌}
+use Rattle.std.proofs.Common.{◌≡◌, true, false, ◌&&◌, ◌||◌, zero, suc, List, [], ◌∷◌, ◌++◌, Option, Some, None, refl, sym, ap, ◌∙◌, subst}
 use Rattle.datasets.specs.declared.id.Id.{Id}
 use Rattle.datasets.specs.Id.{id_order, id_total, id_exact}
 use Rattle.meaning.specs.Mapping.{Mapping, mapping_cmp, term_for, agree, compatible, merge, shares, joined}
+use Rattle.meaning.specs.Operators.{minus, diff}
 use Rattle.solution.specs.MappingOrder.{mapping_total}
 use Rattle.solution.specs.Lookups.{terms_at, order_at, tied, is_bound_in, AreBound, HasAll}
 
@@ -156,26 +157,44 @@ module _ (a : Mapping Id) where
   fails_is p [] = refl
   fails_is p (x ∷ xs) = ap (λ z. not (compatible id_order a x && p x) && z) (fails_is p xs) ∙ fails_of p (compatible id_order a x) x (filter (compatible id_order a) xs)
 
-module _ (vs : List ℕ) (found right : List (Mapping Id)) where
-  pub joins_are : (left : List (Mapping Id)) → HasAll vs found left right
-      → flat_map (λ a. filter_map (joined id_order a) (tied vs found a)) left ≡ flat_map (λ a. filter_map (joined id_order a) right) left
-  joins_are [] h = refl
-  joins_are (a ∷ left) h =
-      (λ i. (joined_is a (tied vs found a) ∙ ap (map (merge a)) h.0 ∙ sym (joined_is a right)) i ++ joins_are left h.1 i)
+module _ (vs : List ℕ) (found : List (Mapping Id)) where
+  -- the same, of equal lists
+  pub has_all_is : (xs left ys right : List (Mapping Id)) → xs ≡ left → ys ≡ right → HasAll vs found xs ys → HasAll vs found left right
+  has_all_is xs left ys right e f h =
+      subst (λ zs. HasAll vs found left zs) f (subst (λ zs. HasAll vs found zs ys) e h)
 
-  pub apart_are : (left : List (Mapping Id)) → HasAll vs found left right
-      → filter (λ a. list_all (λ b. not (compatible id_order a b) || not (shares a b)) (tied vs found a)) left
-      ≡ filter (λ a. list_all (λ b. not (compatible id_order a b) || not (shares a b)) right) left
-  apart_are [] h = refl
-  apart_are (a ∷ left) h =
-      let p : Mapping Id → Bool = λ b. not (shares a b) in
-      (λ i. cond ((apart_is a p (tied vs found a) ∙ ap (list_all p) h.0 ∙ sym (apart_is a p right)) i) (a ∷ apart_are left h.1 i) (apart_are left h.1 i))
+  module _ (right : List (Mapping Id)) where
+    joins_each : (left : List (Mapping Id)) → HasAll vs found left right
+        → flat_map (λ a. filter_map (joined id_order a) (tied vs found a)) left ≡ flat_map (λ a. filter_map (joined id_order a) right) left
+    joins_each [] h = refl
+    joins_each (a ∷ left) h =
+        (λ i. (joined_is a (tied vs found a) ∙ ap (map (merge a)) h.0 ∙ sym (joined_is a right)) i ++ joins_each left h.1 i)
 
-  pub rest_are : (test : Mapping Id → Bool) (left : List (Mapping Id)) → HasAll vs found left right
-      → filter (λ a. list_all (λ b. not (compatible id_order a b && test (merge a b))) (tied vs found a)) left
-      ≡ filter (λ a. list_all (λ b. not (compatible id_order a b && test (merge a b))) right) left
-  rest_are test [] h = refl
-  rest_are test (a ∷ left) h =
-      let p : Mapping Id → Bool = λ b. test (merge a b) in
-      let q : Mapping Id → Bool = λ b. not (p b) in
-      (λ i. cond ((fails_is a p (tied vs found a) ∙ ap (list_all q) h.0 ∙ sym (fails_is a p right)) i) (a ∷ rest_are test left h.1 i) (rest_are test left h.1 i))
+    apart_each : (left : List (Mapping Id)) → HasAll vs found left right
+        → filter (λ a. list_all (λ b. not (compatible id_order a b) || not (shares a b)) (tied vs found a)) left
+        ≡ filter (λ a. list_all (λ b. not (compatible id_order a b) || not (shares a b)) right) left
+    apart_each [] h = refl
+    apart_each (a ∷ left) h =
+        let p : Mapping Id → Bool = λ b. not (shares a b) in
+        (λ i. cond ((apart_is a p (tied vs found a) ∙ ap (list_all p) h.0 ∙ sym (apart_is a p right)) i) (a ∷ apart_each left h.1 i) (apart_each left h.1 i))
+
+    rest_each : (test : Mapping Id → Bool) (left : List (Mapping Id)) → HasAll vs found left right
+        → filter (λ a. list_all (λ b. not (compatible id_order a b && test (merge a b))) (tied vs found a)) left
+        ≡ filter (λ a. list_all (λ b. not (compatible id_order a b && test (merge a b))) right) left
+    rest_each test [] h = refl
+    rest_each test (a ∷ left) h =
+        let p : Mapping Id → Bool = λ b. test (merge a b) in
+        let q : Mapping Id → Bool = λ b. not (p b) in
+        (λ i. cond ((fails_is a p (tied vs found a) ∙ ap (list_all q) h.0 ∙ sym (fails_is a p right)) i) (a ∷ rest_each test left h.1 i) (rest_each test left h.1 i))
+
+    module _ (left : List (Mapping Id)) (all : HasAll vs found left right) (xs : List (Mapping Id)) (e : xs ≡ left) where
+      pub joins_are : flat_map (λ a. filter_map (joined id_order a) (tied vs found a)) xs ≡ flat_map (λ a. filter_map (joined id_order a) right) left
+      joins_are = ap (flat_map (λ a. filter_map (joined id_order a) (tied vs found a))) e ∙ joins_each left all
+
+      pub apart_are : filter (λ a. list_all (λ b. not (compatible id_order a b) || not (shares a b)) (tied vs found a)) xs ≡ minus id_order left right
+      apart_are =
+          ap (filter (λ a. list_all (λ b. not (compatible id_order a b) || not (shares a b)) (tied vs found a))) e ∙ apart_each left all
+
+      pub rest_are : (test : Mapping Id → Bool) → filter (λ a. list_all (λ b. not (compatible id_order a b && test (merge a b))) (tied vs found a)) xs ≡ diff id_order test left right
+      rest_are test =
+          ap (filter (λ a. list_all (λ b. not (compatible id_order a b && test (merge a b))) (tied vs found a))) e ∙ rest_each test left all
