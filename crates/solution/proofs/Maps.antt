@@ -1,7 +1,6 @@
--- Lists that `filter_map` and `filter` give, one more element at a time.
-use Rattle.std.specs.Prelude.{Bool, true, false, cond, filter, filter_map}
+-- Lists that `filter_map` gives, one more element at a time.
+use Rattle.std.specs.Prelude.{filter_map}
 use Rattle.std.specs.List.{cons_option}
-use Rattle.std.proofs.lemmas.List.Elements.{filter-append}
 use Rattle.std.proofs.Common.{◌≡◌, List, [], ◌∷◌, ◌++◌, Option, Some, None, refl, sym, ap, ◌∙◌, append-nil, append_assoc}
 
 module _ {A B : Type 0} (f : A → Option B) where
@@ -23,14 +22,3 @@ module _ {A B : Type 0} (f : A → Option B) where
   pub mapped_same : (now base : List B) (xs : List A) (x : A) → f x ≡ None → now ≡ base ++ filter_map f xs → now ≡ base ++ filter_map f (xs ++ x ∷ [])
   mapped_same now base xs x e h =
       h ∙ ap (λ z. base ++ z) (sym (append-nil _) ∙ ap (λ o. filter_map f xs ++ cons_option o []) (sym e) ∙ sym (filter_map-append xs (x ∷ [])))
-
-module _ {A : Type 0} (p : A → Bool) where
-  -- a loop's step where the test passes
-  pub kept_more : (now : List A) (xs : List A) (x : A) → p x ≡ true → now ≡ filter p xs → now ++ x ∷ [] ≡ filter p (xs ++ x ∷ [])
-  kept_more now xs x e h =
-      ap (λ zs. zs ++ x ∷ []) h ∙ ap (λ b. filter p xs ++ cond b (x ∷ []) []) (sym e) ∙ sym (filter-append p xs (x ∷ []))
-
-  -- a loop's step where it fails
-  pub kept_same : (now : List A) (xs : List A) (x : A) → p x ≡ false → now ≡ filter p xs → now ≡ filter p (xs ++ x ∷ [])
-  kept_same now xs x e h =
-      h ∙ sym (append-nil _) ∙ ap (λ b. filter p xs ++ cond b (x ∷ []) []) (sym e) ∙ sym (filter-append p xs (x ∷ []))

@@ -1,5 +1,5 @@
 -- Binary search in sorted values finds what a filter keeps.
-use Rattle.std.specs.Prelude.{Bool, filter, not, slice_range}
+use Rattle.std.specs.Prelude.{Bool, filter, slice_range}
 use Rattle.std.proofs.Common.{◌≡◌, ◌<◌, ◌≤◌, ◌-◌, ℕ, suc, zero, true, false, cond, List, [], ◌∷◌, ◌⊎◌, inl, inr, refl, sym, ap, ◌∙◌, take, drop, length, get_or, arith}
 use Rattle.std.proofs.lemmas.Bool.{false≢true, cases_lt}
 use Rattle.std.proofs.Math.Seq.{take-nil, drop-nil}
@@ -7,7 +7,7 @@ use Rattle.std.proofs.lemmas.List.Sorted.{searchable_from_sorted, IsPartitionedB
 use Rattle.std.specs.List.{AllWithin}
 use Rattle.std.specs.List.Sorted.{IsSortedByKey, IsPartitionedBy, IsPartitionPoint}
 use Rattle.std.specs.Cmp.{IsTotalOrder}
-use Rattle.std.specs.Ordering.{is_eq, is_lt, is_gt, ordering_index}
+use Rattle.std.specs.Ordering.{is_eq, is_lt, is_le, ordering_index}
 use Rattle.std.specs.declared.cmp.Ordering.{Ordering}
 use Rattle.std.specs.declared.cmp.Ordering.TheVariants.{Less, Equal, Greater}
 use lib.Dec.{ltb}
@@ -17,7 +17,7 @@ less_is Less = refl
 less_is Equal = refl
 less_is Greater = refl
 
-up_to_is : (r : Ordering) → not (is_gt r) ≡ ltb (ordering_index r) 2
+up_to_is : (r : Ordering) → is_le r ≡ ltb (ordering_index r) 2
 up_to_is Less = refl
 up_to_is Equal = refl
 up_to_is Greater = refl
@@ -28,7 +28,7 @@ module _ {K : Type 0} {R : K → K → Ordering} (o : IsTotalOrder R) {E : Type 
       let parts = IsPartitionedBy-ltb (λ (e : E). ordering_index (R (key e) x)) xs 1 (searchable_from_sorted o key xs x s) in
       λ i j e le lt h. less_is _ ∙ parts i j e le lt (sym (less_is _) ∙ h)
 
-  pub up_to_partitioned : IsPartitionedBy (λ e. not (is_gt (R (key e) x))) xs
+  pub up_to_partitioned : IsPartitionedBy (λ e. is_le (R (key e) x)) xs
   up_to_partitioned =
       let parts = IsPartitionedBy-ltb (λ (e : E). ordering_index (R (key e) x)) xs 2 (searchable_from_sorted o key xs x s) in
       λ i j e le lt h. up_to_is _ ∙ parts i j e le lt (sym (up_to_is _) ∙ h)
@@ -67,12 +67,12 @@ module _ {E : Type 0} (t : E → Bool) where
       ∙ sym (leaves (t x) x (filter t xs) (filter t xs) (front 0 x (omega arith) (omega arith)) refl)
 
 -- the places found are in order: a value at the second and before the first would be both less and greater
-less_than_all : (r : Ordering) → is_lt r ≡ true → not (is_gt r) ≡ false → ⊥
+less_than_all : (r : Ordering) → is_lt r ≡ true → is_le r ≡ false → ⊥
 less_than_all Less e f = false≢true (sym f)
 less_than_all Equal e f = false≢true e
 less_than_all Greater e f = false≢true e
 
-equal_between : (r : Ordering) → is_lt r ≡ false → not (is_gt r) ≡ true → is_eq r ≡ true
+equal_between : (r : Ordering) → is_lt r ≡ false → is_le r ≡ true → is_eq r ≡ true
 equal_between Less e f = absurd (false≢true (sym e))
 equal_between Equal e f = refl
 equal_between Greater e f = absurd (false≢true f)
@@ -82,30 +82,22 @@ not_equal_before Less e = refl
 not_equal_before Equal e = absurd (false≢true e)
 not_equal_before Greater e = refl
 
-not_equal_past : (r : Ordering) → not (is_gt r) ≡ false → is_eq r ≡ false
+not_equal_past : (r : Ordering) → is_le r ≡ false → is_eq r ≡ false
 not_equal_past Less e = refl
 not_equal_past Equal e = absurd (false≢true (sym e))
 not_equal_past Greater e = refl
 
--- what two searches found, the first for the first place that isn't less, the second for the first that is greater
-pub record Between {E : Type 0} (answer : E → Ordering) (xs : List E) (low high : ℕ) : Type 0 where
-  pub within : high ≤ length xs
-  pub low_within : low ≤ length xs
-  pub low_point : IsPartitionPoint (λ e. is_lt (answer e) ≡ true) (λ e. is_lt (answer e) ≡ false) xs low
-  pub high_point : IsPartitionPoint (λ e. not (is_gt (answer e)) ≡ true) (λ e. not (is_gt (answer e)) ≡ false) xs high
-
 apart : (x y : ℕ) → (y < x → ⊥) → x ≤ y
 apart x y f = elim (cases_lt y x) [ inl h ↦ absurd (f h) | inr h ↦ h ]
 
-pub places_ordered : {E : Type 0} (answer : E → Ordering) (xs : List E) (low high : ℕ) → Between answer xs low high → low ≤ high
-places_ordered answer [] low high b = let h : low ≤ 0 = b.low_within in omega arith
-places_ordered answer (x ∷ xs) low high b =
-    let w : low ≤ length (x ∷ xs) = b.low_within in
-    apart low high (λ lt. less_than_all _ (b.low_point.0 high x (omega arith) lt) (b.high_point.1 high x (omega arith) (omega arith)))
+module _ {E : Type 0} (answer : E → Ordering) (xs : List E) (low high : ℕ) (starts : IsPartitionPoint (λ e. is_lt (answer e) ≡ true) (λ e. is_lt (answer e) ≡ false) xs low) (ends : IsPartitionPoint (λ e. is_le (answer e) ≡ true) (λ e. is_le (answer e) ≡ false) xs high) where
+  pub places_ordered : (d : E) → low ≤ length xs → low ≤ high
+  places_ordered d w =
+      apart low high (λ lt. less_than_all _ (starts.0 high d (omega arith) lt) (ends.1 high d (omega arith) (omega arith)))
 
-pub part_is : {E : Type 0} (answer : E → Ordering) (xs : List E) (low high : ℕ) → Between answer xs low high → slice_range xs low high ≡ filter (λ e. is_eq (answer e)) xs
-part_is answer xs low high b =
-    kept_middle (λ e. is_eq (answer e)) xs low high (places_ordered answer xs low high b) b.within
-    (λ k d l h. not_equal_before _ (b.low_point.0 k d l h))
-    (λ k d l h. equal_between _ (b.low_point.1 k d l (let w : high ≤ length xs = b.within in omega arith)) (b.high_point.0 k d (omega arith) h))
-    (λ k d l h. not_equal_past _ (b.high_point.1 k d l h))
+  pub part_is : low ≤ high → high ≤ length xs → slice_range xs low high ≡ filter (λ e. is_eq (answer e)) xs
+  part_is le w =
+      kept_middle (λ e. is_eq (answer e)) xs low high le w
+      (λ k d l h. not_equal_before _ (starts.0 k d l h))
+      (λ k d l h. equal_between _ (starts.1 k d l (omega arith)) (ends.0 k d (omega arith) h))
+      (λ k d l h. not_equal_past _ (ends.1 k d l h))

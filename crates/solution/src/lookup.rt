@@ -1,8 +1,8 @@
 //! Mappings, found by what they have for the variables that all of them bind.
-ghost use Rattle.std.specs.Prelude.{◌≡◌, ◌≤◌, ◌&&◌, not, length, slice_range, IfOk};
-ghost use Rattle.std.specs.Ordering.{is_lt, is_gt};
+ghost use Rattle.std.specs.Prelude.{◌≡◌, ◌≤◌, ◌&&◌, length, slice_range, IfOk};
+ghost use Rattle.std.specs.Ordering.{is_lt, is_le};
 ghost use Rattle.std.specs.List.Sorted.{IsSorted, IsStable};
-ghost use Rattle.solution.specs.Lookups.{order_at as the_order_at, tied, is_bound_in as the_is_bound_in, AreBound, HasAll};
+ghost use Rattle.solution.specs.Lookups.{order_at as the_order_at, tied, is_bound_in as the_is_bound_in, IsStart, IsEnd, AreBound, HasAll};
 
 use crate::mapping::Mapping;
 use std::alloc::{AllocError, Global};
@@ -28,9 +28,9 @@ fn is_before(variables: &[usize], a: &Mapping, b: &Mapping) -> bool
 }
 
 fn is_up_to(variables: &[usize], a: &Mapping, b: &Mapping) -> bool
-    ensures { result ≡ not (is_gt (the_order_at variables.now a.now b.now)) }
+    ensures { result ≡ is_le (the_order_at variables.now a.now b.now) }
 {
-    !order_at(variables, a, b).is_gt()
+    order_at(variables, a, b).is_le()
 }
 
 // Whether a variable is bound in each of these.
@@ -76,13 +76,31 @@ fn between(mappings: &[Mapping], first: usize, past: usize) -> &[Mapping]
     &mappings[first..past]
 }
 
+// Among mappings that are sorted by what they have for some variables, where those begin that aren't before one.
+fn start_of(variables: &[usize], sorted: &[Mapping], a: &Mapping) -> usize
+    requires { IsSorted (the_order_at variables.now) sorted.now }
+    ensures within { result ≤ length sorted.now }
+    ensures start { IsStart variables.now sorted.now a.now result }
+{
+    sorted.partition_point(|b| is_before(variables, b, a))
+}
+
+// The same, where those begin that are past it.
+fn end_of(variables: &[usize], sorted: &[Mapping], a: &Mapping) -> usize
+    requires { IsSorted (the_order_at variables.now) sorted.now }
+    ensures within { result ≤ length sorted.now }
+    ensures end { IsEnd variables.now sorted.now a.now result }
+{
+    sorted.partition_point(|b| is_up_to(variables, b, a))
+}
+
 // Of mappings that are sorted by what they have for some variables, those that have what one has.
 fn tied_in<'a>(variables: &[usize], sorted: &'a [Mapping], a: &Mapping) -> &'a [Mapping]
     requires { IsSorted (the_order_at variables.now) sorted.now }
     ensures { result.now ≡ tied variables.now sorted.now a.now }
 {
-    let first = sorted.partition_point(|b| is_before(variables, b, a));
-    let past = sorted.partition_point(|b| is_up_to(variables, b, a));
+    let first = start_of(variables, sorted, a);
+    let past = end_of(variables, sorted, a);
     between(sorted, first, past)
 }
 

@@ -14,11 +14,12 @@ use algebra::{Expression, Place};
 use datasets::Id;
 use std::alloc::{AllocError, Global};
 
-// Adds the merges of a mapping with those that it is compatible with.
-fn push_joined(found: &mut Vec<Mapping>, a: &Mapping, right: &[Mapping]) -> Result<(), AllocError>
-    ensures { OnOk result (found.new.items ≡ found.old.items ++ filter_map (joined id_order a.now) right.now) }
+// Adds the merges of a mapping with those that it ties and is compatible with.
+fn push_joined(found: &mut Vec<Mapping>, a: &Mapping, right: &Lookup) -> Result<(), AllocError>
+    ensures { OnOk result (found.new.items ≡ found.old.items ++ filter_map (joined id_order a.now) (tied right.now.variables.items right.now.mappings.items a.now)) }
 {
-    for b in right {
+    let near = right.near(a);
+    for b in near {
         if a.is_compatible(b) {
             found.push(a.merge(b)?)?;
         }
@@ -32,7 +33,7 @@ pub fn joins(alloc: Global, left: &[Mapping], right: &Lookup) -> Result<Vec<Mapp
 {
     let mut found = Vec::new(alloc);
     for a in left {
-        push_joined(&mut found, a, right.near(a))?;
+        push_joined(&mut found, a, right)?;
     }
     Ok(found)
 }
@@ -54,11 +55,13 @@ pub fn push_fitted(
     Ok(())
 }
 
-// Whether each on the right is incompatible with a mapping, or shares no variable with it.
-fn is_apart(a: &Mapping, right: &[Mapping]) -> bool
-    ensures { result ≡ list_all (λ b. not (compatible id_order a.now b) || not (shares a.now b)) right.now }
+// Whether each on the right that ties with a mapping is incompatible with it, or shares no variable with it.
+fn is_apart(a: &Mapping, right: &Lookup) -> bool
+    ensures { result ≡ list_all (λ b. not (compatible id_order a.now b) || not (shares a.now b)) (tied right.now.variables.items right.now.mappings.items a.now) }
 {
-    right.iter().all(|b| !a.is_compatible(b) || !a.shares(b))
+    let near = right.near(a);
+    near.iter()
+        .all(|b| !a.is_compatible(b) || !a.shares(b))
 }
 
 /// Those that each on the right is incompatible with or shares no variable with.
@@ -71,7 +74,7 @@ pub fn apart_from(
 {
     let mut kept = Vec::new(alloc);
     for a in mappings {
-        if is_apart(&a, right.near(&a)) {
+        if is_apart(&a, right) {
             kept.push(a)?;
         }
     }
@@ -95,17 +98,18 @@ fn passes_each<F: Filters>(
     Ok(true)
 }
 
-// Whether no merge of a mapping with one that it is compatible with passes the filters.
+// Whether no merge of a mapping with one that it ties and is compatible with passes the filters.
 fn fails_all<F: Filters>(
     alloc: Global,
     filters: &[Expression<Id>],
     by: &F,
     a: &Mapping,
-    right: &[Mapping],
+    right: &Lookup,
 ) -> Result<bool, AllocError>
-    ensures { IfOk result (λ so. so ≡ list_all (λ b. not (compatible id_order a.now b && passes_all (F.passes by.now) (map expression_of filters.now) (merge a.now b))) right.now) }
+    ensures { IfOk result (λ so. so ≡ list_all (λ b. not (compatible id_order a.now b && passes_all (F.passes by.now) (map expression_of filters.now) (merge a.now b))) (tied right.now.variables.items right.now.mappings.items a.now)) }
 {
-    for b in right {
+    let near = right.near(a);
+    for b in near {
         if a.is_compatible(b) && passes_each(alloc, filters, by, &a.merge(b)?)? {
             return Ok(false);
         }
@@ -143,7 +147,7 @@ pub fn difference<F: Filters>(
 {
     let mut kept = Vec::new(alloc);
     for a in mappings {
-        if fails_all(alloc, filters, by, &a, right.near(&a))? {
+        if fails_all(alloc, filters, by, &a, right)? {
             kept.push(a)?;
         }
     }
