@@ -1,17 +1,17 @@
 -- Mappings that have the same terms for variables that they bind.
-use Rattle.std.specs.Prelude.{ℕ, Bool, not, is_some, filter, map, zip, filter_map, cond}
+use Rattle.std.specs.Prelude.{ℕ, Bool, not, is_some, filter, map, filter_map, cond}
 use Rattle.std.specs.List.{AllByRecursion, list_all, flat_map, cons_option}
 use Rattle.std.specs.List.Sorted.{IsStable}
 use Rattle.std.specs.Cmp.{IsTotalOrder, on_total, Equal-is}
 use Rattle.std.specs.Option.{option_cmp}
-use Rattle.std.specs.Ordering.{is_eq, is_lt, ordering_reverse, ordering_then, eq_by_cmp}
+use Rattle.std.specs.Ordering.{is_eq, is_lt, ordering_reverse, ordering_then}
 use Rattle.std.specs.declared.cmp.Ordering.{Ordering}
 use Rattle.std.specs.declared.cmp.Ordering.TheVariants.{Less, Equal, Greater}
 use Rattle.std.proofs.lemmas.Bool.{false≢true}
 use Rattle.std.proofs.Common.{◌≡◌, true, false, ◌&&◌, ◌||◌, zero, suc, List, [], ◌∷◌, ◌++◌, Option, Some, None, refl, sym, ap, ◌∙◌, subst}
 use Rattle.datasets.specs.declared.id.Id.{Id}
-use Rattle.datasets.specs.Id.{id_order, id_total, id_exact}
-use Rattle.meaning.specs.Mapping.{Mapping, mapping_cmp, term_for, agree, compatible, merge, shares, joined}
+use Rattle.datasets.specs.Id.{id_order, id_total}
+use Rattle.meaning.specs.Mapping.{Mapping, term_for, agree, compatible, merge, shares, joined}
 use Rattle.meaning.specs.Operators.{minus, diff}
 use Rattle.solution.specs.MappingOrder.{mapping_total}
 use Rattle.solution.specs.Lookups.{terms_at, order_at, tied, is_bound_in, AreBound, HasAll}

@@ -105,10 +105,7 @@ fn tied_in<'a>(variables: &[usize], sorted: &'a [Mapping], a: &Mapping) -> &'a [
 }
 
 // These mappings, sorted by what they have for some variables. Those that tie keep their order.
-fn sorted_at(
-    variables: &[usize],
-    mut mappings: Vec<Mapping>,
-) -> Result<Vec<Mapping>, AllocError>
+fn sorted_at(variables: &[usize], mut mappings: Vec<Mapping>) -> Result<Vec<Mapping>, AllocError>
     ensures sorted { IfOk result (λ sorted. IsSorted (the_order_at variables.now) sorted.items) }
     ensures stable { IfOk result (λ sorted. IsStable (the_order_at variables.now) mappings.items sorted.items) }
 {
@@ -126,11 +123,7 @@ pub struct Lookup {
 
 impl Lookup {
     /// The mappings on the right, to be found by the variables that all on both sides bind.
-    pub fn new(
-        alloc: Global,
-        left: &[Mapping],
-        right: Vec<Mapping>,
-    ) -> Result<Lookup, AllocError>
+    pub fn new(alloc: Global, left: &[Mapping], right: Vec<Mapping>) -> Result<Lookup, AllocError>
         ensures { IfOk result (λ lookup. HasAll lookup.variables.items lookup.mappings.items left.now right.items) }
     {
         let variables = bound_in_all(alloc, left, &right)?;

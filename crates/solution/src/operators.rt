@@ -60,8 +60,7 @@ fn is_apart(a: &Mapping, right: &Lookup) -> bool
     ensures { result ≡ list_all (λ b. not (compatible id_order a.now b) || not (shares a.now b)) (tied right.now.variables.items right.now.mappings.items a.now) }
 {
     let near = right.near(a);
-    near.iter()
-        .all(|b| !a.is_compatible(b) || !a.shares(b))
+    near.iter().all(|b| !a.is_compatible(b) || !a.shares(b))
 }
 
 /// Those that each on the right is incompatible with or shares no variable with.

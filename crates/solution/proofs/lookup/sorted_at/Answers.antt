@@ -11,9 +11,9 @@ use Rattle.solution.proofs.lookup.sorted_at.Goals as goal
 pub returns-clause-sorted : goal.returns-clause-sorted
 returns-clause-sorted c =
     c.in_ok-sort_by.ensures.sorted (λ (x y : Mapping Id). is_lt (order_at c.args.variables.now x y)) (ranks_by mapping_total (terms_at c.args.variables.now))
-    (always_returns_same _ _ _ (λ a r f' k. search rules))
+    (search (rules, always_returns_same))
 
 pub returns-clause-stable : goal.returns-clause-stable
 returns-clause-stable c =
     c.in_ok-sort_by.ensures.stable (λ (x y : Mapping Id). is_lt (order_at c.args.variables.now x y)) (ranks_by mapping_total (terms_at c.args.variables.now))
-    (always_returns_same _ _ _ (λ a r f' k. search rules))
+    (search (rules, always_returns_same))

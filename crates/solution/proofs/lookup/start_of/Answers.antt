@@ -13,5 +13,5 @@ returns-clause-start c =
     let variables = c.args.variables.now in
     let a = c.args.a.now in
     let sorted = c.args.sorted.now in
-    c.partition_point.ensures.partitioned (λ (b : Mapping Id). is_lt (order_at variables b a)) (always_returns_same _ _ _ (λ x r f' k. search rules))
+    c.partition_point.ensures.partitioned (λ (b : Mapping Id). is_lt (order_at variables b a)) (search (rules, always_returns_same))
     (less_partitioned mapping_total (terms_at variables) (terms_at variables a) sorted c.requires)

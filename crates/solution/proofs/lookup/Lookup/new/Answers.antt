@@ -1,8 +1,7 @@
-use Rattle.std.proofs.Common.{subst, List, ap, sym}
-use Rattle.std.specs.List.Sorted.{IsSorted}
+use Rattle.std.proofs.Common.{subst, List}
 use Rattle.datasets.specs.declared.id.Id.{Id}
 use Rattle.meaning.specs.Mapping.{Mapping}
-use Rattle.solution.specs.Lookups.{order_at, AreBound}
+use Rattle.solution.specs.Lookups.{AreBound}
 use Rattle.solution.proofs.Tied.{has_all}
 use Rattle.solution.proofs.lookup.Lookup.new.Goals as goal
 
