@@ -5,6 +5,7 @@
 
 pub mod among;
 pub mod filters;
+mod lookup;
 pub mod mapping;
 mod operators;
 pub mod solutions;

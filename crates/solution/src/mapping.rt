@@ -1,5 +1,5 @@
 //! Solution mappings.
-ghost use Rattle.std.specs.Prelude.{◌≡◌, IfOk};
+ghost use Rattle.std.specs.Prelude.{◌≡◌, length, IfOk};
 ghost use Rattle.datasets.specs.Id.{id_order};
 ghost use Rattle.meaning.specs.Mapping.{empty_mapping, term_for, fitted, agree, compatible, shares, merge};
 
@@ -117,7 +117,21 @@ impl Mapping {
     pub fn at(&self, variable: u32) -> Option<Id>
         ensures { result ≡ term_for self.now variable }
     {
-        self.places.get(variable as usize).copied().flatten()
+        self.place(variable as usize)
+    }
+
+    // The same, where the variable is an index.
+    pub(crate) fn place(&self, variable: usize) -> Option<Id>
+        ensures { result ≡ term_for self.now variable }
+    {
+        self.places.get(variable).copied().flatten()
+    }
+
+    // How many variables there are.
+    pub(crate) fn width(&self) -> usize
+        ensures { result ≡ length self.now }
+    {
+        self.places.len()
     }
 
     /// The mapping under which a place of a pattern is this term, if there is one: a variable that is unbound comes to be bound to it.

@@ -4,20 +4,22 @@ ghost use Rattle.std.specs.List.{list_all, flat_map};
 ghost use Rattle.algebra.specs.Expressions.{expression_of};
 ghost use Rattle.datasets.specs.Id.{id_order};
 ghost use Rattle.meaning.specs.Mapping.{joined, compatible, merge, shares, fitted};
-ghost use Rattle.meaning.specs.Operators.{diff, minus};
 ghost use Rattle.meaning.specs.Solutions.{passes_all};
+ghost use Rattle.solution.specs.Lookups.{tied};
 
 use crate::filters::Filters;
+use crate::lookup::Lookup;
 use crate::mapping::Mapping;
 use algebra::{Expression, Place};
 use datasets::Id;
 use std::alloc::{AllocError, Global};
 
-// Adds the merges of a mapping with those that it is compatible with.
-fn push_joined(found: &mut Vec<Mapping>, a: &Mapping, right: &[Mapping]) -> Result<(), AllocError>
-    ensures { OnOk result (found.new.items ≡ found.old.items ++ filter_map (joined id_order a.now) right.now) }
+// Adds the merges of a mapping with those that it ties and is compatible with.
+fn push_joined(found: &mut Vec<Mapping>, a: &Mapping, right: &Lookup) -> Result<(), AllocError>
+    ensures { OnOk result (found.new.items ≡ found.old.items ++ filter_map (joined id_order a.now) (tied right.now.variables.items right.now.mappings.items a.now)) }
 {
-    for b in right {
+    let near = right.near(a);
+    for b in near {
         if a.is_compatible(b) {
             found.push(a.merge(b)?)?;
         }
@@ -25,9 +27,9 @@ fn push_joined(found: &mut Vec<Mapping>, a: &Mapping, right: &[Mapping]) -> Resu
     Ok(())
 }
 
-/// The merges of all compatible pairs, in any order and with repeats.
-pub fn joins(alloc: Global, left: &[Mapping], right: &[Mapping]) -> Result<Vec<Mapping>, AllocError>
-    ensures { IfOk result (λ found. found.items ≡ flat_map (λ a. filter_map (joined id_order a) right.now) left.now) }
+/// The merges of all compatible pairs that tie, in any order and with repeats.
+pub fn joins(alloc: Global, left: &[Mapping], right: &Lookup) -> Result<Vec<Mapping>, AllocError>
+    ensures { IfOk result (λ found. found.items ≡ flat_map (λ a. filter_map (joined id_order a) (tied right.now.variables.items right.now.mappings.items a)) left.now) }
 {
     let mut found = Vec::new(alloc);
     for a in left {
@@ -53,20 +55,21 @@ pub fn push_fitted(
     Ok(())
 }
 
-// Whether each on the right is incompatible with a mapping, or shares no variable with it.
-fn is_apart(a: &Mapping, right: &[Mapping]) -> bool
-    ensures { result ≡ list_all (λ b. not (compatible id_order a.now b) || not (shares a.now b)) right.now }
+// Whether each on the right that ties with a mapping is incompatible with it, or shares no variable with it.
+fn is_apart(a: &Mapping, right: &Lookup) -> bool
+    ensures { result ≡ list_all (λ b. not (compatible id_order a.now b) || not (shares a.now b)) (tied right.now.variables.items right.now.mappings.items a.now) }
 {
-    right.iter().all(|b| !a.is_compatible(b) || !a.shares(b))
+    let near = right.near(a);
+    near.iter().all(|b| !a.is_compatible(b) || !a.shares(b))
 }
 
 /// Those that each on the right is incompatible with or shares no variable with.
 pub fn apart_from(
     alloc: Global,
     mappings: Vec<Mapping>,
-    right: &[Mapping],
+    right: &Lookup,
 ) -> Result<Vec<Mapping>, AllocError>
-    ensures { IfOk result (λ kept. kept.items ≡ minus id_order mappings.items right.now) }
+    ensures { IfOk result (λ kept. kept.items ≡ filter (λ a. list_all (λ b. not (compatible id_order a b) || not (shares a b)) (tied right.now.variables.items right.now.mappings.items a)) mappings.items) }
 {
     let mut kept = Vec::new(alloc);
     for a in mappings {
@@ -94,17 +97,18 @@ fn passes_each<F: Filters>(
     Ok(true)
 }
 
-// Whether no merge of a mapping with one that it is compatible with passes the filters.
+// Whether no merge of a mapping with one that it ties and is compatible with passes the filters.
 fn fails_all<F: Filters>(
     alloc: Global,
     filters: &[Expression<Id>],
     by: &F,
     a: &Mapping,
-    right: &[Mapping],
+    right: &Lookup,
 ) -> Result<bool, AllocError>
-    ensures { IfOk result (λ so. so ≡ list_all (λ b. not (compatible id_order a.now b && passes_all (F.passes by.now) (map expression_of filters.now) (merge a.now b))) right.now) }
+    ensures { IfOk result (λ so. so ≡ list_all (λ b. not (compatible id_order a.now b && passes_all (F.passes by.now) (map expression_of filters.now) (merge a.now b))) (tied right.now.variables.items right.now.mappings.items a.now)) }
 {
-    for b in right {
+    let near = right.near(a);
+    for b in near {
         if a.is_compatible(b) && passes_each(alloc, filters, by, &a.merge(b)?)? {
             return Ok(false);
         }
@@ -136,9 +140,9 @@ pub fn difference<F: Filters>(
     filters: &[Expression<Id>],
     by: &F,
     mappings: Vec<Mapping>,
-    right: &[Mapping],
+    right: &Lookup,
 ) -> Result<Vec<Mapping>, AllocError>
-    ensures { IfOk result (λ kept. kept.items ≡ diff id_order (passes_all (F.passes by.now) (map expression_of filters.now)) mappings.items right.now) }
+    ensures { IfOk result (λ kept. kept.items ≡ filter (λ a. list_all (λ b. not (compatible id_order a b && passes_all (F.passes by.now) (map expression_of filters.now) (merge a b))) (tied right.now.variables.items right.now.mappings.items a)) mappings.items) }
 {
     let mut kept = Vec::new(alloc);
     for a in mappings {

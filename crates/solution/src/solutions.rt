@@ -9,6 +9,7 @@ ghost use Rattle.sets.specs.Sets.{has, set_of as the_set_of};
 
 use crate::among::solutions_among;
 use crate::filters::Filters;
+use crate::lookup::Lookup;
 use crate::mapping::Mapping;
 use crate::operators::{apart_from, difference, joins, passing, push_fitted};
 use algebra::{Expression, Place, TriplePattern};
@@ -117,7 +118,8 @@ impl Solutions {
     pub fn join(&self, alloc: Global, right: Solutions) -> Result<Solutions, AllocError>
         ensures { IfOk result (λ found. found ≡ operators.join id_order self.now right) }
     {
-        let found = joins(alloc, &self.mappings, &right.mappings)?;
+        let right = Lookup::new(alloc, &self.mappings, right.mappings)?;
+        let found = joins(alloc, &self.mappings, &right)?;
         Ok(Solutions::from_mappings(found))
     }
 
@@ -131,9 +133,10 @@ impl Solutions {
     ) -> Result<Solutions, AllocError>
         ensures { IfOk result (λ found. found ≡ operators.left_join id_order (passes_all (F.passes by.now) (map expression_of filters.now)) self right) }
     {
-        let merges = Solutions::from_mappings(joins(alloc, &self.mappings, &right.mappings)?);
+        let right = Lookup::new(alloc, &self.mappings, right.mappings)?;
+        let merges = Solutions::from_mappings(joins(alloc, &self.mappings, &right)?);
         let found = merges.filter(alloc, filters, by)?;
-        let rest = difference(alloc, filters, by, self.mappings, &right.mappings)?;
+        let rest = difference(alloc, filters, by, self.mappings, &right)?;
         found.union_with(rest)
     }
 
@@ -157,7 +160,8 @@ impl Solutions {
     pub fn minus(self, alloc: Global, right: Solutions) -> Result<Solutions, AllocError>
         ensures { IfOk result (λ found. found ≡ operators.minus id_order self right) }
     {
-        let mappings = apart_from(alloc, self.mappings, &right.mappings)?;
+        let right = Lookup::new(alloc, &self.mappings, right.mappings)?;
+        let mappings = apart_from(alloc, self.mappings, &right)?;
         Ok(Solutions { mappings })
     }
 

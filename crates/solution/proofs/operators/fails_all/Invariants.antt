@@ -11,4 +11,4 @@ use Rattle.solution.proofs.operators.fails_all.Given as goal
 abbrev pub invariant-loop-b : goal.invariant-loop-b
 invariant-loop-b g l =
     let test = λ (b : Mapping Id). not (compatible id_order l.a b && passes_all (g.F.Filters.passes l.by) (map expression_of l.filters) (merge l.a b)) in
-    list_all test (drop l.b-index l.right) ≡ list_all test l.right
+    list_all test (drop l.b-index l.near) ≡ list_all test l.near

@@ -6,5 +6,5 @@ use Rattle.solution.proofs.operators.push_joined.Given as goal
 -- the merges so far and those with what is left are all
 abbrev pub invariant-loop-b : goal.invariant-loop-b
 invariant-loop-b l =
-    l.found.items ++ filter_map (joined id_order l.a) (drop l.b-index l.right)
-    ≡ l.fn.found.items ++ filter_map (joined id_order l.a) l.right
+    l.found.items ++ filter_map (joined id_order l.a) (drop l.b-index l.near)
+    ≡ l.fn.found.items ++ filter_map (joined id_order l.a) l.near
