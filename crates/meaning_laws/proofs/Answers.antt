@@ -16,8 +16,8 @@ use Rattle.meaning.specs.Effect.{is_too_many, replaced, effect_of}
 use Rattle.meaning.specs.Template.{instances}
 use Rattle.meaning.specs.Solutions.{solutions}
 use Rattle.meaning.specs.Run.{Request, Failure, then_next, performed, settled, answer_of, run_from, run_of_first}
-use Rattle.meaning.specs.declared.update.Operation.{Operation}
-use Rattle.meaning.specs.declared.update.Operation.TheVariants as operation
+use Rattle.algebra.specs.declared.update.Operation.{Operation}
+use Rattle.algebra.specs.declared.update.Operation.TheVariants as operation
 use Rattle.meaning.specs.declared.reply.Cause.{Cause}
 use Rattle.meaning.specs.declared.reply.Cause.TheVariants.{TooManySolutions}
 use Rattle.meaning_laws.specs.Answers.{IsExactOrder, with_next, AnswersWithDatasets, GoesOnByOne}

@@ -17,8 +17,8 @@ use Rattle.meaning.specs.Template.{term_at, in_some, graph_at, is_legal, legal_q
 use Rattle.meaning.specs.Effect.{is_too_many, replaced, modified, effect_of}
 use Rattle.meaning.specs.Run.{Request, Failure, then_next, performed, count_new, settled, answer_of, run_from}
 use Rattle.algebra.specs.declared.update.Modify.{Modify}
-use Rattle.meaning.specs.declared.update.Operation.{Operation}
-use Rattle.meaning.specs.declared.update.Operation.TheVariants as operation
+use Rattle.algebra.specs.declared.update.Operation.{Operation}
+use Rattle.algebra.specs.declared.update.Operation.TheVariants as operation
 use Rattle.meaning.specs.declared.reply.Cause.{Cause}
 use Rattle.meaning.specs.declared.reply.Cause.TheVariants.{TooManySolutions}
 use Rattle.meaning.specs.declared.reply.Reply.{Reply}

@@ -16,8 +16,8 @@ use Rattle.algebra.specs.Expressions as expression
 use Rattle.algebra.specs.Expressions.{Expression}
 use Rattle.algebra.specs.Plans.{Plan, Basic, Join, LeftJoin, Union, Minus, Filter, InGraph}
 use Rattle.meaning.specs.Mapping.{Mapping}
-use Rattle.meaning.specs.declared.update.Operation.{Operation}
-use Rattle.meaning.specs.declared.update.Operation.TheVariants.{Modify}
+use Rattle.algebra.specs.declared.update.Operation.{Operation}
+use Rattle.algebra.specs.declared.update.Operation.TheVariants.{Modify}
 
 module _ {A B : Type 0} (f : A → B) where
   abbrev pub renamed_quad : Quad A → Quad B

@@ -6,7 +6,7 @@ use Rattle.std.specs.Option.{option_map}
 use Rattle.std.specs.declared.alloc.AllocError.{AllocError}
 use Rattle.terms.specs.declared.term.Term.{Term}
 use Rattle.algebra.specs.declared.update.Operation.{Operation}
-use Rattle.meaning.specs.declared.update.Operation.{Operation as RunOperation}
+use Rattle.algebra.specs.declared.update.Operation.{Operation as RunOperation}
 use Rattle.meaning.specs.declared.reply.Refusal.{Refusal}
 use Rattle.meaning.specs.declared.reply.Refusal.TheVariants as refusal
 use Rattle.syntax_trees.specs.declared.tree.Step.{Step}

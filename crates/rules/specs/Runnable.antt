@@ -4,8 +4,8 @@ use Rattle.std.specs.Option.{option_map}
 use Rattle.terms.specs.declared.term.Term.{Term}
 use Rattle.meaning.specs.declared.reply.Refusal.{Refusal}
 use Rattle.meaning.specs.declared.reply.Refusal.TheVariants as refusal
-use Rattle.meaning.specs.declared.update.Operation.{Operation as RunOperation}
-use Rattle.meaning.specs.declared.update.Operation.TheVariants as run
+use Rattle.algebra.specs.declared.update.Operation.{Operation as RunOperation}
+use Rattle.algebra.specs.declared.update.Operation.TheVariants as run
 use Rattle.algebra.specs.declared.update.Operation.{Operation}
 use Rattle.algebra.specs.declared.update.Operation.TheVariants as operation
 use Rattle.rules.specs.Refusal.{IsChecked}

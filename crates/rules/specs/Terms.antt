@@ -12,8 +12,8 @@ use Rattle.algebra.specs.declared.pattern.TriplePattern.{TriplePattern}
 use Rattle.algebra.specs.Expressions as expression
 use Rattle.algebra.specs.Expressions.{Expression}
 use Rattle.algebra.specs.Plans.{Plan, Basic, Join, LeftJoin, Union, Minus, Filter, InGraph}
-use Rattle.meaning.specs.declared.update.Operation.{Operation}
-use Rattle.meaning.specs.declared.update.Operation.TheVariants as update
+use Rattle.algebra.specs.declared.update.Operation.{Operation}
+use Rattle.algebra.specs.declared.update.Operation.TheVariants as update
 use Rattle.meaning.specs.declared.reply.Refusal.{Refusal}
 
 abbrev pub terms_of_slot : Slot Term → List Term

@@ -20,7 +20,7 @@ impl Model for Block {
     ghost use Rattle.std.specs.Prelude.{List, Result};
     ghost use Rattle.algebra.specs.Codes.{plan_code};
     ghost use Rattle.terms.specs.declared.term.Term.{Term};
-    ghost use Rattle.meaning.specs.declared.update.Operation.{Operation};
+    ghost use Rattle.algebra.specs.declared.update.Operation.{Operation};
     ghost use Rattle.meaning.specs.declared.reply.Refusal.{Refusal};
 
     ghost Value = { List (Result (List (Operation Term)) Refusal) };

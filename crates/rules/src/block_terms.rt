@@ -8,8 +8,7 @@ ghost use Rattle.rules.specs.Parts.{terms_of_link, terms_of_part};
 ghost use Rattle.rules.specs.Terms.{terms_of_slot, terms_of_graph, terms_of_quad, terms_of_place, terms_of_pattern, terms_of_expression, terms_of_plan, terms_of_operation, terms_of_request, terms_of};
 
 use crate::running::Taken;
-use algebra::{Expression, Link, Place, Plan, QuadTemplate, Slot, TriplePattern};
-use meaning::Operation;
+use algebra::{Expression, Link, Operation, Place, Plan, QuadTemplate, Slot, TriplePattern};
 use std::alloc::{AllocError, Global};
 use terms::Term;
 

@@ -2,7 +2,7 @@
 ghost use Rattle.std.specs.Prelude.{◌≡◌, ◌≤◌, List, ℕ, Result, IfOk, length};
 ghost use Rattle.terms.specs.declared.term.Term.{Term};
 ghost use Rattle.algebra.specs.declared.update.Operation.{Operation};
-ghost use Rattle.meaning.specs.declared.update.Operation.{Operation as RunOperation};
+ghost use Rattle.algebra.specs.declared.update.Operation.{Operation as RunOperation};
 ghost use Rattle.meaning.specs.declared.reply.Refusal.{Refusal};
 ghost use Rattle.rules.specs.Refusal.{IsChecked};
 ghost use Rattle.rules.specs.Runnable.{IsTaken};

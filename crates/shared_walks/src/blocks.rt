@@ -2,12 +2,11 @@
 ghost use Rattle.std.specs.Prelude.{IsTrue};
 ghost use Rattle.update.specs.Asked.{IsShort};
 
-use algebra::{QuadTemplate, Slot};
+use algebra::{Operation, QuadTemplate, Slot};
 use book::Request;
 use datasets::Id;
 use dict::Dict;
 use iris::Iri;
-use meaning::Operation;
 use sets::Items;
 use std::alloc::{AllocError, Global};
 use terms::Term;

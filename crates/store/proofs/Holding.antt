@@ -22,8 +22,8 @@ use Rattle.algebra.specs.declared.pattern.TriplePattern.{TriplePattern}
 use Rattle.algebra.specs.Expressions as expression
 use Rattle.algebra.specs.Expressions.{Expression}
 use Rattle.algebra.specs.Plans.{Plan, Basic, Join, LeftJoin, Union, Minus, Filter, InGraph}
-use Rattle.meaning.specs.declared.update.Operation.{Operation}
-use Rattle.meaning.specs.declared.update.Operation.TheVariants as operation
+use Rattle.algebra.specs.declared.update.Operation.{Operation}
+use Rattle.algebra.specs.declared.update.Operation.TheVariants as operation
 use Rattle.meaning_laws.specs.Renaming.{option_known, slot_known, graph_known, template_known, place_known, pattern_known, expression_known, plan_known, operation_known, request_known}
 use Rattle.rules.specs.Terms.{terms_of_slot, terms_of_graph, terms_of_quad as terms_of_template, terms_of_place, terms_of_pattern, terms_of_expression, terms_of_plan, terms_of_operation, terms_of_request, terms_of}
 use Rattle.store.specs.Held.{is_held}

@@ -8,9 +8,9 @@ ghost use Rattle.store.specs.Held.{is_held};
 
 use crate::numbering::number_term;
 use crate::plans::number_plan;
-use algebra::{Modify, Pattern, QuadTemplate, Slot};
+use algebra::{Modify, Operation, Pattern, QuadTemplate, Slot};
 use dict::{Dict, Id};
-use meaning::{Operation, Refusal};
+use meaning::Refusal;
 use rules::Taken;
 use sets::Items;
 use std::alloc::{AllocError, Global};

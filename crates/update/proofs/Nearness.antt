@@ -18,8 +18,8 @@ use Rattle.meaning.specs.Mapping.{Mapping}
 use Rattle.meaning.specs.Near.{is_written, is_graph_written, is_near_quad, is_for_plan, is_near, is_near_request}
 use Rattle.meaning.specs.Template.{term_at, graph_at, is_legal, legal_quad, instance_of, instances_from, instances}
 use Rattle.algebra.specs.declared.update.Modify.{Modify}
-use Rattle.meaning.specs.declared.update.Operation.{Operation}
-use Rattle.meaning.specs.declared.update.Operation.TheVariants as operation
+use Rattle.algebra.specs.declared.update.Operation.{Operation}
+use Rattle.algebra.specs.declared.update.Operation.TheVariants as operation
 use Rattle.algebra.specs.declared.template.QuadTemplate.{QuadTemplate}
 use Rattle.algebra.specs.declared.template.Slot.{Slot}
 use Rattle.algebra.specs.declared.template.Slot.TheVariants as slot

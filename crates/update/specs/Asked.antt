@@ -8,7 +8,7 @@ use Rattle.datasets.specs.declared.read.Read as reading
 use Rattle.datasets.specs.declared.read.Read.TheVariants.{Scan, GraphIs}
 use Rattle.datasets.specs.Dataset.{Told, Quads, Is, Names}
 use Rattle.meaning.specs.Run.{Request}
-use Rattle.meaning.specs.declared.update.Operation.{Operation}
+use Rattle.algebra.specs.declared.update.Operation.{Operation}
 use Rattle.reads.specs.Reads.{Delta, Read}
 
 -- the scan for one quad

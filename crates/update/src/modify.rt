@@ -5,7 +5,7 @@ ghost use Rattle.dict.specs.Dictionary.{numbers};
 ghost use Rattle.meaning.specs.Effect.{effect_of};
 ghost use Rattle.meaning.specs.Near.{is_near};
 ghost use Rattle.meaning.specs.Solutions.{solutions};
-ghost use Rattle.meaning.specs.declared.update.Operation.TheVariants as operation;
+ghost use Rattle.algebra.specs.declared.update.Operation.TheVariants as operation;
 ghost use Rattle.reads.specs.Reads.{View, Read as Reading, applied};
 ghost use Rattle.reads.specs.Runs.{Agrees};
 ghost use Rattle.asking.specs.Goes.{Goes};

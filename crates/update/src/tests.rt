@@ -4,11 +4,11 @@ ghost use Rattle.std.specs.Prelude.{IsTrue};
 ghost use Rattle.update.specs.Asked.{IsShort};
 
 use crate::{Request, execute};
-use algebra::{Modify, Pattern, Place, Plan, QuadTemplate, Slot, TriplePattern};
+use algebra::{Modify, Operation, Pattern, Place, Plan, QuadTemplate, Slot, TriplePattern};
 use datasets::{Answer, Id, Quad, Read};
 use dict::Dict;
 use iris::Iri;
-use meaning::{Operation, Refusal, Reply};
+use meaning::{Refusal, Reply};
 use reads::{Answered, Finished, Source, Stop, View};
 use sets::Items;
 use std::alloc::{AllocError, Global};

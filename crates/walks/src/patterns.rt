@@ -1,13 +1,12 @@
 //! An insertion, and a request with a pattern that reads what is inserted: `INSERT DATA { ex:a ex:p ex:b }` and
 //! `INSERT { ?x ex:q ex:c } WHERE { ?x ex:p ?y }`.
 use crate::run::{Turn, begin, check, commit, run, take};
-use algebra::{Modify, Pattern, Place, Plan, QuadTemplate, Slot, TriplePattern};
+use algebra::{Modify, Operation, Pattern, Place, Plan, QuadTemplate, Slot, TriplePattern};
 use block_machine::Reply;
 use book::{Book, Request};
 use datasets::{Id, Quad};
 use dict::Dict;
 use iris::Iri;
-use meaning::Operation;
 use reads::View;
 use sets::Items;
 use std::alloc::{AllocError, Global};

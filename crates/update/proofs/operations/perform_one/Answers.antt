@@ -4,7 +4,7 @@ use Rattle.datasets.specs.Id.{id_order}
 use Rattle.dict.specs.Dictionary.{numbers}
 use Rattle.meaning.specs.Effect.{effect_of}
 use Rattle.meaning.specs.Near.{is_near}
-use Rattle.meaning.specs.declared.update.Operation.TheVariants as operation
+use Rattle.algebra.specs.declared.update.Operation.TheVariants as operation
 use Rattle.reads.specs.Reads.{applied}
 use Rattle.asking.proofs.Notes.{goes_within}
 use Rattle.update.proofs.Nearness.{modification_is}
