@@ -10,8 +10,8 @@ use reads::lists::{copied_names, copied_quads};
 use sets::{Exact, place_of, set_of};
 use std::alloc::{AllocError, Global};
 
-// Whether a set has the value.
-fn is_member<T: Exact>(set: &[T], value: &T) -> bool
+/// Whether a set has the value.
+pub fn is_member<T: Exact>(set: &[T], value: &T) -> bool
     requires { IsStrictlySortedBy T.cmp set.now }
     ensures { result ≡ has T.cmp set.now value.now }
 {

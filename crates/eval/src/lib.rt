@@ -15,7 +15,7 @@ pub mod solving;
 
 pub use basic::solve_basic;
 pub use changes::{quads_after, replaced};
-pub use lacking::quads_lacking;
+pub use lacking::{is_member, names_lacking, quads_lacking};
 pub use naming::{graphs, is_graph};
 pub use query::Query;
 pub use scanning::scan;

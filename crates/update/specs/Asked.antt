@@ -45,9 +45,9 @@ AskedQuads allowed quads = AllByRecursion (λ q. allowed (scan_for q) ≡ true) 
 abbrev pub AskedNames : (Read → Bool) → List Id → Type 0
 AskedNames allowed names = AllByRecursion (λ g. allowed (GraphIs g) ≡ true) names
 
--- what asks for all that a change speaks of is allowed, and no graph goes
+-- what asks for all that a change speaks of is allowed
 pub record IsWithin (allowed : Read → Bool) (c : Delta) : Type 0 where
   pub present : AskedQuads allowed c.present
   pub absent : AskedQuads allowed c.absent
   pub there : AskedNames allowed c.there
-  pub gone : c.gone ≡ []
+  pub gone : AskedNames allowed c.gone

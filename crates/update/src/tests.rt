@@ -4,11 +4,14 @@ ghost use Rattle.std.specs.Prelude.{IsTrue};
 ghost use Rattle.update.specs.Asked.{IsShort};
 
 use crate::{Request, execute};
-use algebra::{Modify, Operation, Pattern, Place, Plan, QuadTemplate, Slot, TriplePattern};
+use algebra::{
+    GraphOperation, Modify, Operation, Pattern, Place, Plan, QuadTemplate, Slot, Target, Transfer,
+    TriplePattern,
+};
 use datasets::{Answer, Id, Quad, Read};
 use dict::Dict;
 use iris::Iri;
-use meaning::{Refusal, Reply};
+use meaning::{Cause, Refusal, Reply};
 use reads::{Answered, Finished, Source, Stop, View};
 use sets::Items;
 use std::alloc::{AllocError, Global};
@@ -262,5 +265,147 @@ fn answers_of_the_wrong_kind(rt: HostRuntime) -> Result<(), Stop> {
     assert!(rt; is_done(&run_of, 2, 0, 4));
     let stopped = run(alloc, &block, &mut Liar { alloc, left: 2 });
     assert!(rt; matches!(&stopped, Err(Stop::Blocked(3))));
+    Ok(())
+}
+
+fn in_graph(quad: Quad<Id>, graph: usize) -> Quad<Id> {
+    Quad {
+        subject: quad.subject,
+        predicate: quad.predicate,
+        object: quad.object,
+        graph: Some(Id::Known(graph)),
+    }
+}
+
+// a p b in the default graph, a p c in the graph c, and nothing in the graph b.
+fn graphs(alloc: Global) -> Result<Plain, AllocError> {
+    let mut quads = Vec::new(alloc);
+    quads.push(quad(0, 3, 1))?;
+    quads.push(in_graph(quad(0, 3, 2), 2))?;
+    let mut names = Vec::new(alloc);
+    names.push(Id::Known(1))?;
+    names.push(Id::Known(2))?;
+    let view = View::from_parts(quads, names);
+    Ok(Plain { alloc, view })
+}
+
+fn on_graphs(operation: GraphOperation<Id>, silent: bool) -> Operation<Id> {
+    Operation::Graphs { silent, operation }
+}
+
+fn transfer(how: Transfer, from: Option<usize>, to: Option<usize>) -> GraphOperation<Id> {
+    GraphOperation::Transfer {
+        how,
+        from: from.map(|name| Id::Known(name)),
+        to: to.map(|name| Id::Known(name)),
+    }
+}
+
+// What one operation on graphs comes to.
+fn run_on_graphs(
+    alloc: Global,
+    operation: GraphOperation<Id>,
+    silent: bool,
+) -> Result<Finished, Stop> {
+    let block = request(alloc, on_graphs(operation, silent), None)?;
+    run(alloc, &block, &mut graphs(alloc)?)
+}
+
+fn is_nothing(run: &Finished) -> bool {
+    run.delta.present().is_empty()
+        && run.delta.absent().is_empty()
+        && run.delta.there().is_empty()
+        && run.delta.gone().is_empty()
+}
+
+#[test]
+fn clear_all_keeps_the_names(rt: HostRuntime) -> Result<(), Stop> {
+    let alloc = rt.alloc();
+    let run = run_on_graphs(alloc, GraphOperation::Clear(Target::All), false)?;
+    assert!(rt; is_done(&run, 0, 2, 1));
+    assert!(rt; run.delta.absent() == [quad(0, 3, 1), in_graph(quad(0, 3, 2), 2)].as_slice());
+    assert!(rt; run.delta.gone().is_empty());
+    Ok(())
+}
+
+#[test]
+fn drop_named_keeps_the_default_graph(rt: HostRuntime) -> Result<(), Stop> {
+    let alloc = rt.alloc();
+    let run = run_on_graphs(alloc, GraphOperation::Drop(Target::Named), false)?;
+    assert!(rt; run.reply == Reply::Done { added: 0, removed: 1 });
+    assert!(rt; run.delta.absent() == [in_graph(quad(0, 3, 2), 2)].as_slice());
+    assert!(rt; run.delta.gone() == [Id::Known(1), Id::Known(2)].as_slice());
+    Ok(())
+}
+
+#[test]
+fn add_from_an_empty_graph_makes_the_other(rt: HostRuntime) -> Result<(), Stop> {
+    let alloc = rt.alloc();
+    let run = run_on_graphs(alloc, transfer(Transfer::Add, Some(1), Some(4)), false)?;
+    assert!(rt; run.reply == Reply::Done { added: 0, removed: 0 });
+    assert!(rt; run.delta.there() == [Id::Known(4)].as_slice() && run.delta.gone().is_empty());
+    Ok(())
+}
+
+#[test]
+fn move_from_a_missing_graph(rt: HostRuntime) -> Result<(), Stop> {
+    let alloc = rt.alloc();
+    let missing = run_on_graphs(alloc, transfer(Transfer::Move, Some(4), Some(2)), false)?;
+    let cause = Cause::GraphMissing;
+    assert!(rt; missing.reply == Reply::Failed { operation: 1, cause } && is_nothing(&missing));
+    let silent = run_on_graphs(alloc, transfer(Transfer::Move, Some(4), Some(2)), true)?;
+    assert!(rt; silent.reply == Reply::Done { added: 0, removed: 0 } && is_nothing(&silent));
+    let itself = run_on_graphs(alloc, transfer(Transfer::Move, Some(4), Some(4)), false)?;
+    assert!(rt; is_done(&itself, 0, 0, 0) && is_nothing(&itself));
+    Ok(())
+}
+
+#[test]
+fn move_leaves_no_source(rt: HostRuntime) -> Result<(), Stop> {
+    let alloc = rt.alloc();
+    let run = run_on_graphs(alloc, transfer(Transfer::Move, Some(2), Some(1)), false)?;
+    assert!(rt; run.reply == Reply::Done { added: 1, removed: 1 });
+    assert!(rt; run.delta.present() == [in_graph(quad(0, 3, 2), 1)].as_slice());
+    assert!(rt; run.delta.absent() == [in_graph(quad(0, 3, 2), 2)].as_slice());
+    assert!(rt; run.delta.gone() == [Id::Known(2)].as_slice() && run.delta.there().is_empty());
+    Ok(())
+}
+
+#[test]
+fn copy_leaves_nothing_of_the_other(rt: HostRuntime) -> Result<(), Stop> {
+    let alloc = rt.alloc();
+    let run = run_on_graphs(alloc, transfer(Transfer::Copy, None, Some(2)), false)?;
+    assert!(rt; run.reply == Reply::Done { added: 1, removed: 1 });
+    assert!(rt; run.delta.present() == [in_graph(quad(0, 3, 1), 2)].as_slice());
+    assert!(rt; run.delta.absent() == [in_graph(quad(0, 3, 2), 2)].as_slice());
+    assert!(rt; run.delta.there().is_empty() && run.delta.gone().is_empty());
+    Ok(())
+}
+
+#[test]
+fn a_failing_operation_undoes_those_before_it(rt: HostRuntime) -> Result<(), Stop> {
+    let alloc = rt.alloc();
+    let first = on_graphs(GraphOperation::Drop(Target::All), false);
+    let second = on_graphs(GraphOperation::Clear(Target::Graph(Id::Known(2))), false);
+    let block = request(alloc, first, Some(second))?;
+    let run = run(alloc, &block, &mut graphs(alloc)?)?;
+    let cause = Cause::GraphMissing;
+    assert!(rt; run.reply == Reply::Failed { operation: 2, cause } && is_nothing(&run));
+    Ok(())
+}
+
+#[test]
+fn create_where_the_graph_is_there(rt: HostRuntime) -> Result<(), Stop> {
+    let alloc = rt.alloc();
+    let there = run_on_graphs(alloc, GraphOperation::Create(Id::Known(1)), false)?;
+    let cause = Cause::GraphExists;
+    assert!(rt; there.reply == Reply::Failed { operation: 1, cause } && is_nothing(&there));
+    let fresh = run_on_graphs(alloc, GraphOperation::Create(Id::Known(4)), false)?;
+    assert!(rt; is_done(&fresh, 0, 0, 2) && fresh.delta.there() == [Id::Known(4)].as_slice());
+    let gone = on_graphs(GraphOperation::Drop(Target::Graph(Id::Known(1))), false);
+    let again = on_graphs(GraphOperation::Create(Id::Known(1)), false);
+    let block = request(alloc, gone, Some(again))?;
+    let run = run(alloc, &block, &mut graphs(alloc)?)?;
+    assert!(rt; run.reply == Reply::Done { added: 0, removed: 0 } && is_nothing(&run));
     Ok(())
 }
