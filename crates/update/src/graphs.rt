@@ -96,11 +96,7 @@ fn is_same_graph(one: Option<Id>, other: Option<Id>) -> bool
 }
 
 // The triples of some quads, in this graph.
-fn put_in(
-    alloc: Global,
-    graph: Option<Id>,
-    quads: &[Quad<Id>],
-) -> Result<Vec<Quad<Id>>, AllocError>
+fn put_in(alloc: Global, graph: Option<Id>, quads: &[Quad<Id>]) -> Result<Vec<Quad<Id>>, AllocError>
     ensures { IfOk result (λ put. put.items ≡ map (in_graph id_order graph) quads.now) }
 {
     quads
@@ -141,11 +137,7 @@ fn leaving<S: Source>(
 }
 
 // The name that goes where a graph's triples come to another one.
-fn name_leaving(
-    alloc: Global,
-    how: Transfer,
-    from: Option<Id>,
-) -> Result<Vec<Id>, AllocError>
+fn name_leaving(alloc: Global, how: Transfer, from: Option<Id>) -> Result<Vec<Id>, AllocError>
     ensures { IfOk result (λ names. names.items ≡ the_name_leaving how from) }
 {
     match how {

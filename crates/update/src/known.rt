@@ -105,13 +105,19 @@ fn name_at(place: GraphPlace<Id>) -> Option<Id>
 fn places_told(alloc: Global, notes: &[Note]) -> Result<Vec<GraphPlace<Id>>, AllocError>
     ensures { IfOk result (λ places. places.items ≡ the_places_told notes.now) }
 {
-    notes.iter().filter_map(|note| whole_place(note)).collect(alloc)
+    notes
+        .iter()
+        .filter_map(|note| whole_place(note))
+        .collect(alloc)
 }
 
 fn names_at(alloc: Global, places: &[GraphPlace<Id>]) -> Result<Vec<Id>, AllocError>
     ensures { IfOk result (λ names. names.items ≡ filter_map the_name_at places.now) }
 {
-    places.iter().filter_map(|place| name_at(*place)).collect(alloc)
+    places
+        .iter()
+        .filter_map(|place| name_at(*place))
+        .collect(alloc)
 }
 
 fn has_any(places: &[GraphPlace<Id>]) -> bool

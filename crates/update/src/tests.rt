@@ -332,7 +332,13 @@ fn clear_all_keeps_the_names(rt: HostRuntime) -> Result<(), Stop> {
 fn drop_named_keeps_the_default_graph(rt: HostRuntime) -> Result<(), Stop> {
     let alloc = rt.alloc();
     let run = run_on_graphs(alloc, GraphOperation::Drop(Target::Named), false)?;
-    assert!(rt; run.reply == Reply::Done { added: 0, removed: 1 });
+    assert!(rt;
+        run.reply
+            == Reply::Done {
+                added: 0,
+                removed: 1
+            }
+    );
     assert!(rt; run.delta.absent() == [in_graph(quad(0, 3, 2), 2)].as_slice());
     assert!(rt; run.delta.gone() == [Id::Known(1), Id::Known(2)].as_slice());
     Ok(())
@@ -342,7 +348,13 @@ fn drop_named_keeps_the_default_graph(rt: HostRuntime) -> Result<(), Stop> {
 fn add_from_an_empty_graph_makes_the_other(rt: HostRuntime) -> Result<(), Stop> {
     let alloc = rt.alloc();
     let run = run_on_graphs(alloc, transfer(Transfer::Add, Some(1), Some(4)), false)?;
-    assert!(rt; run.reply == Reply::Done { added: 0, removed: 0 });
+    assert!(rt;
+        run.reply
+            == Reply::Done {
+                added: 0,
+                removed: 0
+            }
+    );
     assert!(rt; run.delta.there() == [Id::Known(4)].as_slice() && run.delta.gone().is_empty());
     Ok(())
 }
@@ -352,9 +364,23 @@ fn move_from_a_missing_graph(rt: HostRuntime) -> Result<(), Stop> {
     let alloc = rt.alloc();
     let missing = run_on_graphs(alloc, transfer(Transfer::Move, Some(4), Some(2)), false)?;
     let cause = Cause::GraphMissing;
-    assert!(rt; missing.reply == Reply::Failed { operation: 1, cause } && is_nothing(&missing));
+    assert!(rt;
+        missing.reply
+            == Reply::Failed {
+                operation: 1,
+                cause
+            }
+            && is_nothing(&missing)
+    );
     let silent = run_on_graphs(alloc, transfer(Transfer::Move, Some(4), Some(2)), true)?;
-    assert!(rt; silent.reply == Reply::Done { added: 0, removed: 0 } && is_nothing(&silent));
+    assert!(rt;
+        silent.reply
+            == Reply::Done {
+                added: 0,
+                removed: 0
+            }
+            && is_nothing(&silent)
+    );
     let itself = run_on_graphs(alloc, transfer(Transfer::Move, Some(4), Some(4)), false)?;
     assert!(rt; is_done(&itself, 0, 0, 0) && is_nothing(&itself));
     Ok(())
@@ -364,7 +390,13 @@ fn move_from_a_missing_graph(rt: HostRuntime) -> Result<(), Stop> {
 fn move_leaves_no_source(rt: HostRuntime) -> Result<(), Stop> {
     let alloc = rt.alloc();
     let run = run_on_graphs(alloc, transfer(Transfer::Move, Some(2), Some(1)), false)?;
-    assert!(rt; run.reply == Reply::Done { added: 1, removed: 1 });
+    assert!(rt;
+        run.reply
+            == Reply::Done {
+                added: 1,
+                removed: 1
+            }
+    );
     assert!(rt; run.delta.present() == [in_graph(quad(0, 3, 2), 1)].as_slice());
     assert!(rt; run.delta.absent() == [in_graph(quad(0, 3, 2), 2)].as_slice());
     assert!(rt; run.delta.gone() == [Id::Known(2)].as_slice() && run.delta.there().is_empty());
@@ -375,7 +407,13 @@ fn move_leaves_no_source(rt: HostRuntime) -> Result<(), Stop> {
 fn copy_leaves_nothing_of_the_other(rt: HostRuntime) -> Result<(), Stop> {
     let alloc = rt.alloc();
     let run = run_on_graphs(alloc, transfer(Transfer::Copy, None, Some(2)), false)?;
-    assert!(rt; run.reply == Reply::Done { added: 1, removed: 1 });
+    assert!(rt;
+        run.reply
+            == Reply::Done {
+                added: 1,
+                removed: 1
+            }
+    );
     assert!(rt; run.delta.present() == [in_graph(quad(0, 3, 1), 2)].as_slice());
     assert!(rt; run.delta.absent() == [in_graph(quad(0, 3, 2), 2)].as_slice());
     assert!(rt; run.delta.there().is_empty() && run.delta.gone().is_empty());
@@ -390,7 +428,14 @@ fn a_failing_operation_undoes_those_before_it(rt: HostRuntime) -> Result<(), Sto
     let block = request(alloc, first, Some(second))?;
     let run = run(alloc, &block, &mut graphs(alloc)?)?;
     let cause = Cause::GraphMissing;
-    assert!(rt; run.reply == Reply::Failed { operation: 2, cause } && is_nothing(&run));
+    assert!(rt;
+        run.reply
+            == Reply::Failed {
+                operation: 2,
+                cause
+            }
+            && is_nothing(&run)
+    );
     Ok(())
 }
 
@@ -399,13 +444,27 @@ fn create_where_the_graph_is_there(rt: HostRuntime) -> Result<(), Stop> {
     let alloc = rt.alloc();
     let there = run_on_graphs(alloc, GraphOperation::Create(Id::Known(1)), false)?;
     let cause = Cause::GraphExists;
-    assert!(rt; there.reply == Reply::Failed { operation: 1, cause } && is_nothing(&there));
+    assert!(rt;
+        there.reply
+            == Reply::Failed {
+                operation: 1,
+                cause
+            }
+            && is_nothing(&there)
+    );
     let fresh = run_on_graphs(alloc, GraphOperation::Create(Id::Known(4)), false)?;
     assert!(rt; is_done(&fresh, 0, 0, 2) && fresh.delta.there() == [Id::Known(4)].as_slice());
     let gone = on_graphs(GraphOperation::Drop(Target::Graph(Id::Known(1))), false);
     let again = on_graphs(GraphOperation::Create(Id::Known(1)), false);
     let block = request(alloc, gone, Some(again))?;
     let run = run(alloc, &block, &mut graphs(alloc)?)?;
-    assert!(rt; run.reply == Reply::Done { added: 0, removed: 0 } && is_nothing(&run));
+    assert!(rt;
+        run.reply
+            == Reply::Done {
+                added: 0,
+                removed: 0
+            }
+            && is_nothing(&run)
+    );
     Ok(())
 }
