@@ -16,7 +16,7 @@ use Rattle.datasets.specs.declared.read.QuadPattern.{QuadPattern}
 use Rattle.datasets.specs.declared.read.Read.TheVariants.{Scan, GraphIs, Graphs}
 use Rattle.datasets.specs.Dataset.{Quads, quad_order, matches, free_or, in_place}
 use Rattle.datasets.specs.Id.{id_order, id_total, id_exact, quad_total, quad_exact}
-use Rattle.reads.specs.Reads.{View, Read, Answer, says}
+use Rattle.reads.specs.Reads.{View, Read, Answer, told_quads, says}
 use Rattle.reads.specs.Runs.{Agrees}
 use Rattle.reads.specs.declared.note.Note.{Note}
 use Rattle.update.specs.Known.{is_whole, whole_place, places_told, told_at, quads_told, is_any, is_default, name_at, WholeGraphs, is_known, Knows}
@@ -55,10 +55,10 @@ all_free (Some s) p o a b c here e = absurd (false≢true e)
 
 
 scan_told : (p : QuadPattern Id) (d : View) (a : Answer) (q : Quad Id) (b : Bool) → is_whole p ≡ b → a ≡ Quads (filter (matches id_order p) d.quads)
-    → has (quad_order id_order) (told_at (if b then Some p.graph else None) a) q ≡ (has (quad_order id_order) d.quads q && in_some (if b then Some p.graph else None) q.graph)
+    → has (quad_order id_order) (told_at (if b then Some p.graph else None) (told_quads a)) q ≡ (has (quad_order id_order) d.quads q && in_some (if b then Some p.graph else None) q.graph)
 unfolding in_some
 scan_told p d a q true e is =
-    ap (λ z. has (quad_order id_order) (told_at (Some p.graph) z) q) is
+    ap (λ z. has (quad_order id_order) (told_at (Some p.graph) (told_quads z)) q) is
     ∙ has-filter (quad_total id_total) (quad_exact id_order id_exact) (matches id_order p) q d.quads
     ∙ ap (λ b. has (quad_order id_order) d.quads q && b) (all_free p.subject p.predicate p.object q.subject q.predicate q.object (in_place id_order p.graph q.graph) e)
 scan_told p d a q false e is = sym (and_false (has (quad_order id_order) d.quads q))

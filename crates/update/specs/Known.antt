@@ -1,5 +1,5 @@
 -- What notes tell of whole graphs.
-use Rattle.std.specs.Prelude.{◌≡◌, Bool, true, false, ◌&&◌, ◌||◌, List, [], ◌∷◌, Option, Some, None, is_none, filter_map, if◌then◌else◌}
+use Rattle.std.specs.Prelude.{◌≡◌, Bool, true, false, ◌&&◌, ◌||◌, List, [], Option, Some, None, is_none, filter_map, if◌then◌else◌}
 use Rattle.std.specs.List.{list_any}
 use Rattle.sets.specs.Sets.{has}
 use Rattle.datasets.specs.declared.id.Id.{Id}
@@ -8,9 +8,9 @@ use Rattle.datasets.specs.declared.read.GraphPlace.{GraphPlace}
 use Rattle.datasets.specs.declared.read.GraphPlace.TheVariants.{Any, Only}
 use Rattle.datasets.specs.declared.read.QuadPattern.{QuadPattern}
 use Rattle.datasets.specs.declared.read.Read.TheVariants.{Scan, GraphIs, Graphs}
-use Rattle.datasets.specs.Dataset.{Quads, Is, Names, quad_order}
+use Rattle.datasets.specs.Dataset.{quad_order}
 use Rattle.datasets.specs.Id.{id_order}
-use Rattle.reads.specs.Reads.{View, Read, Answer}
+use Rattle.reads.specs.Reads.{View, Read, Answer, told_quads}
 use Rattle.reads.specs.declared.note.Note.{Note}
 
 -- whether a pattern asks for each quad of its graph place
@@ -26,16 +26,15 @@ whole_place Graphs = None
 abbrev pub places_told : List Note → List (GraphPlace Id)
 places_told notes = filter_map (λ n. whole_place n.read) notes
 
--- the quads of an answer, where it tells of some place
-abbrev pub told_at : Option (GraphPlace Id) → Answer → List (Quad Id)
-told_at None a = []
-told_at (Some place) (Quads quads) = quads
-told_at (Some place) (Is so) = []
-told_at (Some place) (Names names) = []
+-- the quads of an answer to a scan, where a place is asked for
+abbrev pub told_at : Option (GraphPlace Id) → Option (List (Quad Id)) → List (Quad Id)
+told_at None quads = []
+told_at (Some place) None = []
+told_at (Some place) (Some quads) = quads
 
 -- the quads that are told of a whole graph place
 abbrev pub quads_told : Read → Answer → List (Quad Id)
-quads_told r a = told_at (whole_place r) a
+quads_told r a = told_at (whole_place r) (told_quads a)
 
 abbrev pub is_any : GraphPlace Id → Bool
 is_any Any = true
