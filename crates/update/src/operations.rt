@@ -38,11 +38,11 @@ fn excused(
     ensures effect { IfOk result (λ kept. (d : View) → changed d kept ≡ silently id_order silent (applied changes.now d) (Err cause)) }
     ensures within { (allowed : Reading → Bool) → IsWithin allowed changes.now → IfOk result (λ kept. IfOk kept (λ change. IsWithin allowed change)) }
 {
-    if silent {
-        let unchanged = changes.copied(alloc)?;
-        return Ok(Ok(unchanged));
+    if !silent {
+        return Ok(Err(cause));
     }
-    Ok(Err(cause))
+    let unchanged = changes.copied(alloc)?;
+    Ok(Ok(unchanged))
 }
 
 // The outcome, or no change where it failed and SILENT was said.

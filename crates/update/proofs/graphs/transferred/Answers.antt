@@ -131,7 +131,7 @@ returns-clause-within g c =
     let own : c.from_parts-own.result ≡ record { present = set_of (quad_order id_order) c.in_ok-come.come.items; absent = set_of (quad_order id_order) c.in_ok-gone.gone.items; there = set_of id_order c.in_ok-there.there.items; gone = set_of id_order c.in_ok-names.names.items } =
         λ i. record { present = made.present i; absent = made.absent i; there = made.there i; gone = made.gone i } in
     let come = subst (AskedQuads near) (sym c.in_ok-come.ensures) (put_near how from to c.deref.result.now) in
-    let found = asked_more _ near (λ r e. first_near how from to r (ap (λ t. is_near_target id_order t r) (sym c.target_of-first.ensures) ∙ e)) c.in_ok-found.found.items c.in_ok-found.ensures.within in
+    let found = asked_more (is_near_target id_order c.target_of-first.result) near (λ r e. first_near how from to r (ap (λ t. is_near_target id_order t r) (sym c.target_of-first.ensures) ∙ e)) c.in_ok-found.found.items c.in_ok-found.ensures.within in
     let gone = c.in_ok-gone.ensures.within near (λ r e. second_near how from to r (ap (λ t. is_near_target id_order t r) (sym c.target_of-second.ensures) ∙ e)) found in
     subst (IsWithin near) (sym own)
     (parts_within near c.in_ok-come.come.items c.in_ok-gone.gone.items c.in_ok-there.there.items c.in_ok-names.names.items come gone (names_near op c.in_ok-there.there.items) (names_near op c.in_ok-names.names.items))
