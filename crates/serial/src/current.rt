@@ -98,6 +98,7 @@ fn join_last(alloc: Global, changes: &mut Vec<Delta>) -> Result<(), AllocError>
 }
 
 // Joins the last two changes while they are alike in length.
+#[tactic(auto, using(crate::proofs::Levels::joined_so_far))]
 fn settle(alloc: Global, changes: &mut Vec<Delta>) -> Result<(), AllocError>
     ensures { (d : Dataset) → after_all changes.new.items d ≡ after_all changes.old.items d }
 {
@@ -144,6 +145,7 @@ impl<'a> Current<'a> {
     }
 
     /// The dataset goes on by one change. After want of memory it is as before.
+    #[tactic(auto, using(crate::proofs::Levels::pushed, crate::proofs::Levels::kept))]
     pub(crate) fn push(&mut self, alloc: Global, change: Delta) -> Result<(), AllocError>
         ensures ok { OnOk result (self.new ≡ applied change self.old) }
         ensures err { OnErr result (self.new ≡ self.old) }

@@ -42,6 +42,7 @@ fn finished(
 }
 
 // The reply to the request at this place. The dataset goes on by its change.
+#[tactic(auto, using(crate::proofs::Runs::next_is))]
 fn answer(
     alloc: Global,
     terms: &Dict,
