@@ -13,7 +13,7 @@ use Rattle.store.specs.Numbered.{IsNumbered, IsCarried, CarriesBlock}
 use Rattle.update.specs.Asked.{IsShort}
 use Rattle.driver.specs.Duty.{AreShort as AreShortNumbers}
 use Rattle.cli.specs.Inputs.{AreShort}
-use Rattle.book.specs.Run.{Run, state_of, front_run}
+use Rattle.book.specs.Run.{Run as BookRun, state_of, front_run}
 use Rattle.cli.specs.Outputs.{IsWhole}
 
 length-map : {A B : Type 0} (f : A → B) (xs : List A) → length (map f xs) ≡ length xs
@@ -69,7 +69,7 @@ module _ (d : Dataset Term) (block : List (Request Term)) (terms : List Term) (b
     replies_are = ap (λ p. p.1) whole.2 ∙ carried.replies_are ∙ ap (λ p. p.1) all_of
 
 -- the front of a book that has committed the whole block
-pub whole_book : (terms : List Term) (base : Dataset Id) (block : List (Request Id)) (book : Run) (dataset : Dataset Id) (replies : List Reply)
+pub whole_book : (terms : List Term) (base : Dataset Id) (block : List (Request Id)) (book : BookRun) (dataset : Dataset Id) (replies : List Reply)
     → book.terms ≡ terms → book.base ≡ base → book.block ≡ block → length block ≤ (state_of book).front → (dataset, replies) ≡ front_run book
     → IsWhole terms base block dataset replies
 whole_book terms base block book dataset replies is_terms is_base is_block whole e =

@@ -58,13 +58,7 @@ pub(crate) fn serial_answer_to(alloc: Global, base: &[u8], block: &[u8]) -> Answ
     let mut block = Watched::new(block);
     let mut dataset = Watched::new(Vec::new(alloc));
     let mut replies = Watched::new(Vec::new(alloc));
-    let outcome = serial_engine(
-        alloc,
-        &mut base,
-        &mut block,
-        &mut dataset,
-        &mut replies,
-    );
+    let outcome = serial_engine(alloc, &mut base, &mut block, &mut dataset, &mut replies);
     Answer {
         status: status_of(&outcome),
         dataset: dataset.inner,

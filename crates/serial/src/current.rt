@@ -65,10 +65,7 @@ fn answer_after(
 
 // How many quads and names a change speaks of.
 fn size(change: &Delta) -> usize {
-    let quads = change
-        .present()
-        .len()
-        .saturating_add(change.absent().len());
+    let quads = change.present().len().saturating_add(change.absent().len());
     let names = change.there().len().saturating_add(change.gone().len());
     quads.saturating_add(names)
 }
@@ -109,11 +106,7 @@ fn settle(alloc: Global, changes: &mut Vec<Delta>) -> Result<(), AllocError>
 }
 
 // A base after these changes. They are joined before the base is gone over.
-fn dataset_after(
-    alloc: Global,
-    base: &View,
-    mut changes: Vec<Delta>,
-) -> Result<View, AllocError>
+fn dataset_after(alloc: Global, base: &View, mut changes: Vec<Delta>) -> Result<View, AllocError>
     ensures { IfOk result (λ dataset. dataset ≡ after_all changes.items base.now) }
 {
     while changes.len() > 1 {

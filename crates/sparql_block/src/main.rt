@@ -93,9 +93,7 @@ fn done<R: Wait + Files + Print + AllocGlobal>(rt: &R, job: &Job) -> Result<(), 
             out,
             workers,
         } => run(rt, base.as_str(), block.as_str(), out.as_str(), *workers),
-        Job::Serial { base, block, out } => {
-            serial(rt, base.as_str(), block.as_str(), out.as_str())
-        }
+        Job::Serial { base, block, out } => serial(rt, base.as_str(), block.as_str(), out.as_str()),
         Job::Check { block } => check(rt, block.as_str()),
     }
 }
