@@ -16,8 +16,8 @@ returns-in-Some c =
     ∙ sym (only_one left.items c.pop.new.self.items c.in-Some.change c.args.base.now c.in-Some.ensures.items few) ∙ c.loop-changes.invariant c.args.base.now)
     c.apply.ensures
 
-pub returns-in-None : goal.returns-in-None
-returns-in-None c =
+pub returns : goal.returns
+returns c =
     let left = c.loop-changes.changes in
     let none : length left.items ≡ 0 = omega (arith, left.ok.0, c.in-None.ensures.cases) in
     c.in_ok-dataset.ensures ∙ sym (none_left left.items c.args.base.now none) ∙ c.loop-changes.invariant c.args.base.now

@@ -1,4 +1,4 @@
-use Rattle.std.proofs.Common.{◌≡◌, ◌≤◌, length, sym, ap, ◌∙◌, subst, arith}
+use Rattle.std.proofs.Common.{◌≤◌, length, sym, ap, ◌∙◌, subst, arith}
 use Rattle.reads.specs.Reads.{View, IsDataset}
 use Rattle.serial.proofs.Runs.{short_at, next_dataset, next_run, whole_run}
 use Rattle.serial.proofs.sequential.run.Goals as goal
