@@ -106,12 +106,7 @@ fn is_short(request: &Request) -> bool
 fn are_short(block: &[Request]) -> bool
     ensures { IsTrue result → AreShort block.now }
 {
-    for request in block {
-        if !is_short(request) {
-            return false;
-        }
-    }
-    true
+    block.iter().all(is_short)
 }
 
 // The outcome of the second block on what the first leaves of nothing.
