@@ -1,12 +1,15 @@
 //! The base and the block, as their readers give them.
 ghost use Rattle.std.specs.Prelude.{◌≡◌, ◌<◌, ◌≤◌, ◌-◌, ◌^◌, Ok, Err, IfSome, IfOk, length, List, ℕ};
 ghost use Rattle.nquads.specs.Checked.{IsFront};
-ghost use Rattle.rules.specs.Requests.{IsSplit};
+ghost use Rattle.rules.specs.Requests.{AreVerdicts, IsSplit};
 ghost use Rattle.cli.specs.Inputs.{IsBaseAnswer, IsBlockAnswer, AreShort, base_fault as the_base_fault, block_fault as the_block_fault, device_fault as the_device_fault};
+ghost use Rattle.cli.specs.Verdicts.{IsJudgement};
 
 use command_line::{Fault, File};
 use nquads::{BaseFault, Watched, front_of};
-use rules::{Block, BlockFault, split};
+use rules::laws::requests_are_short;
+use rules::{Block, BlockFault, Verdict, split, verdicts};
+use sets::Items;
 use std::alloc::Global;
 use std::io::Read;
 use terms::DataSet;
@@ -65,6 +68,7 @@ fn cut(alloc: Global, bytes: &[u8]) -> Result<Block, Fault>
     ensures few { IfOk result (λ block. length block ≤ 4096) }
     ensures short { IfOk result AreShort }
 {
+    requests_are_short();
     match split(alloc, bytes) {
         Ok(block) => Ok(block),
         Err(fault) => Err(block_fault(fault)),
@@ -83,4 +87,29 @@ pub fn read_block<R: Read>(alloc: Global, reader: &mut Watched<R>) -> Result<Blo
         Err(fault) => return Err(device_fault(fault)),
     };
     cut(alloc, bytes.as_slice())
+}
+
+/// The verdicts on the requests of a block's bytes.
+fn judged(alloc: Global, bytes: &[u8]) -> Result<Items<Verdict>, Fault>
+    ensures { (text : List ℕ) → IsFront (2 ^ 28) text bytes.now → IsJudgement text result }
+{
+    match verdicts(alloc, bytes) {
+        Ok(verdicts) => Ok(verdicts),
+        Err(fault) => Err(block_fault(fault)),
+    }
+}
+
+/// The verdicts on the requests of the block that a reader gives: whether each is accepted, or why it is refused.
+pub fn read_verdicts<R: Read>(
+    alloc: Global,
+    reader: &mut Watched<R>,
+) -> Result<Items<Verdict>, Fault>
+    requires { reader.old.failures < 2 ^ 64 - 1 }
+    ensures { IfSome (R.remaining reader.old.inner) (λ text. IsJudgement text result) }
+{
+    let bytes = match front_of(alloc, reader, MOST_BLOCK_BYTES) {
+        Ok(bytes) => bytes,
+        Err(fault) => return Err(device_fault(fault)),
+    };
+    judged(alloc, bytes.as_slice())
 }

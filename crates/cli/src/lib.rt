@@ -1,14 +1,17 @@
-//! The engine of the program: from the bytes of a base and a block to the canonical text of the new dataset and the reply lines.
+//! The engines of the program: from the bytes of a base and a block to the canonical text of the new dataset and the reply lines, and from
+//! the bytes of a block to the lines of its verdicts.
 //!
-//! Stands on `nquads`, `rules`, `store`, `book`, `driver` and `command_line`. Used above: `run_engine` makes all texts before it touches a
-//! writer, and refuses bad input with its name.
+//! Stands on `nquads`, `rules`, `store`, `book`, `driver` and `command_line`. Used above: `run_engine` and `check_engine` make all texts
+//! before they touch a writer, and refuse bad input with its name.
 #![tactic(auto)]
 
+pub mod check;
 pub mod engine;
 pub mod files;
 pub mod inputs;
 pub mod outputs;
 
+pub use check::check_engine;
 pub use command_line::{Fault, File, Job, LineFault, Message, read_job, told};
 pub use engine::run_engine;
 pub use files::{InFile, OutFile};

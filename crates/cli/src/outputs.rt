@@ -28,8 +28,8 @@ fn flush<W: Write>(writer: &mut Watched<W>) -> Result<(), Fault>
     }
 }
 
-/// Writes a text and flushes it.
-fn write_text<W: Write>(writer: &mut Watched<W>, text: &[u8]) -> Result<(), Fault>
+/// Writes a text and flushes it, also where it is empty.
+pub(crate) fn write_text<W: Write>(writer: &mut Watched<W>, text: &[u8]) -> Result<(), Fault>
     requires { writer.old.failures < 2 ^ 64 - 1 }
     ensures ok { OnOk result (Grew (W.contents writer.old.inner) (W.contents writer.new.inner) text.now) }
     ensures part { OnErr result (GrewInPart (W.contents writer.old.inner) (W.contents writer.new.inner) text.now) }

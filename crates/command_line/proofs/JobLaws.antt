@@ -1,21 +1,24 @@
 -- From what `clap` says of a parse to the answer of a command line.
-use Rattle.std.proofs.Common.{◌≡◌, ◌⊎◌, ◌∙◌, ◌<◌, ◌≤◌, ℕ, true, List, [], ◌∷◌, Option, Some, None, rules, refl, sym, ap, subst, ◌^◌, inl, inr, arith, codes}
-use Rattle.std.specs.Prelude.{◌≢◌, option_map, Result, Ok, Err, string_bytes, unwrap_or}
+use Rattle.std.proofs.Common.{◌≡◌, ◌⊎◌, ◌∙◌, ◌<◌, ◌≤◌, ℕ, true, List, [], ◌∷◌, Option, Some, None, rules, refl, sym, ap, ap₂, subst, length, ◌^◌, inl, inr, arith, codes}
+use Rattle.std.specs.Box.{box_value}
+use Rattle.std.specs.Prelude.{◌≢◌, Box, option_map, Result, Ok, Err, string_bytes, unwrap_or}
 use Rattle.std.specs.Str.Parse.{ParsesUnsigned}
-use Rattle.clap.specs.Words.{App, Row, Text, first_of, one_of, first_value, one_text, found_of, rows_of, kind_of, is_simple, is_simple_and_free, subcommand_of, subcommand_rows_of, fault_of, HasKind, IsAmong, Kinds, matches_of}
+use Rattle.clap.specs.Words.{App, Row, Text, first_of, one_of, first_value, one_text, found_of, rows_of, kind_of, is_simple, is_simple_and_free, subcommand_name_of, subcommand_of, subcommand_rows, subcommand_rows_of, fault_of, HasKind, IsAmong, Kinds, matches_of}
 use Rattle.clap.specs.Matches.{ReadsOne}
 use Rattle.clap.specs.declared.error.Error.{Error}
 use Rattle.clap.specs.declared.error.kind.ErrorKind.{ErrorKind}
 use Rattle.clap.specs.declared.error.kind.ErrorKind.TheVariants.{DisplayHelp, OutOfMemory, InvalidValue}
 use Rattle.clap.specs.declared.parser.matches.ArgMatches.{ArgMatches}
+use Rattle.clap.specs.declared.parser.matches.ArgMatches.TheViews.{out-ArgMatches, out-SubCommand}
 use Rattle.clap.specs.declared.parser.matches.Found.{Found}
+use Rattle.clap.specs.declared.parser.matches.SubCommand.{SubCommand}
 use Rattle.clap.proofs.OnLiterals.{clap_on_literals}
 use Rattle.clap.proofs.WalkLemmas.{first_value-rows, one_text-rows}
 use Rattle.command_line.specs.declared.fault.LineFault.{LineFault}
 use Rattle.command_line.specs.declared.fault.LineFault.TheVariants.{Memory, Help, Wrong}
 use Rattle.command_line.specs.declared.job.Job.{Job}
-use Rattle.command_line.specs.declared.job.Job.TheVariants.{Run}
-use Rattle.command_line.specs.CommandLine.{program, IsWorkers, IsRun, IsFileAnswer, IsWorkersAnswer, IsRunAnswer, IsToldAs, IsAnswer}
+use Rattle.command_line.specs.declared.job.Job.TheVariants.{Run, Check}
+use Rattle.command_line.specs.CommandLine.{program, IsWorkers, IsAsked, IsFileAnswer, IsWorkersAnswer, IsCommandAnswer, IsToldAs, IsAnswer}
 
 simple : is_simple program ≡ true
 unfolding clap_on_literals
@@ -27,6 +30,9 @@ simple_and_free = refl
 
 no_help : InvalidValue ≡ DisplayHelp → ⊥
 no_help e = cc
+
+run_is_not_check : codes "run" ≡ codes "check" → ⊥
+run_is_not_check e = let bad : 3 ≡ 5 = ap length e in absurd (omega (arith, bad))
 
 -- a file that is not named
 pub file_missing : (text : Option Text) (f : LineFault) → IsToldAs InvalidValue f → text ≡ None → IsFileAnswer text (Err f)
@@ -40,37 +46,60 @@ workers_wrong text Memory told none = search rules
 workers_wrong text (Help m) told none = absurd (no_help told)
 workers_wrong text (Wrong m) told none = none
 
-pub base_fails : (rows : List Row) (f : LineFault) → IsFileAnswer (first_of (codes "BASE") rows) (Err f) → IsRunAnswer rows (Err f)
+pub base_fails : (rows : List Row) (f : LineFault) → IsFileAnswer (first_of (codes "BASE") rows) (Err f) → IsCommandAnswer (codes "run") rows (Err f)
 base_fails rows Memory a = search rules
 base_fails rows (Help m) a = absurd a
 base_fails rows (Wrong m) a = no
   where
-    no : (j : Job) → IsRun rows j → ⊥
-    no (Run b k o w) h = let bad : None ≡ Some (string_bytes b) = sym a ∙ h.0 in cc
+    no : (j : Job) → IsAsked (codes "run") rows j → ⊥
+    no (Run b k o w) h = let bad : None ≡ Some (string_bytes b) = sym a ∙ h.1 in cc
+    no (Check k) h = absurd (run_is_not_check h.0)
 
-pub block_fails : (rows : List Row) (f : LineFault) → IsFileAnswer (first_of (codes "BLOCK") rows) (Err f) → IsRunAnswer rows (Err f)
+pub block_fails : (rows : List Row) (f : LineFault) → IsFileAnswer (first_of (codes "BLOCK") rows) (Err f) → IsCommandAnswer (codes "run") rows (Err f)
 block_fails rows Memory a = search rules
 block_fails rows (Help m) a = absurd a
 block_fails rows (Wrong m) a = no
   where
-    no : (j : Job) → IsRun rows j → ⊥
-    no (Run b k o w) h = let bad : None ≡ Some (string_bytes k) = sym a ∙ h.1 in cc
+    no : (j : Job) → IsAsked (codes "run") rows j → ⊥
+    no (Run b k o w) h = let bad : None ≡ Some (string_bytes k) = sym a ∙ h.2 in cc
+    no (Check k) h = absurd (run_is_not_check h.0)
 
-pub out_fails : (rows : List Row) (f : LineFault) → IsFileAnswer (first_of (codes "OUT") rows) (Err f) → IsRunAnswer rows (Err f)
+pub out_fails : (rows : List Row) (f : LineFault) → IsFileAnswer (first_of (codes "OUT") rows) (Err f) → IsCommandAnswer (codes "run") rows (Err f)
 out_fails rows Memory a = search rules
 out_fails rows (Help m) a = absurd a
 out_fails rows (Wrong m) a = no
   where
-    no : (j : Job) → IsRun rows j → ⊥
-    no (Run b k o w) h = let bad : None ≡ Some (string_bytes o) = sym a ∙ h.2 in cc
+    no : (j : Job) → IsAsked (codes "run") rows j → ⊥
+    no (Run b k o w) h = let bad : None ≡ Some (string_bytes o) = sym a ∙ h.3 in cc
+    no (Check k) h = absurd (run_is_not_check h.0)
 
-pub workers_fail : (rows : List Row) (f : LineFault) → IsWorkersAnswer (one_of (codes "workers") rows) (Err f) → IsRunAnswer rows (Err f)
+pub workers_fail : (rows : List Row) (f : LineFault) → IsWorkersAnswer (one_of (codes "workers") rows) (Err f) → IsCommandAnswer (codes "run") rows (Err f)
 workers_fail rows Memory a = search rules
 workers_fail rows (Help m) a = absurd a
 workers_fail rows (Wrong m) a = no
   where
-    no : (j : Job) → IsRun rows j → ⊥
-    no (Run b k o w) h = a w h.3
+    no : (j : Job) → IsAsked (codes "run") rows j → ⊥
+    no (Run b k o w) h = a w h.4
+    no (Check k) h = absurd (run_is_not_check h.0)
+
+pub checked_block_fails : (rows : List Row) (f : LineFault) → IsFileAnswer (first_of (codes "BLOCK") rows) (Err f) → IsCommandAnswer (codes "check") rows (Err f)
+checked_block_fails rows Memory a = search rules
+checked_block_fails rows (Help m) a = absurd a
+checked_block_fails rows (Wrong m) a = no
+  where
+    no : (j : Job) → IsAsked (codes "check") rows j → ⊥
+    no (Run b k o w) h = absurd (run_is_not_check (sym h.0))
+    no (Check k) h = let bad : None ≡ Some (string_bytes k) = sym a ∙ h.1 in cc
+
+-- a name of no command
+pub no_command : (name : Text) (rows : List Row) (f : LineFault) → (name ≡ codes "run" → ⊥) → (name ≡ codes "check" → ⊥) → IsToldAs InvalidValue f → IsCommandAnswer name rows (Err f)
+no_command name rows Memory run check told = search rules
+no_command name rows (Help m) run check told = absurd (no_help told)
+no_command name rows (Wrong m) run check told = no
+  where
+    no : (j : Job) → IsAsked name rows j → ⊥
+    no (Run b k o w) h = run h.0
+    no (Check k) h = check h.0
 
 not_help : (ks : Kinds) → ks ≡ [] → ks ≢ DisplayHelp ∷ []
 not_help ks e h = let bad : [] ≡ DisplayHelp ∷ [] = sym e ∙ h in cc
@@ -104,11 +133,12 @@ parse_fails app is words e f kinds told = go f told
       λ none j job. elim has [ inl o ↦ t.0 o | inr h ↦ none_among (kind_of e) (fault_of program words) none h ],
     )
 
-named : (o : Option (Text × List Row)) (rows : List Row) → Some rows ≡ option_map (λ p. p.1) o → (name : Text) × (o ≡ Some (name, rows))
-named None rows e = let bad : Some rows ≡ None = e in cc
-named (Some p) rows e =
+named : (o : Option (Text × List Row)) (name : Text) (rows : List Row) → Some name ≡ option_map (λ p. p.0) o → Some rows ≡ option_map (λ p. p.1) o → o ≡ Some (name, rows)
+named None name rows n e = let bad : Some rows ≡ None = e in cc
+named (Some p) name rows n e =
+    let same_name : name ≡ p.0 = cc in
     let same : rows ≡ p.1 = cc in
-    (p.0, ap (λ (x : List Row). Some (p.0, x)) (sym same))
+    ap₂ (λ (x : Text) (y : List Row). Some (x, y)) (sym same_name) (sym same)
 
 unnamed : (o : Option (Text × List Row)) → None ≡ option_map (λ p. p.1) o → o ≡ None
 unnamed None e = refl
@@ -119,15 +149,29 @@ same_rows o n m xs ys e h =
     let both : Some xs ≡ Some ys = ap (option_map (λ (p : Text × List Row). p.1)) (sym e ∙ h) in
     cc
 
+same_names : (o : Option (Text × List Row)) (n m : Text) (xs ys : List Row) → o ≡ Some (n, xs) → o ≡ Some (m, ys) → m ≡ n
+same_names o n m xs ys e h =
+    let both : Some n ≡ Some m = ap (option_map (λ (p : Text × List Row). p.0)) (sym e ∙ h) in
+    cc
+
+-- the name that a parse tells is that of the rows it tells
+name_of_rows : (m : ArgMatches) → subcommand_name_of m ≡ option_map (λ p. p.0) (subcommand_rows_of m)
+name_of_rows m = go (out-ArgMatches m).subcommand
+  where
+    go : {Z : Type 0} (o : Option (Box SubCommand Z)) → option_map (λ b. (out-SubCommand (box_value b)).name.now) o ≡ option_map (λ p. p.0) (subcommand_rows o)
+    go None = refl
+    go (Some b) = refl
+
 none_some : (o : Option (Text × List Row)) (x : Text × List Row) → o ≡ None → o ≡ Some x → ⊥
 none_some o x e h = let bad : None ≡ Some x = sym e ∙ h in cc
 
 -- a parse that enters a command
-pub parse_enters : (app : App) → app ≡ program → (words : List Text) (m : ArgMatches) (rows : List Row) (r : Result Job LineFault)
+pub parse_enters : (app : App) → app ≡ program → (words : List Text) (m : ArgMatches) (name : Text) (rows : List Row) (r : Result Job LineFault)
     → (is_simple_and_free app ≡ true → fault_of app words ≡ [])
     → (is_simple app ≡ true → (rows_of (found_of m) ≡ matches_of app words) × (subcommand_rows_of m ≡ subcommand_of app words))
-    → Some rows ≡ option_map (λ p. p.1) (subcommand_rows_of m) → IsRunAnswer rows r → IsAnswer words r
-parse_enters app is words m rows r kinds matches found a = go r a
+    → Some name ≡ subcommand_name_of m
+    → Some rows ≡ option_map (λ p. p.1) (subcommand_rows_of m) → IsCommandAnswer name rows r → IsAnswer words r
+parse_enters app is words m name rows r kinds matches called found a = go r a
   where
     free : fault_of program words ≡ []
     free = subst (λ (x : App). is_simple_and_free x ≡ true → fault_of x words ≡ []) is kinds simple_and_free
@@ -135,14 +179,20 @@ parse_enters app is words m rows r kinds matches found a = go r a
     entered : subcommand_rows_of m ≡ subcommand_of program words
     entered = (matches (ap is_simple is ∙ simple)).1 ∙ ap (λ (x : App). subcommand_of x words) is
 
-    own : (name : Text) × (subcommand_of program words ≡ Some (name, rows))
-    own = named (subcommand_of program words) rows (found ∙ ap (option_map (λ p. p.1)) entered)
+    own : subcommand_of program words ≡ Some (name, rows)
+    own = named (subcommand_of program words) name rows
+        (called ∙ name_of_rows m ∙ ap (option_map (λ p. p.0)) entered)
+        (found ∙ ap (option_map (λ p. p.1)) entered)
 
-    go : (r : Result Job LineFault) → IsRunAnswer rows r → IsAnswer words r
-    go (Ok j) h = (free, (own.0, rows, own.1, h))
+    go : (r : Result Job LineFault) → IsCommandAnswer name rows r → IsAnswer words r
+    go (Ok j) h = (free, (name, rows, own, h))
     go (Err Memory) h = search rules
     go (Err (Help t)) h = absurd h
-    go (Err (Wrong t)) h = (not_help (fault_of program words) free, λ none j job. h j (subst (λ (x : List Row). IsRun x j) (same_rows _ own.0 job.0 rows job.1 own.1 job.2) job.3))
+    go (Err (Wrong t)) h = (
+      not_help (fault_of program words) free,
+      λ none j job. h j (subst (λ (n : Text). IsAsked n rows j) (same_names _ name job.0 rows job.1 own job.2)
+          (subst (λ (x : List Row). IsAsked job.0 x j) (same_rows _ name job.0 rows job.1 own job.2) job.3)),
+    )
 
 -- a parse that enters none
 pub parse_enters_none : (app : App) → app ≡ program → (words : List Text) (m : ArgMatches) (f : LineFault)

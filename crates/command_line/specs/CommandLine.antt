@@ -1,4 +1,4 @@
--- The command line, as `clap` reads it: `sparql-block run BASE BLOCK OUT [--workers N]`.
+-- The command line, as `clap` reads it: `sparql-block run BASE BLOCK OUT [--workers N]` or `sparql-block check BLOCK`.
 use Rattle.std.specs.Prelude.{◌≡◌, ◌≢◌, ◌≤◌, ⊤, true, ℕ, List, [], ◌∷◌, Option, Some, None, Result, Ok, Err, codes, pos, String, string_bytes}
 use Rattle.std.specs.declared.alloc.Global.{Global}
 use Rattle.std.specs.Str.Parse.{IsNumeral, digits_value, without_leading_plus}
@@ -9,7 +9,7 @@ use Rattle.clap.specs.declared.error.kind.ErrorKind.TheVariants.{DisplayHelp, Ou
 use Rattle.command_line.specs.declared.fault.LineFault.{LineFault}
 use Rattle.command_line.specs.declared.fault.LineFault.TheVariants.{Memory, Help, Wrong}
 use Rattle.command_line.specs.declared.job.Job.{Job}
-use Rattle.command_line.specs.declared.job.Job.TheVariants.{Run}
+use Rattle.command_line.specs.declared.job.Job.TheVariants.{Run, Check}
 
 -- a file is a word that must be there
 abbrev pub file_rule : Text → Rule
@@ -27,12 +27,15 @@ workers_rule = record (new_rule (codes "workers")) {
 abbrev pub run_app : App
 run_app = with_rule (with_rule (with_rule (with_rule (new_app (codes "run")) (file_rule (codes "BASE"))) (file_rule (codes "BLOCK"))) (file_rule (codes "OUT"))) workers_rule
 
+abbrev pub check_app : App
+check_app = with_rule (new_app (codes "check")) (file_rule (codes "BLOCK"))
+
 -- one subcommand must be there, and `help` is none
 abbrev pub program_shape : Shape
 program_shape = record (new_app (codes "sparql-block")).top { subcommand_required = true; disable_help_subcommand = true }
 
 abbrev pub program : App
-program = with_subcommand (record { top = program_shape; subs = [] }) run_app.top
+program = with_subcommand (with_subcommand (record { top = program_shape; subs = [] }) run_app.top) check_app.top
 
 -- the text is the number in decimal digits, where a plus may stand first
 abbrev pub IsNumber : Text → ℕ → Type 0
@@ -42,12 +45,14 @@ IsNumber t n = IsNumeral 10 (without_leading_plus t) × (n ≡ digits_value 10 (
 abbrev pub IsWorkers : Option Text → ℕ → Type 0
 IsWorkers text n = ((t : Text) × (text ≡ Some t) × IsNumber t n) × (1 ≤ n) × (n ≤ 64)
 
--- the job's files are the words of the rows, and its workers their number
-abbrev pub IsRun : List Row → Job → Type 0
-IsRun rows (Run base block out workers) = (first_of (codes "BASE") rows ≡ Some (string_bytes base))
+-- the command of this name and its rows give this job: its files are the words of the rows, and its workers their number
+abbrev pub IsAsked : Text → List Row → Job → Type 0
+IsAsked name rows (Run base block out workers) = (name ≡ codes "run")
+    × (first_of (codes "BASE") rows ≡ Some (string_bytes base))
     × (first_of (codes "BLOCK") rows ≡ Some (string_bytes block))
     × (first_of (codes "OUT") rows ≡ Some (string_bytes out))
     × IsWorkers (one_of (codes "workers") rows) workers
+IsAsked name rows (Check block) = (name ≡ codes "check") × (first_of (codes "BLOCK") rows ≡ Some (string_bytes block))
 
 -- what a file's word comes to
 abbrev pub IsFileAnswer : Option Text → Result (String Global) LineFault → Type 0
@@ -63,12 +68,12 @@ IsWorkersAnswer text (Err Memory) = ⊤
 IsWorkersAnswer text (Err (Help message)) = ⊥
 IsWorkersAnswer text (Err (Wrong message)) = (n : ℕ) → IsWorkers text n → ⊥
 
--- what the rows of `run` come to
-abbrev pub IsRunAnswer : List Row → Result Job LineFault → Type 0
-IsRunAnswer rows (Ok j) = IsRun rows j
-IsRunAnswer rows (Err Memory) = ⊤
-IsRunAnswer rows (Err (Help text)) = ⊥
-IsRunAnswer rows (Err (Wrong text)) = (j : Job) → IsRun rows j → ⊥
+-- what the command of this name and its rows come to
+abbrev pub IsCommandAnswer : Text → List Row → Result Job LineFault → Type 0
+IsCommandAnswer name rows (Ok j) = IsAsked name rows j
+IsCommandAnswer name rows (Err Memory) = ⊤
+IsCommandAnswer name rows (Err (Help text)) = ⊥
+IsCommandAnswer name rows (Err (Wrong text)) = (j : Job) → IsAsked name rows j → ⊥
 
 -- what an error of this kind is told as
 abbrev pub IsToldAs : ErrorKind → LineFault → Type 0
@@ -78,7 +83,7 @@ IsToldAs k (Wrong text) = (k ≢ OutOfMemory) × (k ≢ DisplayHelp)
 
 -- the words, of which the first is the program's name, give this job
 abbrev pub IsJob : List Text → Job → Type 0
-IsJob words j = (name : Text) × (rows : List Row) × (subcommand_of program words ≡ Some (name, rows)) × IsRun rows j
+IsJob words j = (name : Text) × (rows : List Row) × (subcommand_of program words ≡ Some (name, rows)) × IsAsked name rows j
 
 -- a job where the words are free of faults and give it; help where they ask for it; else they have another fault or give no job
 abbrev pub IsAnswer : List Text → Result Job LineFault → Type 0
@@ -87,6 +92,7 @@ IsAnswer words (Err Memory) = ⊤
 IsAnswer words (Err (Help text)) = IsAmong DisplayHelp (fault_of program words)
 IsAnswer words (Err (Wrong text)) = (fault_of program words ≢ DisplayHelp ∷ []) × (fault_of program words ≡ [] → (j : Job) → IsJob words j → ⊥)
 
--- the workers of a job are from 1 to 64
+-- the workers of a job are from 1 to 64, where it has any
 abbrev pub HasWorkers : Job → Type 0
 HasWorkers (Run base block out workers) = (1 ≤ workers) × (workers ≤ 64)
+HasWorkers (Check block) = ⊤

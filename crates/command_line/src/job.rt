@@ -2,7 +2,7 @@
 ghost use Rattle.std.specs.Prelude.{◌≡◌, codes, false, map, IfOk, string_bytes};
 ghost use Rattle.clap.specs.declared.builder.command.Command.TheViews.{out-Command as fields_of};
 ghost use Rattle.clap.specs.Words.{app_of, first_of, found_of, kind_of, one_of, rows_of, rule_of};
-ghost use Rattle.command_line.specs.CommandLine.{IsAnswer, IsFileAnswer, IsRunAnswer, IsToldAs, IsWorkersAnswer, file_rule, workers_rule, run_app, program as the_program};
+ghost use Rattle.command_line.specs.CommandLine.{IsAnswer, IsCommandAnswer, IsFileAnswer, IsToldAs, IsWorkersAnswer, file_rule, workers_rule, check_app, run_app, program as the_program};
 
 use crate::fault::{LineFault, Message};
 use clap::error::ErrorKind;
@@ -25,6 +25,11 @@ pub enum Job {
         out: String,
         /// How many workers run the block, from 1 to 64.
         workers: u32,
+    },
+    /// Tells of each request of the block whether it is accepted, or why it is refused.
+    Check {
+        /// The path of the block.
+        block: String,
     },
 }
 
@@ -70,6 +75,15 @@ fn run_command<'a>(alloc: Global) -> Result<Command<'a>, AllocError>
         .arg(workers_argument(alloc))
 }
 
+fn check_command<'a>(alloc: Global) -> Result<Command<'a>, AllocError>
+    ensures app { IfOk result (λ c. app_of c ≡ check_app) }
+    ensures local { IfOk result (λ c. (fields_of c).has_globals ≡ false) }
+{
+    Command::new(alloc, "check")
+        .about("Tells of each request of a block whether it is accepted")
+        .arg(file_argument(alloc, "BLOCK", "The block, requests that lines ---- part"))
+}
+
 fn program<'a>(alloc: Global) -> Result<Command<'a>, AllocError>
     ensures { IfOk result (λ c. app_of c ≡ the_program) }
 {
@@ -77,7 +91,8 @@ fn program<'a>(alloc: Global) -> Result<Command<'a>, AllocError>
         .about("Runs ordered blocks of SPARQL 1.1 updates")
         .subcommand_required(true)
         .disable_help_subcommand(true)
-        .subcommand(run_command(alloc)?)
+        .subcommand(run_command(alloc)?)?
+        .subcommand(check_command(alloc)?)
 }
 
 fn wrong(alloc: Global, text: &str) -> LineFault
@@ -104,12 +119,12 @@ fn line_fault(alloc: Global, error: &clap::Error) -> Result<LineFault, AllocErro
 
 /// The path of a file that must be named.
 #[tactic(auto, using(crate::proofs::JobLaws::file_missing, crate::proofs::JobLaws::word_is))]
-fn file_named(alloc: Global, run: &ArgMatches<'_>, id: &str) -> Result<String, LineFault>
-    ensures { IsFileAnswer (first_of id.now (rows_of (found_of run.now))) result }
+fn file_named(alloc: Global, command: &ArgMatches<'_>, id: &str) -> Result<String, LineFault>
+    ensures { IsFileAnswer (first_of id.now (rows_of (found_of command.now))) result }
 {
-    match run.get_str(id) {
+    match command.get_str(id) {
         Some(path) => Ok(String::from_str(alloc, path)?),
-        None => Err(wrong(alloc, "error: run takes BASE, BLOCK and OUT")),
+        None => Err(wrong(alloc, "error: a file is missing")),
     }
 }
 
@@ -127,7 +142,7 @@ fn worker_count(alloc: Global, run: &ArgMatches<'_>) -> Result<u32, LineFault>
 /// The job of the command `run`.
 #[tactic(auto, using(crate::proofs::JobLaws::base_fails, crate::proofs::JobLaws::block_fails, crate::proofs::JobLaws::out_fails, crate::proofs::JobLaws::workers_fail))]
 fn run_job(alloc: Global, run: &ArgMatches<'_>) -> Result<Job, LineFault>
-    ensures { IsRunAnswer (rows_of (found_of run.now)) result }
+    ensures { IsCommandAnswer (codes "run") (rows_of (found_of run.now)) result }
 {
     Ok(Job::Run {
         base: file_named(alloc, run, "BASE")?,
@@ -137,15 +152,37 @@ fn run_job(alloc: Global, run: &ArgMatches<'_>) -> Result<Job, LineFault>
     })
 }
 
-/// Reads a command line, whose first word is the program's name. The job's workers are from 1 to 64. `Help` comes where the words ask for
-/// help, `Wrong` where they are no command line of the program, and `Memory` where memory runs out.
+/// The job of the command `check`.
+#[tactic(auto, using(crate::proofs::JobLaws::checked_block_fails))]
+fn check_job(alloc: Global, check: &ArgMatches<'_>) -> Result<Job, LineFault>
+    ensures { IsCommandAnswer (codes "check") (rows_of (found_of check.now)) result }
+{
+    Ok(Job::Check {
+        block: file_named(alloc, check, "BLOCK")?,
+    })
+}
+
+/// The job of the command of this name.
+#[tactic(auto, using(crate::proofs::JobLaws::no_command))]
+fn command_job(alloc: Global, name: &str, command: &ArgMatches<'_>) -> Result<Job, LineFault>
+    ensures { IsCommandAnswer name.now (rows_of (found_of command.now)) result }
+{
+    match name {
+        "run" => run_job(alloc, command),
+        "check" => check_job(alloc, command),
+        _ => Err(wrong(alloc, "error: there is no such command")),
+    }
+}
+
+/// Reads a command line, whose first word is the program's name. The workers of a run are from 1 to 64. `Help` comes where the words ask
+/// for help, `Wrong` where they are no command line of the program, and `Memory` where memory runs out.
 pub fn read_job(alloc: Global, words: &[String]) -> Result<Job, LineFault>
     ensures { IsAnswer (map string_bytes words.now) result }
 {
     match program(alloc)?.try_get_matches_from(words) {
         Err(error) => Err(line_fault(alloc, &error)?),
         Ok(matches) => match matches.subcommand() {
-            Some((_, run)) => run_job(alloc, run),
+            Some((name, command)) => command_job(alloc, name, command),
             None => Err(wrong(alloc, "error: a command is missing")),
         },
     }

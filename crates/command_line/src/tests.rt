@@ -1,4 +1,4 @@
-use crate::{Fault, File, Job, LineFault, Message, read_job, replies_text, told};
+use crate::{Fault, File, Job, LineFault, Message, read_job, replies_text, told, verdicts_text};
 use meaning::{Cause, Refusal, Reply};
 use std::alloc::Global;
 use std::test::Fail;
@@ -18,6 +18,7 @@ fn tell(alloc: Global, line: &str) -> Result<String, Fail> {
                 workers,
             },
         ) => format!(in alloc; "{base} {block} {out} {workers}")?,
+        Ok(Job::Check { block }) => format!(in alloc; "check {block}")?,
         Err(fault) => format!(in alloc; "{}", Fault::Line(fault).status())?,
     })
 }
@@ -36,11 +37,21 @@ fn command_lines(rt: HostRuntime) -> Result<(), Fail> {
         ("x run a b c --shards 2", "2"),
         ("x run a b c d", "2"),
         ("x run a b", "2"),
+        ("x check b", "check b"),
+        ("x check run", "check run"),
+        ("x check", "2"),
+        ("x check a b", "2"),
+        ("x check b --workers 1", "2"),
+        ("x check --workers 1", "2"),
+        ("x check b --journal never", "2"),
+        ("x run check b", "2"),
         ("x walk a b c", "2"),
+        ("x checks b", "2"),
         ("x help", "2"),
         ("x", "2"),
         ("x --help", "0"),
         ("x run --help", "0"),
+        ("x check --help", "0"),
     ];
     for (line, want) in table {
         assert!(rt; tell(rt.alloc(), line)?.as_str() == want, "{line}");
@@ -65,6 +76,28 @@ fn lines_of_replies(rt: HostRuntime) -> Result<(), Fail> {
     assert!(rt;
         text.as_str() == "0 ok +12 -3\n1 failed 2 graph-exists\n2 refused variable-in-data\n"
     );
+    Ok(())
+}
+
+#[test]
+fn lines_of_verdicts(rt: HostRuntime) -> Result<(), Fail> {
+    let verdicts = [
+        None,
+        Some(Refusal::Syntax),
+        Some(Refusal::Prefix),
+        Some(Refusal::VariableInData),
+        Some(Refusal::BlankInDelete),
+        Some(Refusal::LabelReused),
+        Some(Refusal::Limit),
+        None,
+    ];
+    let text = verdicts_text(rt.alloc(), verdicts.as_slice())?;
+    assert!(rt;
+        text.as_str()
+            == "0 accepted\n1 refused syntax\n2 refused prefix\n3 refused variable-in-data\n4 refused blank-in-delete\n5 refused label-reused\n6 refused limit\n7 accepted\n"
+    );
+    let none: [Option<Refusal>; 0] = [];
+    assert!(rt; verdicts_text(rt.alloc(), none.as_slice())?.is_empty());
     Ok(())
 }
 

@@ -1,5 +1,6 @@
-pub mod ManyLaws
-pub mod Instances
-pub mod Blocks
-pub mod Operations
-pub mod Requests
+pub mod Words
+pub mod GraphLaws
+pub mod ChangeLaws
+pub mod OperationLaws
+pub mod StepLaws
+pub mod RequestLaws

@@ -1,5 +1,5 @@
 -- Reading the productions from left to right, each with one token of look-ahead.
-use Rattle.std.specs.Prelude.{ℕ, ◌≡◌, ◌==◌, Bool, true, false, List, [], ◌∷◌, length, Option, Some, None, Result, Ok, Err, codes, if◌then◌else◌}
+use Rattle.std.specs.Prelude.{ℕ, ◌≡◌, Bool, true, false, List, [], ◌∷◌, length, Option, Some, None, Result, Ok, Err, codes}
 use Rattle.std.specs.Option.{option_map_or}
 use Rattle.iris.specs.Bracketed.{◌>>=◌}
 use Rattle.lexer.specs.declared.token.Token.{Token}
@@ -7,175 +7,170 @@ use Rattle.lexer.specs.declared.token.Token.TheVariants as token
 use Rattle.lexer.specs.declared.token.Sign.TheVariants as signs
 use Rattle.lexer.specs.declared.stop.Stop.{Stop}
 use Rattle.lexer.specs.declared.stop.Stop.TheVariants as stop
-use Rattle.syntax_trees.specs.declared.tree.Node.{Node}
-use Rattle.syntax_trees.specs.declared.tree.Node.TheVariants as node
-use Rattle.syntax_trees.specs.declared.tree.Property.{Property}
-use Rattle.syntax_trees.specs.declared.tree.SameSubject.{SameSubject}
-use Rattle.syntax_trees.specs.declared.tree.Triple.{Triple}
+use Rattle.syntax_trees.specs.Groups.{Part}
+use Rattle.syntax_trees.specs.declared.tree.Name.{Name}
+use Rattle.syntax_trees.specs.declared.tree.Block.{Block}
+use Rattle.syntax_trees.specs.declared.tree.Target.{Target}
+use Rattle.syntax_trees.specs.declared.tree.Target.TheVariants as target
+use Rattle.syntax_trees.specs.declared.tree.Place.{Place}
+use Rattle.syntax_trees.specs.declared.tree.Place.TheVariants as place
+use Rattle.syntax_trees.specs.declared.tree.Transfer.{Transfer}
+use Rattle.syntax_trees.specs.declared.tree.Transfer.TheVariants as transfer
 use Rattle.syntax_trees.specs.declared.tree.Operation.{Operation}
 use Rattle.syntax_trees.specs.declared.tree.Operation.TheVariants as operation
 use Rattle.syntax_trees.specs.declared.tree.Step.{Step}
 use Rattle.syntax_trees.specs.declared.tree.Step.TheVariants as step
-use Rattle.grammar.specs.Many.{many}
-use Rattle.grammar.specs.Reads.{is_keyword, only_triple, ReadsRequest, IsParsed}
+use Rattle.productions.specs.Steps.{Reader}
+use Rattle.productions.specs.Keywords.{keyword_at}
+use Rattle.productions.specs.Reading.{name_at}
+use Rattle.triples.specs.Reading.{quads_at}
+use Rattle.groups.specs.Reading.{group_at}
+use Rattle.grammar.specs.Reads.{most_nested, ReadsRequest, IsParsed}
 
--- What a function returned, seen by view, is what reading gives, unless memory ran out.
-abbrev pub Fails : {Y : Type 0} → Stop → Option Y → Type 0
-Fails stop.Memory read = Unit {0}
-Fails stop.NoReading read = read ≡ None
+-- ---- graphs
 
-abbrev pub Gives : {X Y : Type 0} → (X → Y) → Result X Stop → Option Y → Type 0
-Gives view (Ok x) read = read ≡ Some (view x)
-Gives view (Err e) read = Fails e read
+abbrev pub silent_at : List Token → Bool × List Token
+silent_at ts = option_map_or (λ r. (true, r)) (keyword_at (codes "SILENT") ts) (false, ts)
 
-abbrev pub node_at : List Token → Option (Node × List Token)
-node_at (token.Variable v ∷ ts) = Some (node.Variable v, ts)
-node_at (token.Iri i ∷ ts) = Some (node.Iri i, ts)
-node_at (token.Name p l ∷ ts) = Some (node.Prefixed p l, ts)
-node_at ts = None
+unfoldable pub graph_at : Reader Name
+graph_at ts = keyword_at (codes "GRAPH") ts >>= name_at
 
--- the word `a`
-abbrev pub is_a : List ℕ → Bool
-is_a [] = false
-is_a (b ∷ []) = b == 97
-is_a (b ∷ c ∷ bs) = false
+-- a target, or a place, that is a name
+unfoldable pub graph_target_at : Reader Target
+graph_target_at ts = do
+  n ← graph_at ts
+  Some (target.Graph n.0, n.1)
 
-abbrev pub verb_at : List Token → Option (Node × List Token)
-verb_at (token.Variable v ∷ ts) = Some (node.Variable v, ts)
-verb_at (token.Iri i ∷ ts) = Some (node.Iri i, ts)
-verb_at (token.Name p l ∷ ts) = Some (node.Prefixed p l, ts)
-verb_at (token.Word w ∷ ts) = if is_a w then Some (node.Type, ts) else None
-verb_at ts = None
+unfoldable pub target_at : Reader Target
+target_at ts =
+    option_map_or (λ r. Some (target.Default, r)) (keyword_at (codes "DEFAULT") ts)
+    (option_map_or (λ r. Some (target.Named, r)) (keyword_at (codes "NAMED") ts)
+    (option_map_or (λ r. Some (target.All, r)) (keyword_at (codes "ALL") ts)
+    (graph_target_at ts)))
 
-abbrev pub begins_node : List Token → Bool
-begins_node (token.Variable v ∷ ts) = true
-begins_node (token.Iri i ∷ ts) = true
-begins_node (token.Name p l ∷ ts) = true
-begins_node ts = false
+unfoldable pub name_place_at : Reader Place
+name_place_at ts = do
+  n ← name_at ts
+  Some (place.Graph n.0, n.1)
 
-abbrev pub begins_verb : List Token → Bool
-begins_verb (token.Variable v ∷ ts) = true
-begins_verb (token.Iri i ∷ ts) = true
-begins_verb (token.Name p l ∷ ts) = true
-begins_verb (token.Word w ∷ ts) = is_a w
-begins_verb ts = false
+unfoldable pub place_at : Reader Place
+place_at ts =
+    option_map_or (λ r. Some (place.Default, r)) (keyword_at (codes "DEFAULT") ts)
+    (option_map_or name_place_at (keyword_at (codes "GRAPH") ts)
+    (name_place_at ts))
 
-abbrev pub object_link : List Token → Bool × List Token
-object_link (token.Sign signs.Comma ∷ ts) = (true, ts)
-object_link ts = (false, ts)
+-- ---- operations on graphs, behind their first word
 
-abbrev pub skip_semicolons : List Token → List Token
-skip_semicolons (token.Sign signs.Semicolon ∷ ts) = skip_semicolons ts
-skip_semicolons ts = ts
+unfoldable pub create_at : Reader Operation
+create_at ts = do
+  n ← graph_at (silent_at ts).1
+  Some (operation.Create (silent_at ts).0 n.0, n.1)
 
-abbrev pub property_link : List Token → Bool × List Token
-property_link (token.Sign signs.Semicolon ∷ ts) = (begins_verb (skip_semicolons ts), skip_semicolons ts)
-property_link ts = (false, ts)
+unfoldable pub drop_at : Reader Operation
+drop_at ts = do
+  t ← target_at (silent_at ts).1
+  Some (operation.Drop (silent_at ts).0 t.0, t.1)
 
-abbrev pub triple_link : List Token → Bool × List Token
-triple_link (token.Sign signs.Dot ∷ ts) = (begins_node ts, ts)
-triple_link ts = (false, ts)
+unfoldable pub clear_at : Reader Operation
+clear_at ts = do
+  t ← target_at (silent_at ts).1
+  Some (operation.Clear (silent_at ts).0 t.0, t.1)
 
-unfoldable pub objects_at : List Token → Option (List Node × List Token)
-objects_at ts = many node_at object_link ts
+unfoldable pub transfer_at : Transfer → Reader Operation
+transfer_at how ts = do
+  from ← place_at (silent_at ts).1
+  r ← keyword_at (codes "TO") from.1
+  to ← place_at r
+  Some (operation.Transfer how (silent_at ts).0 from.0 to.0, to.1)
 
-unfoldable pub property_at : List Token → Option (Property × List Token)
-property_at ts = do
-  v ← verb_at ts
-  os ← objects_at v.1
-  Some (record { verb = v.0; objects = os.0 }, os.1)
+-- ---- operations on quads, behind their first word
 
-unfoldable pub properties_at : List Token → Option (List Property × List Token)
-properties_at ts = many property_at property_link ts
-
-unfoldable pub same_at : List Token → Option (SameSubject × List Token)
-same_at ts = do
-  x ← node_at ts
-  ps ← properties_at x.1
-  Some (record { subject = x.0; properties = ps.0 }, ps.1)
-
-unfoldable pub triples_at : List Token → Option (List SameSubject × List Token)
-triples_at ts = many same_at triple_link ts
-
-abbrev pub open_at : List Token → Option (List Token)
-open_at (token.Sign signs.OpenBrace ∷ ts) = Some ts
-open_at ts = None
-
-abbrev pub close_at : List Token → Option (List Token)
-close_at (token.Sign signs.CloseBrace ∷ ts) = Some ts
-close_at ts = None
-
--- triples and the brace that ends them
-unfoldable pub filled_at : List Token → Option (List SameSubject × List Token)
-filled_at ts = do
-  xs ← triples_at ts
-  rest ← close_at xs.1
-  Some (xs.0, rest)
-
-unfoldable pub block_at : List Token → Option (List SameSubject × List Token)
-block_at ts = do
-  inside ← open_at ts
-  option_map_or (λ rest. Some ([], rest)) (close_at inside) (filled_at inside)
-
-abbrev pub keyword_at : List ℕ → List Token → Option (List Token)
-keyword_at k (token.Word w ∷ ts) = if is_keyword w k then Some ts else None
-keyword_at k ts = None
-
--- WHERE and its one triple pattern
-unfoldable pub where_at : List Token → Option (Triple × List Token)
-where_at ts = do
-  rest ← keyword_at (codes "WHERE") ts
-  x ← block_at rest
-  p ← only_triple x.0
-  Some (p, x.1)
+-- WHERE and its group
+unfoldable pub where_at : Reader (List Part)
+where_at ts = keyword_at (codes "WHERE") ts >>= group_at most_nested
 
 -- INSERT and its template after those of DELETE, or nothing
-unfoldable pub also_at : List Token → Option (List SameSubject × List Token)
-also_at ts = option_map_or block_at (keyword_at (codes "INSERT") ts) (Some ([], ts))
+unfoldable pub also_at : Reader (List Block)
+also_at ts = option_map_or quads_at (keyword_at (codes "INSERT") ts) (Some ([], ts))
 
-unfoldable pub insert_data_at : List Token → Option (Operation × List Token)
+unfoldable pub insert_data_at : Reader Operation
 insert_data_at ts = do
-  x ← block_at ts
-  Some (operation.InsertData x.0, x.1)
+  xs ← quads_at ts
+  Some (operation.InsertData xs.0, xs.1)
 
-unfoldable pub delete_data_at : List Token → Option (Operation × List Token)
+unfoldable pub delete_data_at : Reader Operation
 delete_data_at ts = do
-  x ← block_at ts
-  Some (operation.DeleteData x.0, x.1)
+  xs ← quads_at ts
+  Some (operation.DeleteData xs.0, xs.1)
 
-unfoldable pub insert_at : List Token → Option (Operation × List Token)
-insert_at ts = do
-  x ← block_at ts
-  p ← where_at x.1
-  Some (operation.Modify [] x.0 p.0, p.1)
+unfoldable pub delete_where_at : Reader Operation
+delete_where_at ts = do
+  xs ← quads_at ts
+  Some (operation.DeleteWhere xs.0, xs.1)
 
-unfoldable pub delete_at : List Token → Option (Operation × List Token)
-delete_at ts = do
-  x ← block_at ts
-  y ← also_at x.1
-  p ← where_at y.1
-  Some (operation.Modify x.0 y.0 p.0, p.1)
+unfoldable pub insert_at : Option Name → Reader Operation
+insert_at with ts = do
+  ys ← quads_at ts
+  ps ← where_at ys.1
+  Some (operation.Modify with [] ys.0 ps.0, ps.1)
 
--- what follows INSERT, and DELETE
-unfoldable pub inserted_at : List Token → Option (Operation × List Token)
-inserted_at ts = option_map_or insert_data_at (keyword_at (codes "DATA") ts) (insert_at ts)
+unfoldable pub delete_at : Option Name → Reader Operation
+delete_at with ts = do
+  xs ← quads_at ts
+  ys ← also_at xs.1
+  ps ← where_at ys.1
+  Some (operation.Modify with xs.0 ys.0 ps.0, ps.1)
 
-unfoldable pub deleted_at : List Token → Option (Operation × List Token)
-deleted_at ts = option_map_or delete_data_at (keyword_at (codes "DATA") ts) (delete_at ts)
+unfoldable pub inserted_at : Reader Operation
+inserted_at ts = option_map_or insert_data_at (keyword_at (codes "DATA") ts) (insert_at None ts)
 
-unfoldable pub operation_at : List Token → Option (Operation × List Token)
-operation_at ts = option_map_or inserted_at (keyword_at (codes "INSERT") ts) (keyword_at (codes "DELETE") ts >>= deleted_at)
+unfoldable pub deleted_at : Reader Operation
+deleted_at ts =
+    option_map_or delete_data_at (keyword_at (codes "DATA") ts)
+    (option_map_or delete_where_at (keyword_at (codes "WHERE") ts)
+    (delete_at None ts))
 
-abbrev pub namespace_at : List Token → Option (List ℕ × List Token)
+unfoldable pub change_at : Option Name → Reader Operation
+change_at with ts = option_map_or (insert_at with) (keyword_at (codes "INSERT") ts) (keyword_at (codes "DELETE") ts >>= delete_at with)
+
+unfoldable pub with_at : Reader Operation
+with_at ts = do
+  n ← name_at ts
+  change_at (Some n.0) n.1
+
+-- operations on quads, and on graphs
+unfoldable pub update_at : Reader Operation
+update_at ts =
+    option_map_or inserted_at (keyword_at (codes "INSERT") ts)
+    (option_map_or deleted_at (keyword_at (codes "DELETE") ts)
+    (keyword_at (codes "WITH") ts >>= with_at))
+
+unfoldable pub transferred_at : Reader Operation
+transferred_at ts =
+    option_map_or (transfer_at transfer.Copy) (keyword_at (codes "COPY") ts)
+    (option_map_or (transfer_at transfer.Move) (keyword_at (codes "MOVE") ts)
+    (option_map_or (transfer_at transfer.Add) (keyword_at (codes "ADD") ts)
+    (update_at ts)))
+
+unfoldable pub operation_at : Reader Operation
+operation_at ts =
+    option_map_or create_at (keyword_at (codes "CREATE") ts)
+    (option_map_or drop_at (keyword_at (codes "DROP") ts)
+    (option_map_or clear_at (keyword_at (codes "CLEAR") ts)
+    (transferred_at ts)))
+
+-- ---- requests
+
+abbrev pub namespace_at : Reader (List ℕ)
 namespace_at (token.Name p [] ∷ ts) = Some (p, ts)
 namespace_at ts = None
 
-abbrev pub reference_at : List Token → Option (List ℕ × List Token)
+abbrev pub reference_at : Reader (List ℕ)
 reference_at (token.Iri i ∷ ts) = Some (i, ts)
 reference_at ts = None
 
 -- a namespace and its IRI
-unfoldable pub declared_at : List Token → Option (Step × List Token)
+unfoldable pub declared_at : Reader Step
 declared_at ts = do
   p ← namespace_at ts
   i ← reference_at p.1
@@ -187,13 +182,13 @@ ended_at [] = Some []
 ended_at (token.Sign signs.Semicolon ∷ ts) = Some ts
 ended_at ts = None
 
-unfoldable pub done_at : List Token → Option (Step × List Token)
+unfoldable pub done_at : Reader Step
 done_at ts = do
   x ← operation_at ts
   rest ← ended_at x.1
   Some (step.Do x.0, rest)
 
-unfoldable pub step_at : List Token → Option (Step × List Token)
+unfoldable pub step_at : Reader Step
 step_at ts = option_map_or declared_at (keyword_at (codes "PREFIX") ts) (done_at ts)
 
 -- the reading of the tokens and no other; or they have none; or memory ran out

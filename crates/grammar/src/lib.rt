@@ -1,15 +1,13 @@
-//! The grammar of requests: prologues, `INSERT DATA`, `DELETE DATA`, and `DELETE` and `INSERT` with a `WHERE` of one triple pattern, of IRIs,
-//! prefixed names and variables.
+//! The grammar of requests: prologues, operations on graphs and on quads, and their templates, data and groups (SPARQL 1.1 Update, 19.8).
 //!
-//! Stands on `lexer`, `syntax_trees` and `sets`. Used above: `parse` gives the one reading of a text, or the text has none.
+//! Stands on `groups`, `triples`, `productions`, `lexer` and `syntax_trees`. Used above: `parse` gives the one reading of a text, or the text
+//! has none.
 #![tactic(auto)]
 
-mod block;
+mod graphs;
 pub mod laws;
-mod nodes;
-mod objects;
 mod operation;
-mod pattern;
 mod request;
+mod updates;
 
 pub use request::parse;

@@ -1,12 +1,13 @@
 //! Declarations of prefixes, and requests.
 ghost use Rattle.std.specs.Prelude.{◌≡◌, MatchOption, IfOk, None, Some};
 ghost use Rattle.grammar.specs.Reads.{IsParsed};
-ghost use Rattle.grammar.specs.Reading.{Gives, namespace_at, reference_at, declared_at, ended_at, done_at, step_at, AreRead, IsRead};
+ghost use Rattle.productions.specs.Steps.{Gives};
+ghost use Rattle.grammar.specs.Reading.{namespace_at, reference_at, declared_at, ended_at, done_at, step_at, AreRead, IsRead};
 
-use crate::block::after_keyword;
-use crate::objects::kept;
+use crate::laws::quads_and_groups_are_read;
 use crate::operation::operation_at;
 use lexer::{IriText, Piece, Sign, Stop, Token, tokens};
+use productions::{after_keyword, kept};
 use sets::Items;
 use std::alloc::{AllocError, Global};
 use syntax_trees::{Step, Syntax};
@@ -93,6 +94,7 @@ fn step_at<'t, 'a>(
 fn steps_of<'a>(alloc: Global, tokens: &[Token<'a>]) -> Result<Items<Step<'a>>, Stop>
     ensures { AreRead tokens.now result }
 {
+    quads_and_groups_are_read();
     let mut found = Items::new(alloc);
     let mut rest = tokens;
     while !rest.is_empty() {

@@ -10,16 +10,18 @@ use Rattle.std.proofs.lemmas.Bool.{eqb-true, and_parts, not-false}
 use Rattle.std.proofs.lemmas.Option.{same_Some, none-some}
 use Rattle.std.proofs.lemmas.List.{append-nil, nil_from_length}
 use Rattle.iris.specs.Runs.{run_of, rest_of, RunsAreLongest}
-use Rattle.iris.specs.Bracketed.{IrisAreRead}
-use Rattle.iris.specs.Iri.{is_letter}
+use Rattle.iris.specs.Iri.{is_letter, is_digit}
 use Rattle.lexer.specs.declared.token.Token.{Token}
 use Rattle.lexer.specs.declared.token.Sign.{Sign}
 use Rattle.lexer.specs.declared.token.Sign.TheVariants as signs
-use Rattle.lexer.specs.Names.{IsPrefix, IsWord}
-use Rattle.lexer.specs.Form.{IsToken, iri, name, variable, word, sign, sign_byte}
+use Rattle.lexer.specs.Names.{IsPrefix, IsWord, AreDigits}
+use Rattle.lexer.specs.Strings.{is_quote}
+use Rattle.lexer.specs.Form.{IsToken, iri, name, variable, blank, string, tag, integer, word, sign, sign_text}
 use Rattle.lexer.specs.Cut.{is_space, is_inner, is_line_end, AtLineEnd, IsLongest, Cuts, end, space, comment, token}
-use Rattle.lexer.specs.Reading.{skip_from, token_at}
-use Rattle.lexer.proofs.TokenLaws.{of_marks, run-rest, all-run, token_found, longest_found, longest_again, none_begins}
+use Rattle.lexer.specs.Reading.{skip_from, token_at, NoneAhead}
+use Rattle.lexer.proofs.ByteLaws.{test_ne, run-rest, all-run}
+use Rattle.lexer.proofs.TokenLaws.{of_marks, token_found, longest_found, longest_again, none_begins}
+use Rattle.lexer.proofs.EdgeLaws.{edge_after, edge_skip}
 
 -- ---- white space and comments
 
@@ -43,34 +45,57 @@ skip_line_end [] at = refl
 skip_line_end (b ∷ bs) at = ap (λ t. cond t (skip_from true bs) (skip_from false bs)) at ∙ sym (ap (λ t. cond t (skip_from false bs) (cond (eqb b 35) (skip_from true bs) (b ∷ bs))) (line_end_space b at))
 
 -- a token begins with neither white space nor `#`
-letter_ne : (b n : ℕ) → is_letter n ≡ false → is_letter b ≡ true → eqb b n ≡ false
-letter_ne b n no_letter h = elim (eqb b n) as (λ t. eqb b n ≡ t → t ≡ false) [ true ↦ λ e. sym h ∙ ap is_letter (eqb-true b n e) ∙ no_letter | false ↦ λ e. refl ] refl
+class_start : (p : ℕ → Bool) → p 32 ≡ false → p 9 ≡ false → p 13 ≡ false → p 10 ≡ false → p 35 ≡ false → (b : ℕ) (bs : List ℕ) → p b ≡ true → skip_from false (b ∷ bs) ≡ b ∷ bs
+class_start p blank_space tab cr lf hash b bs h =
+    let no_space : is_space b ≡ false = λ i. (test_ne p b 32 blank_space h i || test_ne p b 9 tab h i) || (test_ne p b 13 cr h i || test_ne p b 10 lf h i) in
+    ap (λ t. cond t (skip_from false bs) (cond (eqb b 35) (skip_from true bs) (b ∷ bs))) no_space
+    ∙ ap (λ t. cond t (skip_from true bs) (b ∷ bs)) (test_ne p b 35 hash h)
 
 letter_start : (b : ℕ) (bs : List ℕ) → is_letter b ≡ true → skip_from false (b ∷ bs) ≡ b ∷ bs
-letter_start b bs h =
-    let no_space : is_space b ≡ false = λ i. (letter_ne b 32 refl h i || letter_ne b 9 refl h i) || (letter_ne b 13 refl h i || letter_ne b 10 refl h i) in
-    ap (λ t. cond t (skip_from false bs) (cond (eqb b 35) (skip_from true bs) (b ∷ bs))) no_space
-    ∙ ap (λ t. cond t (skip_from true bs) (b ∷ bs)) (letter_ne b 35 refl h)
+letter_start = class_start is_letter refl refl refl refl refl
 
 word_start : (w rest : List ℕ) → IsWord w → skip_from false (w ++ rest) ≡ w ++ rest
 word_start [] rest is = absurd is
 word_start (b ∷ bs) rest is = letter_start b (bs ++ rest) is.0
 
-sign_start : (s : Sign) (rest : List ℕ) → skip_from false (sign_byte s ∷ rest) ≡ sign_byte s ∷ rest
+digits_start : (n rest : List ℕ) → AreDigits n → skip_from false (n ++ rest) ≡ n ++ rest
+digits_start [] rest are = absurd are
+digits_start (b ∷ bs) rest are = class_start is_digit refl refl refl refl refl b (bs ++ rest) (and_parts (is_digit b) (list_all is_digit bs) are).0
+
+sign_start : (s : Sign) (rest : List ℕ) → skip_from false (sign_text s ++ rest) ≡ sign_text s ++ rest
 sign_start signs.OpenBrace rest = refl
 sign_start signs.CloseBrace rest = refl
+sign_start signs.OpenParen rest = refl
+sign_start signs.CloseParen rest = refl
 sign_start signs.Dot rest = refl
 sign_start signs.Semicolon rest = refl
 sign_start signs.Comma rest = refl
+sign_start signs.Carets rest = refl
+sign_start signs.Equal rest = refl
+sign_start signs.NotEqual rest = refl
+sign_start signs.Less rest = refl
+sign_start signs.Greater rest = refl
+sign_start signs.LessEqual rest = refl
+sign_start signs.GreaterEqual rest = refl
+sign_start signs.Ampersands rest = refl
+sign_start signs.Bars rest = refl
+sign_start signs.Bang rest = refl
+sign_start signs.Plus rest = refl
+sign_start signs.Minus rest = refl
+sign_start signs.Star rest = refl
 
 name_start : (p l rest : List ℕ) → IsPrefix p → skip_from false ((p ++ 58 ∷ l) ++ rest) ≡ (p ++ 58 ∷ l) ++ rest
 name_start [] l rest is = refl
 name_start (b ∷ p) l rest is = letter_start b ((p ++ 58 ∷ l) ++ rest) is.0
 
-token_start : {front : List ℕ} {t : Token} (rest : List ℕ) → IsToken front t → skip_from false (front ++ rest) ≡ front ++ rest
+token_start : {front after : List ℕ} {t : Token} (rest : List ℕ) → IsToken front after t → skip_from false (front ++ rest) ≡ front ++ rest
 token_start rest (iri is) = refl
 token_start rest (name {p} {l} prefix local) = name_start p l rest prefix
 token_start rest (variable {m} {v} mark is) = of_marks (λ m. skip_from false (m ∷ (v ++ rest)) ≡ m ∷ (v ++ rest)) refl refl m mark
+token_start rest (blank is) = refl
+token_start rest (string {quote = q} written quote s utf8) = class_start is_quote refl refl refl refl refl q ((written ++ q ∷ []) ++ rest) quote
+token_start rest (tag is) = refl
+token_start rest (integer {n} are _) = digits_start n rest are
 token_start rest (word {w} is) = word_start w rest is
 token_start rest (sign s) = sign_start s rest
 
@@ -145,12 +170,42 @@ word_len : (w : List ℕ) → IsWord w → 0 < length w
 word_len [] is = absurd is
 word_len (b ∷ bs) is = omega arith
 
-token_len : {front : List ℕ} {t : Token} → IsToken front t → 0 < length front
+digits_len : (n : List ℕ) → AreDigits n → 0 < length n
+digits_len [] are = absurd are
+digits_len (b ∷ bs) are = omega arith
+
+sign_len : (s : Sign) → 0 < length (sign_text s)
+sign_len signs.OpenBrace = omega arith
+sign_len signs.CloseBrace = omega arith
+sign_len signs.OpenParen = omega arith
+sign_len signs.CloseParen = omega arith
+sign_len signs.Dot = omega arith
+sign_len signs.Semicolon = omega arith
+sign_len signs.Comma = omega arith
+sign_len signs.Carets = omega arith
+sign_len signs.Equal = omega arith
+sign_len signs.NotEqual = omega arith
+sign_len signs.Less = omega arith
+sign_len signs.Greater = omega arith
+sign_len signs.LessEqual = omega arith
+sign_len signs.GreaterEqual = omega arith
+sign_len signs.Ampersands = omega arith
+sign_len signs.Bars = omega arith
+sign_len signs.Bang = omega arith
+sign_len signs.Plus = omega arith
+sign_len signs.Minus = omega arith
+sign_len signs.Star = omega arith
+
+token_len : {front after : List ℕ} {t : Token} → IsToken front after t → 0 < length front
 token_len (iri {i} is) = omega arith
 token_len (name {p} {l} prefix local) = omega (arith, length-append p (58 ∷ l))
 token_len (variable {m} {v} mark is) = omega arith
+token_len (blank is) = omega arith
+token_len (string {quote = q} written quote s utf8) = omega arith
+token_len (tag is) = omega arith
+token_len (integer {n} are _) = digits_len n are
 token_len (word {w} is) = word_len w is
-token_len (sign s) = omega arith
+token_len (sign s) = sign_len s
 
 no_front : (front rest : List ℕ) → [] ≡ front ++ rest → 0 < length front → ⊥
 no_front [] rest e some = omega arith
@@ -170,9 +225,9 @@ cut_done text before rest so_far none =
 pub is_stuck : (text : List ℕ) (r : Result (Vec Token) Stop) (e : Stop) → r ≡ Err e → e ≡ stop.NoReading → ((ts : List Token) → Cuts text ts → ⊥) → IsCut text r
 is_stuck text r e r-is e-is nothing = subst (λ r. IsCut text r) (sym (r-is ∙ ap (λ (e : Stop). let r : Result (Vec Token) Stop = Err e in r) e-is)) nothing
 
--- ---- by the laws of runs, and of IRIs in angle brackets
+-- ---- by the law of runs
 
-module _ (runs : RunsAreLongest) (read : IrisAreRead) where
+module _ (runs : RunsAreLongest) where
   -- what is cut after the white space and comments is cut before them
   mutual
     unskip : (bs : List ℕ) (ts : List Token) → Cuts (skip_from false bs) ts → Cuts bs ts
@@ -198,12 +253,13 @@ module _ (runs : RunsAreLongest) (read : IrisAreRead) where
   cut_start text = record { more = λ later c. unskip text later c; only = λ all c. (all, refl, skipped c); skips = skip_twice false text }
 
   stuck : (rest : List ℕ) (all : List Token) → 0 < length rest → token_at rest ≡ None → BeginsWith rest all → ⊥
-  stuck rest all some e (begins front r u ts is c all-is) = none_begins runs read rest front r u e is.cut is.is
+  stuck rest all some e (begins front r u ts is c all-is) = none_begins runs rest front r u e is.cut is.is is.free
   stuck rest all some e (ends nothing all-is) = let none : length rest ≡ 0 = ap length nothing in omega arith
 
   pub cut_smaller : (rest : List ℕ) (t : Token) (after : List ℕ) → token_at rest ≡ Some (t, after) → length (skip_from false after) < length rest
   cut_smaller rest t after e =
-      let f = token_found runs read rest t after e in
+      let found = token_found runs rest t after e in
+      let f = found.at in
       let some : 0 < length f.front = token_len f.is in
       let whole : length rest ≡ length (f.front ++ after) = ap length f.cut in
       omega (arith, length-append f.front after, skip_len false after)
@@ -212,13 +268,13 @@ module _ (runs : RunsAreLongest) (read : IrisAreRead) where
   first_is : (rest : List ℕ) (t : Token) (after : List ℕ) (all : List Token) → token_at rest ≡ Some (t, after) → BeginsWith rest all → (later : List Token) × (all ≡ t ∷ later) × Cuts after later
   unfolding token_at
   first_is rest t after all e (begins front r u ts is c all-is) =
-      let same = same_Some (u, r) (t, after) (sym (longest_again runs read rest front r u is) ∙ e) in
+      let same = same_Some (u, r) (t, after) (sym (longest_again runs rest front r u is) ∙ e) in
       (ts, all-is ∙ ap (λ (x : Token). x ∷ ts) (ap (λ (y : Token × List ℕ). y.0) same), subst (λ x. Cuts x ts) (ap (λ (y : Token × List ℕ). y.1) same) c)
   first_is rest t after all e (ends nothing all-is) = absurd (none-some (t, after) (ap token_at (sym nothing) ∙ e))
 
   pub cut_more : (text : List ℕ) (before : List Token) (rest : List ℕ) (t : Token) (after : List ℕ) → IsCutSoFar text before rest → token_at rest ≡ Some (t, after) → IsCutSoFar text (before ++ t ∷ []) (skip_from false after)
   cut_more text before rest t after so_far e =
-      let l = longest_found runs read rest t after e in
+      let l = longest_found runs rest t after e in
       record {
         more = λ later c. subst (λ ts. Cuts text ts) (sym (append_assoc before (t ∷ []) later)) (so_far.more (t ∷ later) (token l.1 (unskip after later c)));
         only = λ all c.
@@ -228,13 +284,20 @@ module _ (runs : RunsAreLongest) (read : IrisAreRead) where
         skips = skip_twice false after;
       }
 
+  -- what was known of the text is known of what is left
+  pub cut_edge : (rest : List ℕ) (t : Token) (after : List ℕ) (edge : ℕ) → token_at rest ≡ Some (t, after) → NoneAhead rest edge → NoneAhead (skip_from false after) edge
+  cut_edge rest t after edge e ahead =
+      let found = token_found runs rest t after e in
+      let f = found.at in
+      edge_skip after edge (edge_after rest f.front after edge f.cut ahead)
+
   pub cut_stuck : (text : List ℕ) (before : List Token) (rest : List ℕ) → IsCutSoFar text before rest → 0 < length rest → token_at rest ≡ None → (ts : List Token) → Cuts text ts → ⊥
   cut_stuck text before rest so_far some e ts c =
       let o = so_far.only ts c in
       stuck rest o.0 some e (token_first so_far.skips o.2)
 
   one_first : (rest : List ℕ) (us : List Token) (front after : List ℕ) (t : Token) (ts : List Token) → IsLongest rest front after t → BeginsWith rest us → (later : List Token) × (us ≡ t ∷ later) × Cuts after later
-  one_first rest us front after t ts is other = first_is rest t after us (longest_again runs read rest front after t is) other
+  one_first rest us front after t ts is other = first_is rest t after us (longest_again runs rest front after t is) other
 
   -- a text of at most n bytes, at the place of a token or at its end
   one_from : (n : ℕ) (rest : List ℕ) (ts us : List Token) → length rest < n → BeginsWith rest ts → BeginsWith rest us → ts ≡ us

@@ -1,8 +1,8 @@
 -- The parts of tokens: IRIs are IRIs, and an IRI with a local part after it is one.
-use Rattle.std.proofs.Common.{◌≡◌, ℕ, ◌<◌, true, false, cond, not, ◌&&◌, ◌||◌, eqb, leb, List, [], ◌∷◌, ◌++◌, refl, sym, ap, ◌∙◌, arith, IsUtf8, inl, inr}
+use Rattle.std.proofs.Common.{◌≡◌, ℕ, ◌<◌, true, false, cond, ◌&&◌, ◌||◌, eqb, List, [], ◌∷◌, ◌++◌, refl, ◌∙◌, arith, IsUtf8, inl, inr}
 use Rattle.std.specs.Prelude.{All}
 use Rattle.std.specs.List.{list_all, AllByRecursion}
-use Rattle.std.proofs.lemmas.Bool.{or_cases, and_parts, and_from, not-false, leb-true, eqb-true, agree_below_at}
+use Rattle.std.proofs.lemmas.Bool.{or_cases, and_parts, and_from, eqb-true}
 use Rattle.std.proofs.lemmas.Str.{IsUtf8-append, IsUtf8-from_ascii}
 use Rattle.std.proofs.lemmas.Str.Ascii.{IsAscii-from_all}
 use Rattle.std.proofs.lemmas.List.Elements.{All-from_recursion}
@@ -10,21 +10,12 @@ use Rattle.std.proofs.lemmas.List.Folds.{list_all-append}
 use Rattle.iris.specs.Iri.{is_letter, is_digit, is_scheme_byte, is_iri_byte, after_first, IsIri}
 use Rattle.lexer.specs.declared.token.Token.{Token}
 use Rattle.lexer.specs.Names.{is_name_byte, IsLocal}
-use Rattle.lexer.specs.Form.{IsToken, iri, name, variable, word, sign, HasParts}
+use Rattle.lexer.specs.Form.{IsToken, iri, name, variable, blank, string, tag, integer, word, sign, HasParts}
 use Rattle.lexer.specs.Cut.{Cuts, end, space, comment, token as token_cut}
-use Rattle.lexer.proofs.TokenLaws.{start_name, all_weaker}
+use Rattle.lexer.proofs.ByteLaws.{letter_small, digit_small, start_name, all_weaker, by_trial}
+use Rattle.lexer.proofs.StringLaws.{spelled_is_utf8}
 
 -- ---- bytes of names
-
-letter_small : (b : ℕ) → is_letter b ≡ true → b < 128
-letter_small b e =
-    elim (or_cases (leb 65 b && leb b 90) (leb 97 b && leb b 122) e) [
-      | inl h ↦ let at_most = leb-true b 90 (and_parts (leb 65 b) (leb b 90) h).1 in omega arith
-      | inr h ↦ let at_most = leb-true b 122 (and_parts (leb 97 b) (leb b 122) h).1 in omega arith
-    ]
-
-digit_small : (b : ℕ) → is_digit b ≡ true → b < 128
-digit_small b e = let at_most = leb-true b 57 (and_parts (leb 48 b) (leb b 57) e).1 in omega arith
 
 name_small : (b : ℕ) → is_name_byte b ≡ true → b < 128
 name_small b e =
@@ -38,9 +29,7 @@ name_small b e =
 
 -- an IRI may hold each byte of a name
 name_iri : (b : ℕ) → is_name_byte b ≡ true → is_iri_byte b ≡ true
-name_iri b e =
-    let none_fails : (is_name_byte b && not (is_iri_byte b)) ≡ false = agree_below_at (λ x. is_name_byte x && not (is_iri_byte x)) (λ x. false) 128 b refl (name_small b e) in
-    not-false (is_iri_byte b) (ap (λ t. t && not (is_iri_byte b)) (sym e) ∙ none_fails)
+name_iri b e = by_trial is_name_byte is_iri_byte refl b (name_small b e) e
 
 names_small : (bs : List ℕ) → list_all is_name_byte bs ≡ true → AllByRecursion (λ b. b < 128) bs
 names_small [] e = tt
@@ -76,10 +65,14 @@ iri_with_local (b ∷ bs) l is local =
 
 -- ---- tokens
 
-token_parts : {front : List ℕ} {t : Token} → IsToken front t → HasParts t
+token_parts : {front rest : List ℕ} {t : Token} → IsToken front rest t → HasParts t
 token_parts (iri {i} is) = is
 token_parts (name {p} {l} prefix local) = local
 token_parts (variable {m} {v} mark is) = tt
+token_parts (blank is) = is
+token_parts (string written quote s utf8) = spelled_is_utf8 s utf8
+token_parts (tag is) = is
+token_parts (integer are ends) = are
 token_parts (word {w} is) = tt
 token_parts (sign s) = tt
 

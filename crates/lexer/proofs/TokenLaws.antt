@@ -1,108 +1,60 @@
 -- What is read as a token is the longest one, and where a token begins a text one is read.
-use Rattle.std.proofs.Common.{◌≡◌, ℕ, ◌≤◌, ◌<◌, Bool, true, false, cond, ◌||◌, eqb, List, [], ◌∷◌, ◌++◌, length, take, drop, Option, Some, None, refl, sym, ap, ◌∙◌, subst, arith, append_assoc, length-append, ◌⊎◌, inl, inr}
-use Rattle.std.specs.Prelude.{unwrap_or}
-use Rattle.std.specs.Option.{option_map}
+use Rattle.std.proofs.Common.{◌≡◌, ℕ, ◌+◌, ◌≤◌, ◌<◌, Bool, true, false, cond, not, ◌&&◌, eqb, ltb, List, [], ◌∷◌, ◌++◌, map, length, get_or, Option, Some, None, unwrap_or, refl, sym, ap, ◌∙◌, subst, arith, append_assoc, length-append, ◌⊎◌, inl, inr, IsUtf8}
+use Rattle.std.specs.Char.{to_ascii_lowercase}
+use Rattle.std.specs.Str.{is_utf8}
 use Rattle.std.specs.List.{list_all}
-use Rattle.std.proofs.lemmas.Bool.{eqb-true, and_parts, or_cases}
-use Rattle.std.proofs.lemmas.List.{take_at, drop_at}
+use Rattle.std.proofs.lemmas.Bool.{eqb-true, and_parts, and_from, or_cases, lt-ltb}
 use Rattle.std.proofs.lemmas.Option.{same_Some, none-some, cond_some}
-use Rattle.iris.specs.Iri.{is_letter, is_digit}
-use Rattle.iris.specs.Runs.{run_of, rest_of, IsRun, RunsAreLongest}
-use Rattle.iris.specs.Bracketed.{iri_at, IrisAreRead}
+use Rattle.std.proofs.lemmas.Str.{IsUtf8-from_is_utf8, is_utf8-from_IsUtf8}
+use Rattle.iris.specs.Iri.{is_letter, is_digit, is_iri_byte, is_iri, IsIri}
+use Rattle.iris.specs.Runs.{run_of, rest_of, Stops, RunsAreLongest}
+use Rattle.iris.specs.Forms.{is_label, is_tag}
 use Rattle.lexer.specs.declared.token.Token.{Token}
 use Rattle.lexer.specs.declared.token.Token.TheVariants as token
 use Rattle.lexer.specs.declared.token.Sign.{Sign}
 use Rattle.lexer.specs.declared.token.Sign.TheVariants as signs
-use Rattle.lexer.specs.Names.{is_name_byte, is_local_start, is_variable_start, is_variable_byte, IsPrefix, IsLocal, IsVariable, IsWord}
-use Rattle.lexer.specs.Form.{sign_byte, is_variable_mark, IsToken, iri, name, variable, word, sign}
+use Rattle.lexer.specs.Names.{is_name_byte, is_local_start, is_variable_start, is_variable_byte, IsPrefix, IsLocal, IsVariable, IsWord, AreDigits}
+use Rattle.lexer.specs.Strings.{is_quote, Spells}
+use Rattle.lexer.specs.Form.{sign_text, is_variable_mark, begins_with_digit, continues_integer, EndsInteger, IsBarred, quotes, no_iri, IsToken, iri, name, variable, blank, string, tag, integer, word, sign}
 use Rattle.lexer.specs.Cut.{IsLongest}
-use Rattle.lexer.specs.Reading.{local_at, name_after, name_or_word, variable_at, sign_of, token_at}
+use Rattle.lexer.specs.Reading.{NoneAhead, local_at, name_after, name_or_word, variable_at, label_at, blank_at, integer_at, tag_of, tag_end, tag_at, begins_with_two, string_at, sign_at, bracketed, angle_at, plain_at, token_at}
+use Rattle.lexer.proofs.ByteLaws.{cut_same, run_longer, all_weaker, by_test, test_ne, digit_no_letter, letter_name, start_name, start_variable, iri_bytes, run-rest, all-run, run_until}
+use Rattle.lexer.proofs.EdgeLaws.{no_name}
+use Rattle.lexer.proofs.SignLaws.{At, exactly, sign_found, one_reached, two_reached}
+use Rattle.lexer.proofs.TagLaws.{tag_is, tag_split, tag_longer}
+use Rattle.lexer.proofs.StringLaws.{of_quotes, string_found, string_again}
 
--- ---- lists
+-- ---- what is read is a token, and no token is barred there
 
-cut_same : (xs ys us vs : List ℕ) → xs ++ us ≡ ys ++ vs → length xs ≡ length ys → (xs ≡ ys) × (us ≡ vs)
-cut_same xs ys us vs e n = (
-  sym (take_at xs us (length xs) refl) ∙ ap (take (length xs)) e ∙ ap (λ k. take k (ys ++ vs)) n ∙ take_at ys vs (length ys) refl,
-  sym (drop_at xs us (length xs) refl) ∙ ap (drop (length xs)) e ∙ ap (λ k. drop k (ys ++ vs)) n ∙ drop_at ys vs (length ys) refl,
-)
-
-run_longer : (p : ℕ → Bool) (xs rest : List ℕ) → list_all p xs ≡ true → length xs ≤ length (run_of p (xs ++ rest))
-run_longer p [] rest all = omega arith
-run_longer p (x ∷ xs) rest all =
-    let h = and_parts (p x) (list_all p xs) all in
-    let below = run_longer p xs rest h.1 in
-    rw h.0 (omega (arith, below))
-
-pub all_weaker : (p q : ℕ → Bool) → ((b : ℕ) → p b ≡ true → q b ≡ true) → (xs : List ℕ) → list_all p xs ≡ true → list_all q xs ≡ true
-all_weaker p q weaker [] all = refl
-all_weaker p q weaker (x ∷ xs) all = let h = and_parts (p x) (list_all p xs) all in rw (weaker x h.0) (all_weaker p q weaker xs h.1)
-
-letter_name : (b : ℕ) → is_letter b ≡ true → is_name_byte b ≡ true
-letter_name b h = ap (λ t. ((t || is_digit b) || eqb b 95) || eqb b 45) h
-
-pub start_name : (b : ℕ) → is_local_start b ≡ true → is_name_byte b ≡ true
-start_name b h = ap (λ t. t || eqb b 45) h
-
-or_true : (b : Bool) → (b || true) ≡ true
-or_true true = refl
-or_true false = refl
-
-start_variable : (b : ℕ) → is_variable_start b ≡ true → is_variable_byte b ≡ true
-start_variable b h = elim (is_letter b) as (λ t. (t || eqb b 95) ≡ true → ((t || is_digit b) || eqb b 95) ≡ true) [ true ↦ λ h. refl | false ↦ λ h. ap (λ t. is_digit b || t) h ∙ or_true (is_digit b) ] h
-
--- ---- signs
-
-sign_step : (b n : ℕ) (s0 s : Sign) (o : Option Sign) → cond (eqb b n) (Some s0) o ≡ Some s → ((b ≡ n) × (s0 ≡ s)) ⊎ (o ≡ Some s)
-sign_step b n s0 s o e = elim (eqb b n) as (λ t. eqb b n ≡ t → cond t (Some s0) o ≡ Some s → ((b ≡ n) × (s0 ≡ s)) ⊎ (o ≡ Some s)) [ true ↦ λ t h. inl (eqb-true b n t, same_Some s0 s h) | false ↦ λ t h. inr h ] refl e
-
-sign_byte_is : (b n : ℕ) (s0 s : Sign) → n ≡ sign_byte s0 → (b ≡ n) × (s0 ≡ s) → b ≡ sign_byte s
-sign_byte_is b n s0 s e h = h.0 ∙ e ∙ ap sign_byte h.1
-
-sign_found : (b : ℕ) (s : Sign) → sign_of b ≡ Some s → b ≡ sign_byte s
-sign_found b s e =
-    let after4 : Option Sign = cond (eqb b 44) (Some signs.Comma) None in
-    let after3 : Option Sign = cond (eqb b 59) (Some signs.Semicolon) after4 in
-    let after2 : Option Sign = cond (eqb b 46) (Some signs.Dot) after3 in
-    let after1 : Option Sign = cond (eqb b 125) (Some signs.CloseBrace) after2 in
-    elim (sign_step b 123 signs.OpenBrace s after1 e) [
-      | inl h ↦ sign_byte_is b 123 signs.OpenBrace s refl h
-      | inr e ↦ elim (sign_step b 125 signs.CloseBrace s after2 e) [
-        | inl h ↦ sign_byte_is b 125 signs.CloseBrace s refl h
-        | inr e ↦ elim (sign_step b 46 signs.Dot s after3 e) [
-          | inl h ↦ sign_byte_is b 46 signs.Dot s refl h
-          | inr e ↦ elim (sign_step b 59 signs.Semicolon s after4 e) [
-            | inl h ↦ sign_byte_is b 59 signs.Semicolon s refl h
-            | inr e ↦ elim (sign_step b 44 signs.Comma s None e) [
-              | inl h ↦ sign_byte_is b 44 signs.Comma s refl h
-              | inr e ↦ absurd cc
-            ]
-          ]
-        ]
-      ]
-    ]
-
--- ---- what is read is a token, and a token at the front of a text is reached
-
-pub record Found (text : List ℕ) (t : Token) (rest : List ℕ) : Type 0 where
+pub record Front (text : List ℕ) (t : Token) (rest : List ℕ) : Type 0 where
   pub front : List ℕ
   pub cut : text ≡ front ++ rest
-  pub is : IsToken front t
+  pub is : IsToken front rest t
+
+pub record Found (text : List ℕ) (t : Token) (rest : List ℕ) : Type 0 where
+  pub at : Front text t rest
+  pub free : IsBarred text → ⊥
+
+front_as : {text : List ℕ} {x y : Token × List ℕ} (front : List ℕ) → x ≡ y → text ≡ front ++ x.1 → IsToken front x.1 x.0 → Front text y.0 y.1
+front_as {text} front e cut is = subst (λ (y : Token × List ℕ). Front text y.0 y.1) e (record { front = front; cut = cut; is = is })
 
 record NameFound (p text : List ℕ) (t : Token) (rest : List ℕ) : Type 0 where
   front : List ℕ
   cut : p ++ text ≡ front ++ rest
-  is : IsToken front t
+  is : IsToken front rest t
   longer : length p < length front
 
-record Reached (f r : List ℕ) (u : Token) : Type 0 where
-  t : Token
-  rest : List ℕ
-  found : token_at (f ++ r) ≡ Some (t, rest)
-  front : List ℕ
-  cut : f ++ r ≡ front ++ rest
-  is : IsToken front t
-  longer : length f ≤ length front
-  same : front ≡ f → t ≡ u
+-- what is read is as long at least as a token that stands there
+at_split : (o : Option (Token × List ℕ)) (f r front rest : List ℕ) (u : List ℕ → Token) → o ≡ Some (u front, rest) → front ++ rest ≡ f ++ r → length f ≤ length front → At o r (u f)
+at_split o f r front rest u found cut longer =
+    let whole : length (front ++ rest) ≡ length (f ++ r) = ap length cut in
+    record {
+      t = u front;
+      rest = rest;
+      found = found;
+      less = omega (arith, length-append front rest, length-append f r);
+      same = λ e. ap u (let n : length rest ≡ length r = ap length e in (cut_same front f rest r cut (omega (arith, length-append front rest, length-append f r))).0);
+    }
 
 abbrev by_start : Bool → ℕ → List ℕ → List ℕ × List ℕ
 by_start t b bs = cond t (run_of is_name_byte (b ∷ bs), rest_of is_name_byte (b ∷ bs)) ([], b ∷ bs)
@@ -112,43 +64,15 @@ unfolding local_at
 local_longer [] rest is = omega arith
 local_longer (b ∷ bs) rest is = subst (λ t. length (b ∷ bs) ≤ length (by_start t b (bs ++ rest)).0) (sym is.0) (run_longer is_name_byte (b ∷ bs) rest (rw (start_name b is.0) is.1))
 
-map_some : {A B : Type 0} (f : A → B) (o : Option A) (y : B) → option_map f o ≡ Some y → (x : A) × (o ≡ Some x) × (f x ≡ y)
-map_some f None y e = absurd cc
-map_some f (Some x) y e = (x, refl, same_Some (f x) y e)
+-- ---- which token is read, by the first byte
 
-abbrev iri_token : List ℕ × List ℕ → Token × List ℕ
-iri_token x = (token.Iri x.0, x.1)
+letter_at : (b : ℕ) (bs : List ℕ) → is_letter b ≡ true → token_at (b ∷ bs) ≡ Some (name_or_word (b ∷ bs))
+unfolding token_at plain_at
+letter_at b bs h = rw (test_ne is_letter b 34 refl h, test_ne is_letter b 39 refl h, test_ne is_letter b 60 refl h, h) refl
 
-abbrev sign_token : List ℕ → Sign → Token × List ℕ
-sign_token rest s = (token.Sign s, rest)
-
-letter_reached : (b : ℕ) (bs r : List ℕ) → is_letter b ≡ true → token_at (b ∷ bs) ≡ Some (name_or_word (b ∷ bs))
-unfolding token_at
-letter_reached b bs r h = rw h refl
-
-iri_reached : (i r : List ℕ) → IsToken (60 ∷ (i ++ 62 ∷ [])) (token.Iri i) → iri_at (60 ∷ (i ++ 62 ∷ r)) ≡ Some (i, r) → Reached (60 ∷ (i ++ 62 ∷ [])) r (token.Iri i)
-unfolding token_at
-iri_reached i r is at = record {
-  t = token.Iri i;
-  rest = r;
-  found = ap (λ (x : List ℕ). token_at (60 ∷ x)) (append_assoc i (62 ∷ []) r) ∙ ap (option_map iri_token) at;
-  front = 60 ∷ (i ++ 62 ∷ []);
-  cut = refl;
-  is = is;
-  longer = omega arith;
-  same = λ e. refl;
-}
-
-sign_at : (s : Sign) (r : List ℕ) → token_at (sign_byte s ∷ r) ≡ Some (token.Sign s, r)
-unfolding token_at
-sign_at signs.OpenBrace r = refl
-sign_at signs.CloseBrace r = refl
-sign_at signs.Dot r = refl
-sign_at signs.Semicolon r = refl
-sign_at signs.Comma r = refl
-
-sign_reached : (s : Sign) (r : List ℕ) → Reached (sign_byte s ∷ []) r (token.Sign s)
-sign_reached s r = record { t = token.Sign s; rest = r; found = sign_at s r; front = sign_byte s ∷ []; cut = refl; is = sign s; longer = omega arith; same = λ e. refl }
+digit_at : (b : ℕ) (bs : List ℕ) → is_digit b ≡ true → token_at (b ∷ bs) ≡ integer_at (b ∷ bs)
+unfolding token_at plain_at
+digit_at b bs h = rw (test_ne is_digit b 34 refl h, test_ne is_digit b 39 refl h, test_ne is_digit b 60 refl h, digit_no_letter b h, h) refl
 
 -- a fact of both marks of a variable
 pub of_marks : (P : ℕ → Type 0) → P 63 → P 36 → (m : ℕ) → is_variable_mark m ≡ true → P m
@@ -158,32 +82,112 @@ of_marks P question dollar m mark =
       | inr h ↦ subst P (sym (eqb-true m 36 h)) dollar
     ]
 
-mark_reached : (bs : List ℕ) (m : ℕ) → is_variable_mark m ≡ true → token_at (m ∷ bs) ≡ variable_at bs
+mark_at : (bs : List ℕ) (m : ℕ) → is_variable_mark m ≡ true → token_at (m ∷ bs) ≡ variable_at bs
+unfolding token_at plain_at
+mark_at bs = of_marks (λ m. token_at (m ∷ bs) ≡ variable_at bs) refl refl
+
+quote_at : (bs : List ℕ) (q : ℕ) → is_quote q ≡ true → token_at (q ∷ bs) ≡ string_at q bs
 unfolding token_at
-mark_reached bs = of_marks (λ m. token_at (m ∷ bs) ≡ variable_at bs) refl refl
+quote_at bs = of_quotes (λ q. token_at (q ∷ bs) ≡ string_at q bs) refl refl
 
-start_reached : (b : ℕ) (bs : List ℕ) → is_variable_start b ≡ true → variable_at (b ∷ bs) ≡ Some (token.Variable (run_of is_variable_byte (b ∷ bs)), rest_of is_variable_byte (b ∷ bs))
+blank_is : (bs : List ℕ) → token_at (95 ∷ 58 ∷ bs) ≡ label_at bs
+unfolding token_at plain_at blank_at
+blank_is bs = refl
+
+tag_is_at : (bs : List ℕ) → token_at (64 ∷ bs) ≡ tag_at bs
+unfolding token_at plain_at
+tag_is_at bs = refl
+
+angle_is : (bs : List ℕ) → token_at (60 ∷ bs) ≡ angle_at bs
+unfolding token_at
+angle_is bs = refl
+
+variable_starts : (b : ℕ) (bs : List ℕ) → is_variable_start b ≡ true → variable_at (b ∷ bs) ≡ Some (token.Variable (run_of is_variable_byte (b ∷ bs)), rest_of is_variable_byte (b ∷ bs))
 unfolding variable_at
-start_reached b bs h = rw h refl
+variable_starts b bs h = rw h refl
 
--- ---- by the laws of runs, and of IRIs in angle brackets
+label_starts : (b : ℕ) (bs : List ℕ) → is_variable_byte b ≡ true → label_at (b ∷ bs) ≡ Some (token.Blank (run_of is_variable_byte (b ∷ bs)), rest_of is_variable_byte (b ∷ bs))
+unfolding label_at
+label_starts b bs h = rw h refl
+
+tag_starts : (b : ℕ) (bs : List ℕ) → is_letter b ≡ true → tag_at (b ∷ bs) ≡ Some (token.Tag (map to_ascii_lowercase (tag_of false (b ∷ bs))), tag_end false (b ∷ bs))
+unfolding tag_at
+tag_starts b bs h = rw h refl
+
+-- a label has a byte or more
+label_of : (b : ℕ) (bs : List ℕ) → list_all is_variable_byte (b ∷ bs) ≡ true → is_label (b ∷ bs) ≡ true
+label_of b bs all = and_from (ltb 0 (length (b ∷ bs))) (list_all is_variable_byte (b ∷ bs)) (lt-ltb 0 (length (b ∷ bs)) (omega arith)) all
+
+label_bytes : (l : List ℕ) → is_label l ≡ true → list_all is_variable_byte l ≡ true
+label_bytes l is = (and_parts (ltb 0 (length l)) (list_all is_variable_byte l) is).1
+
+-- ---- where tokens are barred
+
+-- bytes that an IRI may hold are closed by `>`, and are no IRI
+abbrev bars : List ℕ → List ℕ → Bool
+bars i [] = false
+bars i (c ∷ rest) = eqb c 62 && not (is_iri i)
+
+abbrev starts_quote : List ℕ → Bool
+starts_quote [] = false
+starts_quote (b ∷ bs) = is_quote b
+
+abbrev starts_barred : List ℕ → Bool
+starts_barred [] = false
+starts_barred (b ∷ bs) = eqb b 60 && bars (run_of is_iri_byte bs) (rest_of is_iri_byte bs)
+
+abbrev has_two : List ℕ → Bool
+has_two [] = false
+has_two (b ∷ []) = false
+has_two (b ∷ c ∷ []) = false
+has_two (b ∷ c ∷ d ∷ bs) = eqb c b && eqb d b
+
+two_is : (q : ℕ) (bs : List ℕ) → has_two (q ∷ bs) ≡ begins_with_two q bs
+two_is q [] = refl
+two_is q (b ∷ []) = refl
+two_is q (b ∷ c ∷ bs) = refl
+
+eqb_self : (q : ℕ) → is_quote q ≡ true → eqb q q ≡ true
+eqb_self = of_quotes (λ q. eqb q q ≡ true) refl refl
+
+-- ---- by the law of runs
 
 module _ (runs : RunsAreLongest) where
-  is_run : (p : ℕ → Bool) (xs : List ℕ) → IsRun p xs (run_of p xs) (rest_of p xs)
-  is_run p xs = (runs p xs (run_of p xs) (rest_of p xs)).0 (refl, refl)
+  barred_starts : {text : List ℕ} → IsBarred text → ((starts_quote text ≡ true) × (has_two text ≡ true)) ⊎ (starts_barred text ≡ true)
+  barred_starts (quotes {q} {rest} is) = inl (is, rw (eqb_self q is) refl)
+  barred_starts (no_iri i rest all is) =
+      let x = run_until runs is_iri_byte i 62 rest all refl in
+      inr ((λ j. bars (x.0 j) (x.1 j)) ∙ ap not is)
 
-  pub run-rest : (p : ℕ → Bool) (xs : List ℕ) → run_of p xs ++ rest_of p xs ≡ xs
-  run-rest p xs = let is = is_run p xs in sym is.cut
+  free_other : (b : ℕ) (bs : List ℕ) → is_quote b ≡ false → eqb b 60 ≡ false → IsBarred (b ∷ bs) → ⊥
+  free_other b bs quote angle barred =
+      elim (barred_starts barred) [
+        | inl h ↦ let bad : false ≡ true = sym quote ∙ h.0 in absurd cc
+        | inr h ↦ let bad : false ≡ true = ap (λ t. t && bars (run_of is_iri_byte bs) (rest_of is_iri_byte bs)) (sym angle) ∙ h in absurd cc
+      ]
 
-  pub all-run : (p : ℕ → Bool) (xs : List ℕ) → list_all p (run_of p xs) ≡ true
-  all-run p xs = let is = is_run p xs in is.all
+  free_angle : (bs : List ℕ) → bars (run_of is_iri_byte bs) (rest_of is_iri_byte bs) ≡ false → IsBarred (60 ∷ bs) → ⊥
+  free_angle bs none barred =
+      elim (barred_starts barred) [
+        | inl h ↦ let bad : false ≡ true = h.0 in absurd cc
+        | inr h ↦ let bad : false ≡ true = sym none ∙ h in absurd cc
+      ]
+
+  no_two : (q : ℕ) (bs : List ℕ) → is_quote q ≡ true → begins_with_two q bs ≡ false → IsBarred (q ∷ bs) → ⊥
+  no_two q bs is none barred =
+      elim (barred_starts barred) [
+        | inl h ↦ let bad : true ≡ false = sym h.1 ∙ two_is q bs ∙ none in absurd cc
+        | inr h ↦ let bad : false ≡ true = ap (λ t. t && bars (run_of is_iri_byte bs) (rest_of is_iri_byte bs)) (sym (test_ne is_quote q 60 refl is)) ∙ h in absurd cc
+      ]
+
+  -- ---- names, words, variables, labels and integers
 
   local_found : (text : List ℕ) → ((local_at text).0 ++ (local_at text).1 ≡ text) × IsLocal (local_at text).0
   unfolding local_at
   local_found [] = (refl, tt)
   local_found (b ∷ bs) =
       elim (is_local_start b) as (λ t. is_local_start b ≡ t → ((by_start t b bs).0 ++ (by_start t b bs).1 ≡ b ∷ bs) × IsLocal (by_start t b bs).0) [
-        | true ↦ λ e. (run-rest is_name_byte (b ∷ bs), subst IsLocal (sym (ap (λ t. cond t (b ∷ run_of is_name_byte bs) []) (start_name b e))) (e, all-run is_name_byte bs))
+        | true ↦ λ e. (run-rest runs is_name_byte (b ∷ bs), subst IsLocal (sym (ap (λ t. cond t (b ∷ run_of is_name_byte bs) []) (start_name b e))) (e, all-run runs is_name_byte bs))
         | false ↦ λ e. (refl, tt)
       ] refl
 
@@ -197,198 +201,352 @@ module _ (runs : RunsAreLongest) where
       let l = local_at bs in
       let g = cond_some (eqb b 58) (token.Name p l.0, l.1) (t, rest) e in
       let is = local_found bs in
-      let token-is : token.Name p l.0 ≡ t = ap (λ (x : Token × List ℕ). x.0) g.1 in
       let rest-is : l.1 ≡ rest = ap (λ (x : Token × List ℕ). x.1) g.1 in
       record {
         front = p ++ 58 ∷ l.0;
         cut = ap (λ (x : ℕ). p ++ x ∷ bs) (eqb-true b 58 g.0) ∙ ap (λ (r : List ℕ). p ++ 58 ∷ r) (sym is.0 ∙ ap (λ (r : List ℕ). l.0 ++ r) rest-is) ∙ sym (append_assoc p (58 ∷ l.0) rest);
-        is = subst (λ t. IsToken (p ++ 58 ∷ l.0) t) token-is (name prefix is.1);
+        is = subst (λ (y : Token × List ℕ). IsToken (p ++ 58 ∷ l.0) y.1 y.0) g.1 (name prefix is.1);
         longer = omega (arith, length-append p (58 ∷ l.0));
       }
 
   prefix_is : (b : ℕ) (bs : List ℕ) → is_letter b ≡ true → IsPrefix (run_of is_name_byte (b ∷ bs))
-  prefix_is b bs h = rw (letter_name b h) (h, all-run is_name_byte bs)
+  prefix_is b bs h = rw (letter_name b h) (h, all-run runs is_name_byte bs)
 
   word_is : (b : ℕ) (bs : List ℕ) → is_letter b ≡ true → IsWord (run_of is_letter (b ∷ bs))
-  word_is b bs h = rw h (h, all-run is_letter bs)
+  word_is b bs h = rw h (h, all-run runs is_letter bs)
 
-  letter_found : (b : ℕ) (bs : List ℕ) (t : Token) (rest : List ℕ) → is_letter b ≡ true → name_or_word (b ∷ bs) ≡ (t, rest) → Found (b ∷ bs) t rest
+  letter_found : (b : ℕ) (bs : List ℕ) (t : Token) (rest : List ℕ) → is_letter b ≡ true → name_or_word (b ∷ bs) ≡ (t, rest) → Front (b ∷ bs) t rest
   unfolding name_or_word
   letter_found b bs t rest h e =
       let text : List ℕ = b ∷ bs in
       let word-text : List ℕ = run_of is_letter text in
-      elim (name_after (run_of is_name_byte text) (rest_of is_name_byte text)) as (λ o. name_after (run_of is_name_byte text) (rest_of is_name_byte text) ≡ o → unwrap_or o (token.Word word-text, rest_of is_letter text) ≡ (t, rest) → Found text t rest) [
-        | None ↦ λ o e. record {
-          front = word-text;
-          cut = sym (run-rest is_letter text) ∙ ap (λ (r : List ℕ). word-text ++ r) (ap (λ (x : Token × List ℕ). x.1) e);
-          is = subst (λ t. IsToken word-text t) (ap (λ (x : Token × List ℕ). x.0) e) (word (word_is b bs h));
-        }
+      elim (name_after (run_of is_name_byte text) (rest_of is_name_byte text)) as (λ o. name_after (run_of is_name_byte text) (rest_of is_name_byte text) ≡ o → unwrap_or o (token.Word word-text, rest_of is_letter text) ≡ (t, rest) → Front text t rest) [
+        | None ↦ λ o e. front_as word-text e (sym (run-rest runs is_letter text)) (word (word_is b bs h))
         | Some x ↦ λ o e.
             let n = name_found (run_of is_name_byte text) (rest_of is_name_byte text) t rest (prefix_is b bs h) (o ∙ ap (λ (y : Token × List ℕ). let r : Option (Token × List ℕ) = Some y in r) e) in
-            record { front = n.front; cut = sym (run-rest is_name_byte text) ∙ n.cut; is = n.is }
+            record { front = n.front; cut = sym (run-rest runs is_name_byte text) ∙ n.cut; is = n.is }
       ] refl e
 
   variable_is : (b : ℕ) (bs : List ℕ) → is_variable_start b ≡ true → IsVariable (run_of is_variable_byte (b ∷ bs))
-  variable_is b bs h = rw (start_variable b h) (h, all-run is_variable_byte bs)
+  variable_is b bs h = rw (start_variable b h) (h, all-run runs is_variable_byte bs)
 
-  variable_found : (m : ℕ) (bs : List ℕ) (t : Token) (rest : List ℕ) → is_variable_mark m ≡ true → variable_at bs ≡ Some (t, rest) → Found (m ∷ bs) t rest
+  variable_found : (m : ℕ) (bs : List ℕ) (t : Token) (rest : List ℕ) → is_variable_mark m ≡ true → variable_at bs ≡ Some (t, rest) → Front (m ∷ bs) t rest
   unfolding variable_at
-  variable_found m [] t rest mark e = absurd cc
+  variable_found m [] t rest mark e = absurd (none-some (t, rest) e)
   variable_found m (b ∷ bs) t rest mark e =
       let v : List ℕ = run_of is_variable_byte (b ∷ bs) in
       let g = cond_some (is_variable_start b) (token.Variable v, rest_of is_variable_byte (b ∷ bs)) (t, rest) e in
+      front_as (m ∷ v) g.1 (ap (λ (r : List ℕ). m ∷ r) (sym (run-rest runs is_variable_byte (b ∷ bs)))) (variable mark (variable_is b bs g.0))
+
+  label_is : (b : ℕ) (bs : List ℕ) → is_variable_byte b ≡ true → is_label (run_of is_variable_byte (b ∷ bs)) ≡ true
+  label_is b bs h =
+      let whole : run_of is_variable_byte (b ∷ bs) ≡ b ∷ run_of is_variable_byte bs = ap (λ t. cond t (b ∷ run_of is_variable_byte bs) []) h in
+      subst (λ x. is_label x ≡ true) (sym whole) (label_of b (run_of is_variable_byte bs) (and_from (is_variable_byte b) (list_all is_variable_byte (run_of is_variable_byte bs)) h (all-run runs is_variable_byte bs)))
+
+  pub label_made : (text l : List ℕ) → 1 ≤ length text → is_variable_byte (get_or text 0 0) ≡ true → l ≡ run_of is_variable_byte text → is_label l ≡ true
+  label_made [] l some h e = absurd (omega arith)
+  label_made (b ∷ bs) l some h e = subst (λ x. is_label x ≡ true) (sym e) (label_is b bs h)
+
+  label_found : (bs : List ℕ) (t : Token) (rest : List ℕ) → label_at bs ≡ Some (t, rest) → Front (95 ∷ 58 ∷ bs) t rest
+  unfolding label_at
+  label_found [] t rest e = absurd (none-some (t, rest) e)
+  label_found (b ∷ bs) t rest e =
+      let l : List ℕ = run_of is_variable_byte (b ∷ bs) in
+      let g = cond_some (is_variable_byte b) (token.Blank l, rest_of is_variable_byte (b ∷ bs)) (t, rest) e in
+      front_as (95 ∷ 58 ∷ l) g.1 (ap (λ (r : List ℕ). 95 ∷ 58 ∷ r) (sym (run-rest runs is_variable_byte (b ∷ bs)))) (blank (label_is b bs g.0))
+
+  blank_found : (bs : List ℕ) (t : Token) (rest : List ℕ) → blank_at bs ≡ Some (t, rest) → Front (95 ∷ bs) t rest
+  unfolding blank_at
+  blank_found [] t rest e = absurd (none-some (t, rest) e)
+  blank_found (b ∷ bs) t rest e =
+      by_test (eqb b 58) (label_at bs) None (Some (t, rest)) e
+      (λ h e. subst (λ y. Front (95 ∷ y ∷ bs) t rest) (sym (eqb-true b 58 h)) (label_found bs t rest e))
+      (λ h e. absurd (none-some (t, rest) e))
+
+  digits_are : (b : ℕ) (bs : List ℕ) → is_digit b ≡ true → AreDigits (run_of is_digit (b ∷ bs))
+  digits_are b bs h = subst AreDigits (sym (ap (λ t. cond t (b ∷ run_of is_digit bs) []) h)) (and_from (is_digit b) (list_all is_digit (run_of is_digit bs)) h (all-run runs is_digit bs))
+
+  pub digits_made : (text n : List ℕ) → begins_with_digit text ≡ true → n ≡ run_of is_digit text → AreDigits n
+  digits_made [] n h e = absurd cc
+  digits_made (b ∷ bs) n h e = subst AreDigits (sym e) (digits_are b bs h)
+
+  integer_found : (b : ℕ) (bs : List ℕ) (t : Token) (rest : List ℕ) → is_digit b ≡ true → integer_at (b ∷ bs) ≡ Some (t, rest) → Front (b ∷ bs) t rest
+  unfolding integer_at
+  integer_found b bs t rest h e =
+      let text : List ℕ = b ∷ bs in
+      by_test (continues_integer (rest_of is_digit text)) None (Some (token.Integer (run_of is_digit text), rest_of is_digit text)) (Some (t, rest)) e
+      (λ c e. absurd (none-some (t, rest) e))
+      (λ c e. front_as (run_of is_digit text) (same_Some (token.Integer (run_of is_digit text), rest_of is_digit text) (t, rest) e) (sym (run-rest runs is_digit text)) (integer (digits_are b bs h) c))
+
+  tag_found : (bs : List ℕ) (t : Token) (rest : List ℕ) → tag_at bs ≡ Some (t, rest) → Front (64 ∷ bs) t rest
+  unfolding tag_at
+  tag_found [] t rest e = absurd (none-some (t, rest) e)
+  tag_found (b ∷ bs) t rest e =
+      let w : List ℕ = tag_of false (b ∷ bs) in
+      let g = cond_some (is_letter b) (token.Tag (map to_ascii_lowercase w), tag_end false (b ∷ bs)) (t, rest) e in
+      front_as (64 ∷ w) g.1 (ap (λ (r : List ℕ). 64 ∷ r) (sym (tag_split false (b ∷ bs)))) (tag (tag_is b bs g.0))
+
+  sign_front : (b : ℕ) (bs : List ℕ) (t : Token) (rest : List ℕ) → sign_at b bs ≡ Some (t, rest) → Front (b ∷ bs) t rest
+  sign_front b bs t rest e = let s = sign_found b bs t rest e in record { front = sign_text s.s; cut = s.cut; is = subst (λ t. IsToken (sign_text s.s) rest t) s.is (sign s.s) }
+
+  plain_found : (b : ℕ) (bs : List ℕ) (t : Token) (rest : List ℕ) → plain_at (b ∷ bs) ≡ Some (t, rest) → Front (b ∷ bs) t rest
+  unfolding plain_at
+  plain_found b bs t rest e =
+      by_test (is_letter b) (Some (name_or_word (b ∷ bs))) _ (Some (t, rest)) e (λ h e. letter_found b bs t rest h (same_Some (name_or_word (b ∷ bs)) (t, rest) e)) (λ h e.
+      by_test (is_digit b) (integer_at (b ∷ bs)) _ (Some (t, rest)) e (λ h e. integer_found b bs t rest h e) (λ h e.
+      by_test (eqb b 58) (name_after [] (b ∷ bs)) _ (Some (t, rest)) e (λ h e. let n = name_found [] (b ∷ bs) t rest tt e in record { front = n.front; cut = n.cut; is = n.is }) (λ h e.
+      by_test (is_variable_mark b) (variable_at bs) _ (Some (t, rest)) e (λ h e. variable_found b bs t rest h e) (λ h e.
+      by_test (eqb b 95) (blank_at bs) _ (Some (t, rest)) e (λ h e. subst (λ y. Front (y ∷ bs) t rest) (sym (eqb-true b 95 h)) (blank_found bs t rest e)) (λ h e.
+      by_test (eqb b 64) (tag_at bs) (sign_at b bs) (Some (t, rest)) e (λ h e. subst (λ y. Front (y ∷ bs) t rest) (sym (eqb-true b 64 h)) (tag_found bs t rest e)) (λ h e.
+      sign_front b bs t rest e))))))
+
+  -- ---- strings, IRIs and signs that begin with `<`
+
+  quote_found : (q : ℕ) (bs : List ℕ) (t : Token) (rest : List ℕ) → is_quote q ≡ true → string_at q bs ≡ Some (t, rest) → Found (q ∷ bs) t rest
+  quote_found q bs t rest is e =
+      let s = string_found q bs t rest e in
       record {
-        front = m ∷ v;
-        cut = ap (λ (r : List ℕ). m ∷ r) (sym (run-rest is_variable_byte (b ∷ bs)) ∙ ap (λ (r : List ℕ). v ++ r) (ap (λ (x : Token × List ℕ). x.1) g.1));
-        is = subst (λ t. IsToken (m ∷ v) t) (ap (λ (x : Token × List ℕ). x.0) g.1) (variable mark (variable_is b bs g.0));
+        at = record {
+          front = q ∷ (s.written ++ q ∷ []);
+          cut = ap (λ (r : List ℕ). q ∷ r) (s.cut ∙ sym (append_assoc s.written (q ∷ []) rest));
+          is = subst (λ t. IsToken (q ∷ (s.written ++ q ∷ [])) rest t) s.is (string s.written is s.spells s.utf8);
+        };
+        free = λ barred. no_two q bs is s.one barred;
       }
 
-  variable_reached : (m : ℕ) (v r : List ℕ) → is_variable_mark m ≡ true → IsVariable v → Reached (m ∷ v) r (token.Variable v)
+  angle_found : (bs : List ℕ) (t : Token) (rest : List ℕ) → angle_at bs ≡ Some (t, rest) → Found (60 ∷ bs) t rest
+  unfolding angle_at
+  angle_found bs t rest e =
+      let i : List ℕ = run_of is_iri_byte bs in
+      let by_sign : bars i (rest_of is_iri_byte bs) ≡ false → sign_at 60 bs ≡ Some (t, rest) → Found (60 ∷ bs) t rest = λ none e. record { at = sign_front 60 bs t rest e; free = free_angle bs none } in
+      elim (rest_of is_iri_byte bs) as (λ r. rest_of is_iri_byte bs ≡ r → bracketed i r bs ≡ Some (t, rest) → Found (60 ∷ bs) t rest) [
+        | [] ↦ λ r e. by_sign (ap (bars i) r) e
+        | c ∷ after ↦ λ r e.
+            by_test (eqb c 62) (cond (is_iri i) (cond (is_utf8 i) (Some (token.Iri i, after)) (sign_at 60 bs)) None) (sign_at 60 bs) (Some (t, rest)) e
+            (λ close e. by_test (is_iri i) (cond (is_utf8 i) (Some (token.Iri i, after)) (sign_at 60 bs)) None (Some (t, rest)) e
+            (λ form e.
+            let none : bars i (rest_of is_iri_byte bs) ≡ false = ap (bars i) r ∙ rw (close, form) refl in
+            by_test (is_utf8 i) (Some (token.Iri i, after)) (sign_at 60 bs) (Some (t, rest)) e
+            (λ utf8 e.
+            let whole : bs ≡ i ++ 62 ∷ after = sym (run-rest runs is_iri_byte bs) ∙ ap (λ (x : List ℕ). i ++ x) (r ∙ ap (λ (y : ℕ). y ∷ after) (eqb-true c 62 close)) in
+            record {
+              at = front_as (60 ∷ (i ++ 62 ∷ [])) (same_Some (token.Iri i, after) (t, rest) e) (ap (λ (x : List ℕ). 60 ∷ x) (whole ∙ sym (append_assoc i (62 ∷ []) after))) (iri (record { utf8 = IsUtf8-from_is_utf8 i utf8; form = form }));
+              free = free_angle bs none;
+            })
+            (λ utf8 e. by_sign none e))
+            (λ form e. absurd (none-some (t, rest) e)))
+            (λ close e. by_sign (ap (bars i) r ∙ rw close refl) e)
+      ] refl e
+
+  pub token_found : (text : List ℕ) (t : Token) (rest : List ℕ) → token_at text ≡ Some (t, rest) → Found text t rest
+  unfolding token_at
+  token_found [] t rest e = absurd (none-some (t, rest) e)
+  token_found (b ∷ bs) t rest e =
+      by_test (is_quote b) (string_at b bs) (cond (eqb b 60) (angle_at bs) (plain_at (b ∷ bs))) (Some (t, rest)) e
+      (λ q e. quote_found b bs t rest q e)
+      (λ q e. by_test (eqb b 60) (angle_at bs) (plain_at (b ∷ bs)) (Some (t, rest)) e
+      (λ a e. subst (λ y. Found (y ∷ bs) t rest) (sym (eqb-true b 60 a)) (angle_found bs t rest e))
+      (λ a e. record { at = plain_found b bs t rest e; free = free_other b bs q a }))
+
+  -- ---- each token is reached
+
+  variable_reached : (m : ℕ) (v r : List ℕ) → is_variable_mark m ≡ true → IsVariable v → At (token_at (m ∷ (v ++ r))) r (token.Variable v)
   variable_reached m [] r mark is = absurd is
   variable_reached m (b ∷ bs) r mark is =
       let text : List ℕ = b ∷ bs ++ r in
-      let v : List ℕ = run_of is_variable_byte text in
-      let longer : length (b ∷ bs) ≤ length v = run_longer is_variable_byte (b ∷ bs) r (rw (start_variable b is.0) is.1) in
-      record {
-        t = token.Variable v;
-        rest = rest_of is_variable_byte text;
-        found = mark_reached text m mark ∙ start_reached b (bs ++ r) is.0;
-        front = m ∷ v;
-        cut = ap (λ (r : List ℕ). m ∷ r) (sym (run-rest is_variable_byte text));
-        is = variable mark (variable_is b (bs ++ r) is.0);
-        longer = omega (arith, longer);
-        same = λ e. ap token.Variable (let tails : v ≡ b ∷ bs = cc in tails);
-      }
+      at_split (token_at (m ∷ text)) (b ∷ bs) r (run_of is_variable_byte text) (rest_of is_variable_byte text) token.Variable (mark_at text m mark ∙ variable_starts b (bs ++ r) is.0) (run-rest runs is_variable_byte text)
+      (run_longer is_variable_byte (b ∷ bs) r (and_from (is_variable_byte b) (list_all is_variable_byte bs) (start_variable b is.0) is.1))
 
-  name_runs : (p l r : List ℕ) → list_all is_name_byte p ≡ true → (run_of is_name_byte (p ++ 58 ∷ (l ++ r)) ≡ p) × (rest_of is_name_byte (p ++ 58 ∷ (l ++ r)) ≡ 58 ∷ (l ++ r))
-  name_runs p l r all = (runs is_name_byte (p ++ 58 ∷ (l ++ r)) p (58 ∷ (l ++ r))).1 (record { cut = refl; all = all; stops = refl })
+  blank_reached : (l r : List ℕ) → is_label l ≡ true → At (token_at (95 ∷ 58 ∷ (l ++ r))) r (token.Blank l)
+  blank_reached [] r is = absurd cc
+  blank_reached (b ∷ bs) r is =
+      let text : List ℕ = b ∷ bs ++ r in
+      let all = label_bytes (b ∷ bs) is in
+      let h = and_parts (is_variable_byte b) (list_all is_variable_byte bs) all in
+      at_split (token_at (95 ∷ 58 ∷ text)) (b ∷ bs) r (run_of is_variable_byte text) (rest_of is_variable_byte text) token.Blank (blank_is text ∙ label_starts b (bs ++ r) h.0) (run-rest runs is_variable_byte text) (run_longer is_variable_byte (b ∷ bs) r all)
 
-  -- the name with all of its local part
-  name_reached : (p l r : List ℕ) → IsPrefix p → IsLocal l → token_at ((p ++ 58 ∷ l) ++ r) ≡ Some (token.Name p (local_at (l ++ r)).0, (local_at (l ++ r)).1) → Reached (p ++ 58 ∷ l) r (token.Name p l)
-  name_reached p l r prefix local found =
-      let m = local_at (l ++ r) in
-      let is = local_found (l ++ r) in
-      let longer = local_longer l r local in
-      record {
-        t = token.Name p m.0;
-        rest = m.1;
-        found = found;
-        front = p ++ 58 ∷ m.0;
-        cut = append_assoc p (58 ∷ l) r ∙ ap (λ (x : List ℕ). p ++ 58 ∷ x) (sym is.0) ∙ sym (append_assoc p (58 ∷ m.0) m.1);
-        is = name prefix is.1;
-        longer = omega (arith, length-append p (58 ∷ l), length-append p (58 ∷ m.0), longer);
-        same = λ e. ap (token.Name p) (let both : (p ≡ p) × (58 ∷ m.0 ≡ 58 ∷ l) = cut_same p p (58 ∷ m.0) (58 ∷ l) e refl in let tails : m.0 ≡ l = cc in tails);
-      }
+  tag_reached : (w r : List ℕ) → is_tag (map to_ascii_lowercase w) ≡ true → At (token_at (64 ∷ (w ++ r))) r (token.Tag (map to_ascii_lowercase w))
+  tag_reached [] r is = absurd cc
+  tag_reached (b ∷ bs) r is =
+      let text : List ℕ = b ∷ bs ++ r in
+      let h = tag_longer b bs r is in
+      at_split (token_at (64 ∷ text)) (b ∷ bs) r (tag_of false text) (tag_end false text) (λ x. token.Tag (map to_ascii_lowercase x)) (tag_is_at text ∙ tag_starts b (bs ++ r) h.0) (tag_split false text) h.1
+
+  stops_digit : (r : List ℕ) → continues_integer r ≡ false → Stops is_digit r
+  stops_digit [] ends = tt
+  stops_digit (b ∷ bs) ends =
+      elim (is_digit b) as (λ t. is_digit b ≡ t → t ≡ false) [
+        | true ↦ λ e. absurd (let bad : true ≡ false = sym (rw (digit_no_letter b e, e) refl) ∙ ends in cc)
+        | false ↦ λ e. refl
+      ] refl
+
+  integer_again : (n r : List ℕ) → run_of is_digit (n ++ r) ≡ n → rest_of is_digit (n ++ r) ≡ r → continues_integer r ≡ false → integer_at (n ++ r) ≡ Some (token.Integer n, r)
+  unfolding integer_at
+  integer_again n r run rest ends = rw (run, rest, ends) refl
+
+  integer_reached : (n r : List ℕ) → AreDigits n → EndsInteger r → At (token_at (n ++ r)) r (token.Integer n)
+  integer_reached [] r are ends = absurd are
+  integer_reached (b ∷ bs) r are ends =
+      let x = (runs is_digit ((b ∷ bs) ++ r) (b ∷ bs) r).1 (record { cut = refl; all = are; stops = stops_digit r ends }) in
+      exactly (token_at (b ∷ bs ++ r)) r (token.Integer (b ∷ bs)) (digit_at b (bs ++ r) (and_parts (is_digit b) (list_all is_digit bs) are).0 ∙ integer_again (b ∷ bs) r x.0 x.1 ends)
 
   token_name : (p l r : List ℕ) → IsPrefix p → token_at ((p ++ 58 ∷ l) ++ r) ≡ Some (token.Name p (local_at (l ++ r)).0, (local_at (l ++ r)).1)
-  unfolding token_at name_after name_or_word
+  unfolding token_at plain_at name_after name_or_word
   token_name [] l r prefix = refl
   token_name (b ∷ bs) l r prefix =
-      let all : list_all is_name_byte (b ∷ bs) ≡ true = rw (letter_name b prefix.0) prefix.1 in
-      let runs = name_runs (b ∷ bs) l r all in
+      let all : list_all is_name_byte (b ∷ bs) ≡ true = and_from (is_name_byte b) (list_all is_name_byte bs) (letter_name b prefix.0) prefix.1 in
+      let x = run_until runs is_name_byte (b ∷ bs) 58 (l ++ r) all refl in
       let text : (b ∷ bs ++ 58 ∷ l) ++ r ≡ (b ∷ bs) ++ 58 ∷ (l ++ r) = append_assoc (b ∷ bs) (58 ∷ l) r in
-      ap token_at text ∙ letter_reached b (bs ++ 58 ∷ (l ++ r)) r prefix.0
-      ∙ ap (λ (x : List ℕ × List ℕ). let o : Option (Token × List ℕ) = Some (unwrap_or (name_after x.0 x.1) (token.Word (run_of is_letter ((b ∷ bs) ++ 58 ∷ (l ++ r))), rest_of is_letter ((b ∷ bs) ++ 58 ∷ (l ++ r)))) in o) (λ i. (runs.0 i, runs.1 i))
+      ap token_at text ∙ letter_at b (bs ++ 58 ∷ (l ++ r)) prefix.0
+      ∙ ap (λ (x : List ℕ × List ℕ). let o : Option (Token × List ℕ) = Some (unwrap_or (name_after x.0 x.1) (token.Word (run_of is_letter ((b ∷ bs) ++ 58 ∷ (l ++ r))), rest_of is_letter ((b ∷ bs) ++ 58 ∷ (l ++ r)))) in o) (λ i. (x.0 i, x.1 i))
 
-  word_reached : (w r : List ℕ) → IsWord w → Reached w r (token.Word w)
+  name_reached : (p l r : List ℕ) → IsPrefix p → IsLocal l → At (token_at ((p ++ 58 ∷ l) ++ r)) r (token.Name p l)
+  name_reached p l r prefix local =
+      let m = local_at (l ++ r) in
+      at_split (token_at ((p ++ 58 ∷ l) ++ r)) l r m.0 m.1 (token.Name p) (token_name p l r prefix) (local_found (l ++ r)).0 (local_longer l r local)
+
+  word_reached : (w r : List ℕ) → IsWord w → At (token_at (w ++ r)) r (token.Word w)
   unfolding name_or_word
   word_reached [] r is = absurd is
   word_reached (b ∷ bs) r is =
       let text : List ℕ = b ∷ bs ++ r in
       let w : List ℕ = run_of is_letter text in
-      let all : list_all is_letter (b ∷ bs) ≡ true = rw (is.0) is.1 in
-      let longer : length (b ∷ bs) ≤ length w = run_longer is_letter (b ∷ bs) r all in
+      let all : list_all is_letter (b ∷ bs) ≡ true = and_from (is_letter b) (list_all is_letter bs) is.0 is.1 in
       let names : length (b ∷ bs) ≤ length (run_of is_name_byte text) = run_longer is_name_byte (b ∷ bs) r (all_weaker is_letter is_name_byte letter_name (b ∷ bs) all) in
-      elim (name_after (run_of is_name_byte text) (rest_of is_name_byte text)) as (λ o. name_after (run_of is_name_byte text) (rest_of is_name_byte text) ≡ o → Reached (b ∷ bs) r (token.Word (b ∷ bs))) [
-        | None ↦ λ o. record {
-          t = token.Word w;
-          rest = rest_of is_letter text;
-          found = letter_reached b (bs ++ r) r is.0 ∙ ap (λ (o : Option (Token × List ℕ)). let r : Option (Token × List ℕ) = Some (unwrap_or o (token.Word w, rest_of is_letter text)) in r) o;
-          front = w;
-          cut = sym (run-rest is_letter text);
-          is = word (word_is b (bs ++ r) is.0);
-          longer = longer;
-          same = λ e. ap token.Word e;
-        }
+      elim (name_after (run_of is_name_byte text) (rest_of is_name_byte text)) as (λ o. name_after (run_of is_name_byte text) (rest_of is_name_byte text) ≡ o → At (token_at text) r (token.Word (b ∷ bs))) [
+        | None ↦ λ o.
+            at_split (token_at text) (b ∷ bs) r w (rest_of is_letter text) token.Word
+            (letter_at b (bs ++ r) is.0 ∙ ap (λ (o : Option (Token × List ℕ)). let r : Option (Token × List ℕ) = Some (unwrap_or o (token.Word w, rest_of is_letter text)) in r) o)
+            (run-rest runs is_letter text) (run_longer is_letter (b ∷ bs) r all)
         | Some x ↦ λ o.
             let n = name_found (run_of is_name_byte text) (rest_of is_name_byte text) x.0 x.1 (prefix_is b (bs ++ r) is.0) o in
+            let whole : length text ≡ length (n.front ++ x.1) = ap length (sym (run-rest runs is_name_byte text) ∙ n.cut) in
             let more : length (run_of is_name_byte text) < length n.front = n.longer in
+            let less : length x.1 < length r = omega (arith, length-append (b ∷ bs) r, length-append n.front x.1) in
             record {
               t = x.0;
               rest = x.1;
-              found = letter_reached b (bs ++ r) r is.0 ∙ ap (λ (o : Option (Token × List ℕ)). let r : Option (Token × List ℕ) = Some (unwrap_or o (token.Word w, rest_of is_letter text)) in r) o;
-              front = n.front;
-              cut = sym (run-rest is_name_byte text) ∙ n.cut;
-              is = n.is;
-              longer = omega arith;
-              same = λ e. absurd (let n : length n.front ≡ length (b ∷ bs) = ap length e in omega arith);
+              found = letter_at b (bs ++ r) is.0 ∙ ap (λ (o : Option (Token × List ℕ)). let r : Option (Token × List ℕ) = Some (unwrap_or o (token.Word w, rest_of is_letter text)) in r) o;
+              less = omega (arith, less);
+              same = λ e. absurd (let n : length x.1 ≡ length r = ap length e in omega (arith, less));
             }
       ] refl
 
-  module _ (read : IrisAreRead) where
-    pub token_found : (text : List ℕ) (t : Token) (rest : List ℕ) → token_at text ≡ Some (t, rest) → Found text t rest
-    unfolding token_at
-    token_found [] t rest e = absurd cc
-    token_found (b ∷ bs) t rest e =
-        let last : Option (Token × List ℕ) = cond (eqb b 60) (option_map iri_token (iri_at (b ∷ bs))) (option_map (sign_token bs) (sign_of b)) in
-        let others : Option (Token × List ℕ) = cond (is_variable_mark b) (variable_at bs) last in
-        elim (is_letter b) as (λ l. is_letter b ≡ l → cond l (Some (name_or_word (b ∷ bs))) (cond (eqb b 58) (name_after [] (b ∷ bs)) others) ≡ Some (t, rest) → Found (b ∷ bs) t rest) [
-          | true ↦ λ l e. letter_found b bs t rest l (same_Some (name_or_word (b ∷ bs)) (t, rest) e)
-          | false ↦ λ l e. elim (eqb b 58) as (λ c. cond c (name_after [] (b ∷ bs)) others ≡ Some (t, rest) → Found (b ∷ bs) t rest) [
-            | true ↦ λ e. let n = name_found [] (b ∷ bs) t rest tt e in record { front = n.front; cut = n.cut; is = n.is }
-            | false ↦ λ e. elim (is_variable_mark b) as (λ m. is_variable_mark b ≡ m → cond m (variable_at bs) last ≡ Some (t, rest) → Found (b ∷ bs) t rest) [
-              | true ↦ λ m e. variable_found b bs t rest m e
-              | false ↦ λ m e. elim (eqb b 60) as (λ c. cond c (option_map iri_token (iri_at (b ∷ bs))) (option_map (sign_token bs) (sign_of b)) ≡ Some (t, rest) → Found (b ∷ bs) t rest) [
-                | true ↦ λ e.
-                    let x = map_some iri_token (iri_at (b ∷ bs)) (t, rest) e in
-                    let i = (read (b ∷ bs) x.0.0 x.0.1).0 x.1 in
-                    let iri-text : List ℕ = 60 ∷ (x.0.0 ++ 62 ∷ []) in
-                    let whole : b ∷ bs ≡ iri-text ++ x.0.1 = i.cut ∙ ap (λ (r : List ℕ). 60 ∷ r) (sym (append_assoc x.0.0 (62 ∷ []) x.0.1)) in
-                    record { front = iri-text; cut = whole ∙ ap (λ (r : List ℕ). iri-text ++ r) (ap (λ (x : Token × List ℕ). x.1) x.2); is = subst (λ t. IsToken iri-text t) (ap (λ (x : Token × List ℕ). x.0) x.2) (iri i.is) }
-                | false ↦ λ e.
-                    let x = map_some (sign_token bs) (sign_of b) (t, rest) e in
-                    record { front = sign_byte x.0 ∷ []; cut = ap (λ (y : ℕ). y ∷ bs) (sign_found b x.0 x.1) ∙ ap (λ (r : List ℕ). sign_byte x.0 ∷ r) (ap (λ (x : Token × List ℕ). x.1) x.2); is = subst (λ t. IsToken (sign_byte x.0 ∷ []) t) (ap (λ (x : Token × List ℕ). x.0) x.2) (sign x.0) }
-              ] e
-            ] refl e
-          ] e
-        ] refl e
+  iri_again : (i r : List ℕ) → IsIri i → angle_at (i ++ 62 ∷ r) ≡ Some (token.Iri i, r)
+  unfolding angle_at
+  iri_again i r is =
+      let x = run_until runs is_iri_byte i 62 r (iri_bytes i is.form).0 refl in
+      (λ j. bracketed (x.0 j) (x.1 j) (i ++ 62 ∷ r)) ∙ rw (is.form, is_utf8-from_IsUtf8 i is.utf8) refl
 
-    reached : {f : List ℕ} {u : Token} (r : List ℕ) → IsToken f u → Reached f r u
-    reached r (iri {i} is) = iri_reached i r (iri is) ((read (60 ∷ (i ++ 62 ∷ r)) i r).1 (record { cut = refl; is = is }))
-    reached r (name {p} {l} prefix local) = name_reached p l r prefix local (token_name p l r prefix)
-    reached r (variable {m} {v} mark is) = variable_reached m v r mark is
-    reached r (word {w} is) = word_reached w r is
-    reached r (sign s) = sign_reached s r
+  iri_reached : (i r : List ℕ) → IsIri i → At (token_at ((60 ∷ (i ++ 62 ∷ [])) ++ r)) r (token.Iri i)
+  iri_reached i r is = exactly (token_at ((60 ∷ (i ++ 62 ∷ [])) ++ r)) r (token.Iri i) (ap (λ (x : List ℕ). token_at (60 ∷ x)) (append_assoc i (62 ∷ []) r) ∙ angle_is (i ++ 62 ∷ r) ∙ iri_again i r is)
 
-    -- what is read is the longest token
-    pub longest_found : (text : List ℕ) (t : Token) (rest : List ℕ) → token_at text ≡ Some (t, rest) → (f : Found text t rest) × IsLongest text f.front rest t
-    longest_found text t rest e =
-        let f = token_found text t rest e in (
-          f,
-          record {
-            cut = f.cut;
-            is = f.is;
-            most = λ other r u cut is.
-                let x = reached r is in
-                let same : x.rest ≡ rest = ap (λ (y : Token × List ℕ). y.1) (same_Some (x.t, x.rest) (t, rest) (sym x.found ∙ ap token_at (sym cut) ∙ e)) in
-                let whole : length (x.front ++ x.rest) ≡ length (f.front ++ rest) = ap length (sym x.cut ∙ sym cut ∙ f.cut) in
-                let rests : length x.rest ≡ length rest = ap length same in
-                let longer : length other ≤ length x.front = x.longer in
-                omega (arith, length-append x.front x.rest, length-append f.front rest);
-          },
-        )
+  -- a sign that begins with `<`, or an IRI, which takes more
+  angle_reached : (bs r : List ℕ) (u : Token) → length bs ≤ length r + 1 → (IsBarred (60 ∷ bs) → ⊥) → At (sign_at 60 bs) r u → At (angle_at bs) r u
+  unfolding angle_at
+  angle_reached bs r u short free at =
+      let i : List ℕ = run_of is_iri_byte bs in
+      elim (rest_of is_iri_byte bs) as (λ x. rest_of is_iri_byte bs ≡ x → At (bracketed i x bs) r u) [
+        | [] ↦ λ x. at
+        | c ∷ after ↦ λ x. elim (eqb c 62) as (λ t. eqb c 62 ≡ t → At (cond t (cond (is_iri i) (cond (is_utf8 i) (Some (token.Iri i, after)) (sign_at 60 bs)) None) (sign_at 60 bs)) r u) [
+          | true ↦ λ close.
+              let whole : i ++ 62 ∷ after ≡ bs = ap (λ (y : List ℕ). i ++ y) (sym (x ∙ ap (λ (y : ℕ). y ∷ after) (eqb-true c 62 close))) ∙ run-rest runs is_iri_byte bs in
+              elim (is_iri i) as (λ t. is_iri i ≡ t → At (cond t (cond (is_utf8 i) (Some (token.Iri i, after)) (sign_at 60 bs)) None) r u) [
+                | true ↦ λ form. elim (is_utf8 i) as (λ t. At (cond t (Some (token.Iri i, after)) (sign_at 60 bs)) r u) [
+                  | true ↦
+                      let some : 0 < length i = (iri_bytes i form).1 in
+                      let n : length (i ++ 62 ∷ after) ≡ length bs = ap length whole in
+                      let less : length after < length r = omega (arith, length-append i (62 ∷ after)) in
+                      record { t = token.Iri i; rest = after; found = refl; less = omega (arith, less); same = λ e. absurd (let m : length after ≡ length r = ap length e in omega (arith, less)) }
+                  | false ↦ at
+                ]
+                | false ↦ λ form. absurd (free (subst (λ y. IsBarred (60 ∷ y)) whole (no_iri i after (all-run runs is_iri_byte bs) form)))
+              ] refl
+          | false ↦ λ close. at
+        ] refl
+      ] refl
 
-    -- the longest token is read
-    pub longest_again : (text front rest : List ℕ) (t : Token) → IsLongest text front rest t → token_at text ≡ Some (t, rest)
-    longest_again text front rest t is =
-        let x = reached rest is.is in
-        let most : length x.front ≤ length front = is.most x.front x.rest x.t (is.cut ∙ x.cut) x.is in
-        let longer : length front ≤ length x.front = x.longer in
-        let same : (x.front ≡ front) × (x.rest ≡ rest) = cut_same x.front front x.rest rest (sym x.cut) (omega arith) in
-        ap token_at is.cut ∙ x.found ∙ (λ i. Some (x.same same.0 i, same.1 i))
+  sign_reached : (s : Sign) (r : List ℕ) → (IsBarred (sign_text s ++ r) → ⊥) → At (token_at (sign_text s ++ r)) r (token.Sign s)
+  unfolding token_at plain_at
+  sign_reached signs.OpenBrace r free = one_reached 123 r signs.OpenBrace refl
+  sign_reached signs.CloseBrace r free = one_reached 125 r signs.CloseBrace refl
+  sign_reached signs.OpenParen r free = one_reached 40 r signs.OpenParen refl
+  sign_reached signs.CloseParen r free = one_reached 41 r signs.CloseParen refl
+  sign_reached signs.Dot r free = one_reached 46 r signs.Dot refl
+  sign_reached signs.Semicolon r free = one_reached 59 r signs.Semicolon refl
+  sign_reached signs.Comma r free = one_reached 44 r signs.Comma refl
+  sign_reached signs.Carets r free = two_reached 94 94 r signs.Carets refl
+  sign_reached signs.Equal r free = one_reached 61 r signs.Equal refl
+  sign_reached signs.NotEqual r free = two_reached 33 61 r signs.NotEqual refl
+  sign_reached signs.Less r free = angle_reached r r (token.Sign signs.Less) (omega arith) free (one_reached 60 r signs.Less refl)
+  sign_reached signs.Greater r free = one_reached 62 r signs.Greater refl
+  sign_reached signs.LessEqual r free = angle_reached (61 ∷ r) r (token.Sign signs.LessEqual) (omega arith) free (two_reached 60 61 r signs.LessEqual refl)
+  sign_reached signs.GreaterEqual r free = two_reached 62 61 r signs.GreaterEqual refl
+  sign_reached signs.Ampersands r free = two_reached 38 38 r signs.Ampersands refl
+  sign_reached signs.Bars r free = two_reached 124 124 r signs.Bars refl
+  sign_reached signs.Bang r free = one_reached 33 r signs.Bang refl
+  sign_reached signs.Plus r free = one_reached 43 r signs.Plus refl
+  sign_reached signs.Minus r free = one_reached 45 r signs.Minus refl
+  sign_reached signs.Star r free = one_reached 42 r signs.Star refl
 
-    -- no token begins a text of which none is read
-    pub none_begins : (text front rest : List ℕ) (t : Token) → token_at text ≡ None → text ≡ front ++ rest → IsToken front t → ⊥
-    none_begins text front rest t e cut is =
-        let x = reached rest is in
-        none-some (x.t, x.rest) (sym e ∙ ap token_at cut ∙ x.found)
+  string_reached : {value : List ℕ} (q : ℕ) (written r : List ℕ) → is_quote q ≡ true → Spells q written value → IsUtf8 written → (IsBarred ((q ∷ (written ++ q ∷ [])) ++ r) → ⊥) → At (token_at ((q ∷ (written ++ q ∷ [])) ++ r)) r (token.Text value)
+  string_reached {value} q written r is s utf8 free =
+      let tail : (written ++ q ∷ []) ++ r ≡ written ++ q ∷ r = append_assoc written (q ∷ []) r in
+      exactly (token_at ((q ∷ (written ++ q ∷ [])) ++ r)) r (token.Text value)
+      (ap (λ (x : List ℕ). token_at (q ∷ x)) tail ∙ quote_at (written ++ q ∷ r) q is ∙ string_again q written value r is s utf8 (subst (λ x. IsBarred (q ∷ x) → ⊥) tail free))
+
+  reached : {f r : List ℕ} {u : Token} → IsToken f r u → (IsBarred (f ++ r) → ⊥) → At (token_at (f ++ r)) r u
+  reached (iri {i} {rest = r} is) free = iri_reached i r is
+  reached (name {p} {l} {rest = r} prefix local) free = name_reached p l r prefix local
+  reached (variable {m} {v} {rest = r} mark is) free = variable_reached m v r mark is
+  reached (blank {l} {rest = r} is) free = blank_reached l r is
+  reached (string {quote = q} written {value} {rest = r} is s utf8) free = string_reached q written r is s utf8 free
+  reached (tag {t = w} {rest = r} is) free = tag_reached w r is
+  reached (integer {n} {rest = r} are ends) free = integer_reached n r are ends
+  reached (word {w} {rest = r} is) free = word_reached w r is
+  reached (sign {rest = r} s) free = sign_reached s r free
+
+  -- what is read is the longest token
+  pub longest_found : (text : List ℕ) (t : Token) (rest : List ℕ) → token_at text ≡ Some (t, rest) → (front : List ℕ) × IsLongest text front rest t
+  longest_found text t rest e =
+      let f = token_found text t rest e in
+      let g = f.at in (
+        g.front,
+        record {
+          cut = g.cut;
+          is = g.is;
+          free = f.free;
+          most = λ other r u cut is.
+              let x = reached is (subst (λ y. IsBarred y → ⊥) cut f.free) in
+              let same : x.rest ≡ rest = ap (λ (y : Token × List ℕ). y.1) (same_Some (x.t, x.rest) (t, rest) (sym x.found ∙ ap token_at (sym cut) ∙ e)) in
+              let rests : length x.rest ≡ length rest = ap length same in
+              let less : length x.rest ≤ length r = x.less in
+              let whole : length (other ++ r) ≡ length (g.front ++ rest) = ap length (sym cut ∙ g.cut) in
+              omega (arith, length-append other r, length-append g.front rest);
+        },
+      )
+
+  -- the longest token is read
+  pub longest_again : (text front rest : List ℕ) (t : Token) → IsLongest text front rest t → token_at text ≡ Some (t, rest)
+  longest_again text front rest t is =
+      let x = reached is.is (subst (λ y. IsBarred y → ⊥) is.cut is.free) in
+      let found : token_at text ≡ Some (x.t, x.rest) = ap token_at is.cut ∙ x.found in
+      let f = token_found text x.t x.rest found in
+      let g = f.at in
+      let most : length g.front ≤ length front = is.most g.front x.rest x.t g.cut g.is in
+      let less : length x.rest ≤ length rest = x.less in
+      let whole : length (front ++ rest) ≡ length (g.front ++ x.rest) = ap length (sym is.cut ∙ g.cut) in
+      let fronts : length g.front ≡ length front = omega (arith, length-append front rest, length-append g.front x.rest) in
+      let same : x.rest ≡ rest = (cut_same g.front front x.rest rest (sym g.cut ∙ is.cut) fronts).1 in
+      found ∙ (λ i. Some (x.same same i, same i))
+
+  -- no token begins a text of which none is read
+  pub none_begins : (text front rest : List ℕ) (t : Token) → token_at text ≡ None → text ≡ front ++ rest → IsToken front rest t → (IsBarred text → ⊥) → ⊥
+  none_begins text front rest t e cut is free =
+      let x = reached is (subst (λ y. IsBarred y → ⊥) cut free) in
+      none-some (x.t, x.rest) (sym e ∙ ap token_at cut ∙ x.found)
+
+-- a word, where no name begins
+pub word_read : (text : List ℕ) (edge : ℕ) → NoneAhead text edge → edge < length text → name_or_word text ≡ (token.Word (run_of is_letter text), rest_of is_letter text)
+unfolding name_or_word
+word_read text edge ahead more = ap (λ (o : Option (Token × List ℕ)). unwrap_or o (token.Word (run_of is_letter text), rest_of is_letter text)) (no_name text (run_of is_name_byte text) edge ahead more)

@@ -3,7 +3,7 @@
 use Rattle.std.specs.Prelude.{ℕ, ◌≡◌, ◌==◌, ◌||◌, ◌≤◌, not, Bool, true, false, List, [], ◌∷◌, ◌++◌, length}
 use Rattle.std.specs.List.{list_all}
 use Rattle.lexer.specs.declared.token.Token.{Token}
-use Rattle.lexer.specs.Form.{IsToken}
+use Rattle.lexer.specs.Form.{IsBarred, IsToken}
 
 -- CR and LF
 abbrev pub is_line_end : ℕ → Bool
@@ -21,11 +21,12 @@ abbrev pub AtLineEnd : List ℕ → Type 0
 AtLineEnd [] = Unit {0}
 AtLineEnd (b ∷ bs) = is_inner b ≡ false
 
--- the text is this token and a rest, and no token with which the text begins takes more
+-- the text is this token and a rest, no token is barred here, and none with which the text begins takes more
 pub record IsLongest (text front rest : List ℕ) (t : Token) : Type 0 where
   pub cut : text ≡ front ++ rest
-  pub is : IsToken front t
-  pub most : (other after : List ℕ) (u : Token) → text ≡ other ++ after → IsToken other u → length other ≤ length front
+  pub is : IsToken front rest t
+  pub free : IsBarred text → ⊥
+  pub most : (other after : List ℕ) (u : Token) → text ≡ other ++ after → IsToken other after u → length other ≤ length front
 
 pub data Cuts : List ℕ → List Token → Type 0 where
   end : Cuts [] []

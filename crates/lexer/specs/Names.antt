@@ -36,3 +36,8 @@ IsVariable (b ∷ bs) = (is_variable_start b ≡ true) × (list_all is_variable_
 abbrev pub IsWord : List ℕ → Type 0
 IsWord [] = ⊥
 IsWord (b ∷ bs) = (is_letter b ≡ true) × (list_all is_letter bs ≡ true)
+
+-- one digit or more
+abbrev pub AreDigits : List ℕ → Type 0
+AreDigits [] = ⊥
+AreDigits (b ∷ bs) = list_all is_digit (b ∷ bs) ≡ true

@@ -1,20 +1,21 @@
 //! All tokens of a text.
 ghost use Rattle.std.specs.Prelude.{◌≡◌, IfOk, IfErr, Some, None};
-ghost use Rattle.lexer.specs.Reading.{token_at};
+ghost use Rattle.lexer.specs.Reading.{NoneAhead, token_at};
 ghost use Rattle.lexer.specs.Gives.{IsCut};
 
-use crate::scan::{skip, token_at};
+use crate::scan::{edge_at, skip, token_at};
 use crate::stop::Stop;
 use crate::token::Token;
-use iris::laws::{iris_are_read, runs_are_longest};
+use iris::laws::runs_are_longest;
 use std::alloc::Global;
 
 /// The longest token at the front of a text, and what follows it.
-fn longest(text: &[u8]) -> Result<(Token<'_>, &[u8]), Stop>
+fn longest(text: &[u8], edge: usize) -> Result<(Token<'_>, &[u8]), Stop>
+    requires { NoneAhead text.now edge }
     ensures found { IfOk result (λ x. token_at text.now ≡ Some (x.0, x.1.now)) }
     ensures none { IfErr result (λ e. (e ≡ Stop.NoReading) × (token_at text.now ≡ None)) }
 {
-    match token_at(text) {
+    match token_at(text, edge) {
         Some(found) => Ok(found),
         None => Err(Stop::NoReading),
     }
@@ -24,11 +25,12 @@ fn tokens_of(alloc: Global, text: &[u8]) -> Result<Vec<Token<'_>>, Stop>
     ensures { IsCut text.now result }
 {
     runs_are_longest();
-    iris_are_read();
     let mut tokens = Vec::new(alloc);
     let mut rest = skip(text);
+    let mut edge = rest.len();
     while !rest.is_empty() {
-        let (token, after) = longest(rest)?;
+        edge = edge_at(rest, edge);
+        let (token, after) = longest(rest, edge)?;
         tokens.push(token)?;
         rest = skip(after);
     }

@@ -6,17 +6,16 @@ ghost use Rattle.lexer.specs.Names.{IsLocal};
 ghost use Rattle.lexer.specs.Form.{HasParts};
 ghost use Rattle.lexer.specs.Cut.{Cuts};
 
-use iris::laws::{iris_are_read, runs_are_longest};
+use iris::laws::runs_are_longest;
 
 /// A text is cut into at most one list of tokens.
 pub fn one_cut()
     ensures { (text : List ℕ) (ts us : List Token) → Cuts text ts → Cuts text us → ts ≡ us }
 {
     runs_are_longest();
-    iris_are_read();
 }
 
-/// The IRIs of a text's tokens are IRIs, and their local parts are local parts.
+/// The parts of a text's tokens have their forms: IRIs are IRIs, local parts are local parts, strings are UTF-8, tags are in lower case.
 pub fn tokens_have_parts()
     ensures { (text : List ℕ) (ts : List Token) → Cuts text ts → All HasParts ts }
 {}

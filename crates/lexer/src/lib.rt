@@ -1,4 +1,4 @@
-//! The tokens of a request: IRIs, prefixed names, variables, words and signs, as slices of its text.
+//! The tokens of a request, as slices of its text.
 //!
 //! Stands on `iris`. Used above: `tokens` gives the one list of tokens that the text is cut into, or there is none.
 #![tactic(auto)]
@@ -6,11 +6,15 @@
 mod cut;
 pub mod laws;
 mod pieces;
+mod runs;
 mod scan;
+mod signs;
 mod stop;
+mod strings;
+mod tags;
 mod token;
 
 pub use cut::tokens;
-pub use pieces::{IriText, LocalPart, Piece};
+pub use pieces::{Digits, IriText, Label, LocalPart, Piece, Quoted, Tag};
 pub use stop::Stop;
 pub use token::{Sign, Token};

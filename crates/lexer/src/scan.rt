@@ -1,76 +1,21 @@
 //! One token.
-ghost use Rattle.std.specs.Prelude.{◌≡◌, ◌≤◌, ◌∷◌, length, MatchOption, Some, None, false};
-ghost use Rattle.std.specs.List.{prefix_len};
+ghost use Rattle.std.specs.Prelude.{◌≡◌, MatchOption, Some, None, true, false};
 ghost use Rattle.iris.specs.Iri.{is_letter};
 ghost use Rattle.iris.specs.Runs.{run_of, rest_of};
-ghost use Rattle.lexer.specs.Names.{is_name_byte, is_local_start, is_variable_start, is_variable_byte};
-ghost use Rattle.lexer.specs.Cut.{is_inner, is_space};
-ghost use Rattle.lexer.specs.Reading.{skip_from, local_at, name_after, name_or_word, variable_at, sign_of, token_at};
+ghost use Rattle.lexer.specs.declared.token.Token.{Token};
+ghost use Rattle.lexer.specs.declared.token.Token.TheVariants as token;
+ghost use Rattle.lexer.specs.Names.{is_local_start, is_variable_start};
+ghost use Rattle.lexer.specs.Form.{begins_with_digit, continues_integer};
+ghost use Rattle.lexer.specs.Reading.{begins_with_colon, NoneAhead, skip_from, local_at, name_after, name_or_word, variable_at, label_at, blank_at, integer_at, angle_at, plain_at, token_at};
 
-use crate::pieces::{IriText, LocalPart, Piece};
-use crate::token::{Sign, Token};
-use iris::front_iri;
-use iris::laws::{run_by_length, runs_are_longest};
-
-fn is_name_byte(b: u8) -> bool
-    ensures { result ≡ is_name_byte b }
-{
-    b.is_ascii_alphanumeric() || b == b'_' || b == b'-'
-}
-
-fn name_len(text: &[u8]) -> usize
-    ensures within { result ≤ length text.now }
-    ensures run { result ≡ prefix_len is_name_byte text.now }
-{
-    text.iter().take_while(|b| is_name_byte(**b)).count()
-}
-
-/// The name bytes at the front of a text, and the rest.
-fn cut_name(text: &[u8]) -> (&[u8], &[u8])
-    ensures front { result.0.now ≡ run_of is_name_byte text.now }
-    ensures rest { result.1.now ≡ rest_of is_name_byte text.now }
-{
-    run_by_length();
-    text.split_at(name_len(text))
-}
-
-fn letter_len(text: &[u8]) -> usize
-    ensures within { result ≤ length text.now }
-    ensures run { result ≡ prefix_len is_letter text.now }
-{
-    text.iter().take_while(|b| b.is_ascii_alphabetic()).count()
-}
-
-/// The letters at the front of a text, and the rest.
-fn cut_word(text: &[u8]) -> (&[u8], &[u8])
-    ensures front { result.0.now ≡ run_of is_letter text.now }
-    ensures rest { result.1.now ≡ rest_of is_letter text.now }
-{
-    run_by_length();
-    text.split_at(letter_len(text))
-}
-
-fn is_variable_byte(b: u8) -> bool
-    ensures { result ≡ is_variable_byte b }
-{
-    b.is_ascii_alphanumeric() || b == b'_'
-}
-
-fn variable_len(text: &[u8]) -> usize
-    ensures within { result ≤ length text.now }
-    ensures run { result ≡ prefix_len is_variable_byte text.now }
-{
-    text.iter().take_while(|b| is_variable_byte(**b)).count()
-}
-
-/// The bytes of a variable at the front of a text, and the rest.
-fn cut_variable(text: &[u8]) -> (&[u8], &[u8])
-    ensures front { result.0.now ≡ run_of is_variable_byte text.now }
-    ensures rest { result.1.now ≡ rest_of is_variable_byte text.now }
-{
-    run_by_length();
-    text.split_at(variable_len(text))
-}
+use crate::pieces::{Digits, IriText, Label, LocalPart, Piece};
+use crate::runs::{cut_digits, cut_iri, cut_name, cut_variable, cut_word, is_variable_byte};
+use crate::signs::sign_at;
+use crate::strings::string_at;
+use crate::tags::tag_at;
+use crate::token::Token;
+use iris::laws::runs_are_longest;
+use iris::{is_iri, is_utf8};
 
 /// What follows white space and comments.
 pub fn skip(text: &[u8]) -> &[u8]
@@ -126,6 +71,54 @@ fn name_after<'a>(prefix: &'a [u8], text: &'a [u8]) -> Option<(Token<'a>, &'a [u
     Some((name, rest))
 }
 
+fn begins_with_colon(text: &[u8]) -> bool
+    ensures { result ≡ begins_with_colon text.now }
+{
+    matches!(text, [b':', ..])
+}
+
+/// So many bytes at a text's end, before which no run of name bytes is a prefix. No run without a colon is looked through twice.
+pub fn edge_at(text: &[u8], edge: usize) -> usize
+    requires { NoneAhead text.now edge }
+    ensures { NoneAhead text.now result }
+{
+    match text {
+        [first, ..] if text.len() <= edge && first.is_ascii_alphabetic() => {
+            let (_, rest) = cut_name(text);
+            if begins_with_colon(rest) {
+                edge
+            } else {
+                rest.len()
+            }
+        }
+        _ => edge,
+    }
+}
+
+fn word_at(text: &[u8]) -> (Token<'_>, &[u8])
+    ensures word { result.0 ≡ token.Word (run_of is_letter text.now) }
+    ensures rest { result.1.now ≡ rest_of is_letter text.now }
+{
+    let (word, rest) = cut_word(text);
+    (Token::Word(Piece::new(word)), rest)
+}
+
+/// A prefixed name or a word, at a text that begins with a letter.
+#[tactic(auto, unfolding(crate::specs::Reading::name_or_word))]
+fn name_or_word(text: &[u8], edge: usize) -> (Token<'_>, &[u8])
+    requires { NoneAhead text.now edge }
+    ensures { (result.0, result.1.now) ≡ name_or_word text.now }
+{
+    if text.len() > edge {
+        return word_at(text);
+    }
+    let (prefix, rest) = cut_name(text);
+    match name_after(prefix, rest) {
+        Some(found) => found,
+        None => word_at(text),
+    }
+}
+
 fn is_variable_start(b: u8) -> bool
     ensures { result ≡ is_variable_start b }
 {
@@ -146,50 +139,111 @@ fn variable_at(text: &[u8]) -> Option<(Token<'_>, &[u8])>
     }
 }
 
-fn sign_of(b: u8) -> Option<Sign>
-    ensures { result ≡ sign_of b }
+/// The label whose `_:` stands before a text, and what follows it.
+#[tactic(auto, unfolding(crate::specs::Reading::label_at))]
+fn label_at(text: &[u8]) -> Option<(Token<'_>, &[u8])>
+    ensures { MatchOption result (label_at text.now ≡ None) (λ x. label_at text.now ≡ Some (x.0, x.1.now)) }
 {
-    match b {
-        b'{' => Some(Sign::OpenBrace),
-        b'}' => Some(Sign::CloseBrace),
-        b'.' => Some(Sign::Dot),
-        b';' => Some(Sign::Semicolon),
-        b',' => Some(Sign::Comma),
+    match text {
+        [first, ..] if is_variable_byte(*first) => {
+            let (label, rest) = cut_variable(text);
+            runs_are_longest();
+            Some((Token::Blank(Label::new(label)), rest))
+        }
         _ => None,
     }
 }
 
-/// A prefixed name or a word, at a text that begins with a letter.
-#[tactic(auto, unfolding(crate::specs::Reading::name_or_word))]
-fn name_or_word(text: &[u8]) -> (Token<'_>, &[u8])
-    ensures { (result.0, result.1.now) ≡ name_or_word text.now }
+/// The blank node label whose `_` stands before a text, and what follows it.
+#[tactic(auto, unfolding(crate::specs::Reading::blank_at))]
+fn blank_at(text: &[u8]) -> Option<(Token<'_>, &[u8])>
+    ensures { MatchOption result (blank_at text.now ≡ None) (λ x. blank_at text.now ≡ Some (x.0, x.1.now)) }
 {
-    let (prefix, rest) = cut_name(text);
-    match name_after(prefix, rest) {
-        Some(found) => found,
-        None => {
-            let (word, rest) = cut_word(text);
-            (Token::Word(Piece::new(word)), rest)
-        }
+    match text {
+        [b':', after @ ..] => label_at(after),
+        _ => None,
+    }
+}
+
+fn begins_with_digit(text: &[u8]) -> bool
+    ensures { result ≡ begins_with_digit text.now }
+{
+    match text {
+        [first, ..] => first.is_ascii_digit(),
+        [] => false,
+    }
+}
+
+/// Whether what follows some digits keeps them from being an integer.
+fn continues_integer(text: &[u8]) -> bool
+    ensures { result ≡ continues_integer text.now }
+{
+    match text {
+        [] => false,
+        [first, rest @ ..] => is_variable_byte(*first)
+            || (*first == b'.' && begins_with_digit(rest)),
+    }
+}
+
+/// The integer at a text that begins with a digit, and what follows it.
+#[tactic(auto, unfolding(crate::specs::Reading::integer_at))]
+fn integer_at(text: &[u8]) -> Option<(Token<'_>, &[u8])>
+    requires { begins_with_digit text.now ≡ true }
+    ensures { MatchOption result (integer_at text.now ≡ None) (λ x. integer_at text.now ≡ Some (x.0, x.1.now)) }
+{
+    let (digits, rest) = cut_digits(text);
+    if continues_integer(rest) {
+        return None;
+    }
+    runs_are_longest();
+    Some((Token::Integer(Digits::new(digits)), rest))
+}
+
+/// The IRI or the sign whose `<` stands before a text, and what follows it.
+#[tactic(auto, unfolding(crate::specs::Reading::angle_at))]
+fn angle_at(text: &[u8]) -> Option<(Token<'_>, &[u8])>
+    ensures { MatchOption result (angle_at text.now ≡ None) (λ x. angle_at text.now ≡ Some (x.0, x.1.now)) }
+{
+    let (iri, rest) = cut_iri(text);
+    match rest {
+        [b'>', ..] if !is_iri(iri) => None,
+        [b'>', after @ ..] if is_utf8(iri) => Some((Token::Iri(IriText::new(iri)), after)),
+        _ => sign_at(b'<', text),
+    }
+}
+
+/// The token at the front of a text that begins with neither a quote nor `<`, and what follows it.
+#[tactic(auto, unfolding(crate::specs::Reading::plain_at))]
+fn plain_at(text: &[u8], edge: usize) -> Option<(Token<'_>, &[u8])>
+    requires { NoneAhead text.now edge }
+    ensures { MatchOption result (plain_at text.now ≡ None) (λ x. plain_at text.now ≡ Some (x.0, x.1.now)) }
+{
+    let [first, after @ ..] = text else {
+        return None;
+    };
+    match *first {
+        b'A'..=b'Z' | b'a'..=b'z' => Some(name_or_word(text, edge)),
+        b'0'..=b'9' => integer_at(text),
+        b':' => name_after(&[], text),
+        b'?' | b'$' => variable_at(after),
+        b'_' => blank_at(after),
+        b'@' => tag_at(after),
+        b => sign_at(b, after),
     }
 }
 
 /// The token at the front of a text, and what follows it.
 #[tactic(auto, unfolding(crate::specs::Reading::token_at))]
-pub fn token_at(text: &[u8]) -> Option<(Token<'_>, &[u8])>
+pub fn token_at(text: &[u8], edge: usize) -> Option<(Token<'_>, &[u8])>
+    requires { NoneAhead text.now edge }
     ensures { MatchOption result (token_at text.now ≡ None) (λ x. token_at text.now ≡ Some (x.0, x.1.now)) }
 {
     let [first, after @ ..] = text else {
         return None;
     };
     match *first {
-        b'A'..=b'Z' | b'a'..=b'z' => Some(name_or_word(text)),
-        b':' => name_after(&[], text),
-        b'?' | b'$' => variable_at(after),
-        b'<' => {
-            let (iri, after) = front_iri(text)?;
-            Some((Token::Iri(IriText::new(iri)), after))
-        }
-        b => Some((Token::Sign(sign_of(b)?), after)),
+        b'"' | b'\'' => string_at(*first, after),
+        b'<' => angle_at(after),
+        _ => plain_at(text, edge),
     }
 }

@@ -1,5 +1,8 @@
-//! Worked examples through the whole engine, over memory: a base and a block in, the dataset, the replies and the fault out.
+//! Worked examples through the whole engines, over memory: a base and a block in, the dataset, the replies and the fault out; and a block in,
+//! its verdicts and the fault out.
 #![tactic(auto)]
 
+#[cfg(test)]
+mod checks;
 #[cfg(test)]
 mod tests;

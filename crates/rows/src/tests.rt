@@ -15,7 +15,7 @@ struct Answer {
     replies: Vec<u8>,
 }
 
-fn status_of(outcome: &Result<(), Fault>) -> u8 {
+pub(crate) fn status_of(outcome: &Result<(), Fault>) -> u8 {
     match outcome {
         Ok(()) => 0,
         Err(fault) => fault.status(),
@@ -49,7 +49,7 @@ fn answer_to<T: Wait>(rt: &T, alloc: Global, base: &[u8], block: &[u8], workers:
 /// A base, a block, the status, the new dataset and the replies.
 type Row = (&'static str, &'static str, u8, &'static str, &'static str);
 
-const ROWS: [Row; 21] = [
+const ROWS: [Row; 25] = [
     ("", "", 0, "", ""),
     ("", "\n", 0, "", "0 ok +0 -0\n"),
     (
@@ -114,13 +114,13 @@ const ROWS: [Row; 21] = [
         "<http://e/a> <http://e/loop> <http://e/a> .\n<http://e/a> <http://e/p> <http://e/a> .\n<http://e/a> <http://e/p> <http://e/b> .\n",
         "0 ok +1 -0\n",
     ),
-    // A group of two triple patterns, or of none, is not there yet.
+    // A group of two triple patterns is not there yet; one of none has the empty mapping.
     (
         "",
         "PREFIX ex: <http://e/> INSERT { ?x ex:q ?y } WHERE { ?x ex:p ?y . ?y ex:p ?x }\n----\nINSERT { } WHERE { }",
         0,
         "",
-        "0 refused syntax\n1 refused syntax\n",
+        "0 refused syntax\n1 ok +0 -0\n",
     ),
     // What a request makes is seen by those after it.
     (
@@ -165,7 +165,39 @@ const ROWS: [Row; 21] = [
         "DELETE WHERE { ?s ?p ?o }\n----\nINSERT { ?s ?p ?o } WHERE { ?s ?p ?o . ?o ?p ?s }\n----\nINSERT { ?s ?p ?o } WHERE { }",
         0,
         "",
-        "0 refused syntax\n1 refused syntax\n2 refused syntax\n",
+        "0 ok +0 -0\n1 refused syntax\n2 ok +0 -0\n",
+    ),
+    // Literals: integers keep their digits, tags are put in lower case, xsd:string is not written.
+    (
+        "<http://e/a> <http://e/p> \"01\"^^<http://www.w3.org/2001/XMLSchema#integer> .\n",
+        "PREFIX ex: <http://e/> INSERT DATA { ex:a ex:p 1 , 'x\\ty'@EN-gb , \"z\"^^<http://www.w3.org/2001/XMLSchema#string> , true }\n----\nPREFIX ex: <http://e/> DELETE { ?s ex:p 01 } WHERE { ?s ex:p 1 }",
+        0,
+        "<http://e/a> <http://e/p> \"1\"^^<http://www.w3.org/2001/XMLSchema#integer> .\n<http://e/a> <http://e/p> \"true\"^^<http://www.w3.org/2001/XMLSchema#boolean> .\n<http://e/a> <http://e/p> \"x\ty\"@en-gb .\n<http://e/a> <http://e/p> \"z\" .\n",
+        "0 ok +4 -0\n1 ok +0 -1\n",
+    ),
+    // A literal is no subject.
+    (
+        "<http://e/a> <http://e/p> \"1\" .\n<http://e/a> <http://e/p> <http://e/b> .\n",
+        "PREFIX ex: <http://e/> INSERT { ?o ex:q ?s } WHERE { ?s ex:p ?o }",
+        0,
+        "<http://e/a> <http://e/p> \"1\" .\n<http://e/a> <http://e/p> <http://e/b> .\n<http://e/b> <http://e/q> <http://e/a> .\n",
+        "0 ok +1 -0\n",
+    ),
+    // Each kind of refusal is looked for in the whole request before the next kind.
+    (
+        "",
+        "PREFIX ex: <http://e/> INSERT DATA { ex:a ex:p 1 }\n----\nPREFIX ex: <http://e/> INSERT DATA { ?x ex:p 1 }\n----\nDELETE DATA { nope:a nope:b 1 }",
+        0,
+        "<http://e/a> <http://e/p> \"1\"^^<http://www.w3.org/2001/XMLSchema#integer> .\n",
+        "0 ok +1 -0\n1 refused variable-in-data\n2 refused prefix\n",
+    ),
+    // Graphs and made nodes can be checked and not run yet.
+    (
+        "",
+        "INSERT DATA { GRAPH <x:g> { <x:a> <x:p> 1 } }\n----\nINSERT DATA { _:a <x:p> 1 }\n----\nCREATE GRAPH <x:g>\n----\nWITH <x:g> DELETE { ?s ?p ?o } WHERE { ?s ?p ?o }",
+        0,
+        "",
+        "0 refused syntax\n1 refused syntax\n2 refused syntax\n3 refused syntax\n",
     ),
 ];
 
@@ -240,7 +272,7 @@ fn bases(rt: HostRuntime) {
 }
 
 /// A block of this many separator lines.
-fn separators(alloc: Global, count: u32) -> Result<Vec<u8>, AllocError> {
+pub(crate) fn separators(alloc: Global, count: u32) -> Result<Vec<u8>, AllocError> {
     let mut block = Vec::new(alloc);
     for _line in 0..count {
         block.extend_from_slice(b"----\n")?;
@@ -248,7 +280,7 @@ fn separators(alloc: Global, count: u32) -> Result<Vec<u8>, AllocError> {
     Ok(block)
 }
 
-fn line_count(text: &[u8]) -> usize {
+pub(crate) fn line_count(text: &[u8]) -> usize {
     text.iter().filter(|b| **b == b'\n').count()
 }
 
@@ -267,9 +299,9 @@ fn many_requests(rt: HostRuntime) -> Result<(), Fail> {
 
 /// A reader that gives one byte at a time, and fails at a read that is counted down to.
 #[derive(Drop)]
-struct Slow<'a> {
-    rest: &'a [u8],
-    good_reads: usize,
+pub(crate) struct Slow<'a> {
+    pub(crate) rest: &'a [u8],
+    pub(crate) good_reads: usize,
 }
 
 impl Read for Slow<'_> {
@@ -291,9 +323,9 @@ impl Read for Slow<'_> {
 
 /// A writer that takes one byte at a time, and fails at a write or a flush that is counted down to.
 #[derive(Drop)]
-struct Narrow {
-    text: Vec<u8>,
-    good_calls: usize,
+pub(crate) struct Narrow {
+    pub(crate) text: Vec<u8>,
+    pub(crate) good_calls: usize,
 }
 
 impl Write for Narrow {

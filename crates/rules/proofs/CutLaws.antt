@@ -1,16 +1,16 @@
 -- Cutting from left to right gives the texts between separators.
-use Rattle.std.proofs.Common.{◌≡◌, ℕ, ◌+◌, ◌-◌, ◌⊎◌, inl, inr, add-one, length-append, length-drop, ◌≤◌, ◌<◌, Bool, true, false, cond, eqb, List, [], ◌∷◌, ◌++◌, length, take, drop, get_or, Result, refl, sym, ap, ◌∙◌, subst, arith, append_assoc}
+use Rattle.std.proofs.Common.{◌≡◌, ℕ, ◌+◌, ◌-◌, ◌⊎◌, inl, inr, add-one, length-append, length-drop, ◌≤◌, ◌<◌, Bool, true, false, cond, eqb, List, [], ◌∷◌, ◌++◌, length, take, drop, get_or, refl, sym, ap, ◌∙◌, subst, arith, append_assoc}
 use Rattle.std.specs.Prelude.{◌&&◌, not, IsUtf8}
 use Rattle.std.specs.List.{onto_first}
 use Rattle.std.specs.Str.{IsCharBoundary}
 use Rattle.std.proofs.lemmas.Bool.{eqb-true, and_parts}
 use Rattle.std.proofs.lemmas.List.{take_at, drop_at, append-nil, nil_from_length}
 use Rattle.std.proofs.lemmas.Str.{IsCharBoundary-before_ascii, IsCharBoundary-after_ascii, IsCharBoundary-end}
-use Rattle.terms.specs.declared.term.Term.{Term}
-use Rattle.meaning.specs.declared.update.Operation.{Operation}
-use Rattle.meaning.specs.declared.reply.Refusal.{Refusal}
-use Rattle.rules.specs.Refusal.{IsChecked}
-use Rattle.rules.specs.Requests.{whole_lines, is_separator, onto_text, texts_of, requests, AreChecked, none, more}
+use Rattle.rules.specs.Requests.{whole_lines, is_separator, onto_text, texts_of, requests, AreEach, none, more, IsBlockText, IsSplitInto}
+use Rattle.std.specs.Prelude.{Ok, Err}
+use Rattle.std.specs.Borrow.{Bor}
+use Rattle.rules.specs.declared.fault.BlockFault.{BlockFault}
+use Rattle.rules.specs.declared.fault.BlockFault.TheVariants as block_fault
 use Rattle.rules.specs.Cutting.{begins_separator, text_from, rest_from, after_separator}
 
 -- ---- separators
@@ -222,24 +222,36 @@ turn_bound count all bs (b ∷ after) rest next after-is rest-is e bound goes =
     let within = rest_shorter bs in
     omega arith
 
-abbrev pub Request : Type 0
-Request = Result (List (Operation Term)) Refusal
+-- where each text gives an answer
+module _ {A : Type 0} (P : List ℕ → A → Type 0) where
+  -- what has its answer, and what is left
+  abbrev pub SoFar : List ℕ → Bool → List A → List ℕ → Type 0
+  SoFar text true found rest = (cs : List A) → AreEach P (texts_of (whole_lines rest)) cs → AreEach P (texts_of (whole_lines text)) (found ++ cs)
+  SoFar text false found rest = AreEach P (texts_of (whole_lines text)) found
 
--- what is checked, and what is left
-abbrev pub SoFar : List ℕ → Bool → List Request → List ℕ → Type 0
-SoFar text true found rest = (cs : List Request) → AreChecked (texts_of (whole_lines rest)) cs → AreChecked (texts_of (whole_lines text)) (found ++ cs)
-SoFar text false found rest = AreChecked (texts_of (whole_lines text)) found
+  pub answered_next : (text : List ℕ) (found : List A) (rest request after : List ℕ) (c : A) (goes_on : Bool) → SoFar text true found rest → request ≡ text_from true rest → after ≡ rest_from true rest → P request c
+      → goes_on ≡ not (eqb (length after) 0) → SoFar text goes_on (found ++ c ∷ []) (after_separator after)
+  answered_next text found rest request [] c goes_on so_far request-is after-is is e =
+      let texts : texts_of (whole_lines rest) ≡ request ∷ [] = texts_step rest ∙ (let r = sym request-is in let a = sym after-is in λ i. r i ∷ later (a i)) in
+      subst (λ t. SoFar text t (found ++ c ∷ []) (after_separator [])) (sym e) (so_far (c ∷ []) (subst (λ (ts : List (List ℕ)). AreEach P ts (c ∷ [])) (sym texts) (more is none)))
+  answered_next text found rest request (b ∷ after) c goes_on so_far request-is after-is is e =
+      let texts : texts_of (whole_lines rest) ≡ request ∷ texts_of (whole_lines (after_separator (b ∷ after))) = texts_step rest ∙ (let r = sym request-is in let a = sym after-is in λ i. r i ∷ later (a i)) in
+      subst (λ t. SoFar text t (found ++ c ∷ []) (after_separator (b ∷ after))) (sym (e ∙ is_some b after))
+      (λ cs are. subst (λ (all : List A). AreEach P (texts_of (whole_lines text)) all) (sym (append_assoc found (c ∷ []) cs)) (so_far (c ∷ cs) (subst (λ (ts : List (List ℕ)). AreEach P ts (c ∷ cs)) (sym texts) (more is are))))
 
-pub checked_next : (text : List ℕ) (found : List Request) (rest request after : List ℕ) (c : Request) (goes_on : Bool) → SoFar text true found rest → request ≡ text_from true rest → after ≡ rest_from true rest → IsChecked request c
-    → goes_on ≡ not (eqb (length after) 0) → SoFar text goes_on (found ++ c ∷ []) (after_separator after)
-checked_next text found rest request [] c goes_on so_far request-is after-is is e =
-    let texts : texts_of (whole_lines rest) ≡ request ∷ [] = texts_step rest ∙ (let r = sym request-is in let a = sym after-is in λ i. r i ∷ later (a i)) in
-    subst (λ t. SoFar text t (found ++ c ∷ []) (after_separator [])) (sym e) (so_far (c ∷ []) (subst (λ (ts : List (List ℕ)). AreChecked ts (c ∷ [])) (sym texts) (more is none)))
-checked_next text found rest request (b ∷ after) c goes_on so_far request-is after-is is e =
-    let texts : texts_of (whole_lines rest) ≡ request ∷ texts_of (whole_lines (after_separator (b ∷ after))) = texts_step rest ∙ (let r = sym request-is in let a = sym after-is in λ i. r i ∷ later (a i)) in
-    subst (λ t. SoFar text t (found ++ c ∷ []) (after_separator (b ∷ after))) (sym (e ∙ is_some b after))
-    (λ cs are. subst (λ (all : List Request). AreChecked (texts_of (whole_lines text)) all) (sym (append_assoc found (c ∷ []) cs)) (so_far (c ∷ cs) (subst (λ (ts : List (List ℕ)). AreChecked ts (c ∷ cs)) (sym texts) (more is are))))
+  pub nothing_answered : (text : List ℕ) (cs : List A) → length text ≡ 0 → cs ≡ [] → AreEach P (requests text) cs
+  nothing_answered text cs zero nothing =
+      subst (λ (x : List ℕ). AreEach P (requests x) cs) (sym (nil_from_length text zero)) (subst (λ (cs : List A). AreEach P [] cs) (sym nothing) none)
 
-pub nothing_checked : (text : List ℕ) (cs : List Request) → length text ≡ 0 → cs ≡ [] → AreChecked (requests text) cs
-nothing_checked text cs zero nothing =
-    subst (λ (x : List ℕ). AreChecked (requests x) cs) (sym (nil_from_length text zero)) (subst (λ (cs : List Request). AreChecked [] cs) (sym nothing) none)
+-- ---- blocks
+
+pub split_fault : {A : Type 0} (P : List ℕ → A → Type 0) (bytes : List ℕ) (e : BlockFault) → IsBlockText bytes (Err e) → IsSplitInto P bytes (Err e)
+split_fault P bytes block_fault.OutOfMemory h = absurd h
+split_fault P bytes block_fault.TooLong h = h
+split_fault P bytes block_fault.TooManyRequests h = h
+split_fault P bytes block_fault.BadUtf8 h = h
+
+pub split_whole : {A : Type 0} (P : List ℕ → A → Type 0) (bytes : List ℕ) (text : Bor (List ℕ)) (block : List A) → IsBlockText bytes (Ok text) → AreEach P (requests text.now) block → IsSplitInto P bytes (Ok block)
+split_whole P bytes text block h each = (h.1, h.2, h.3, subst (λ (bs : List ℕ). AreEach P (requests bs) block) h.0 each)
+
+pub ruleset splits = (split_fault, split_whole)

@@ -1,5 +1,2 @@
-pub mod NameLaws
-pub mod SpreadLaws
-pub mod Verdicts
+pub mod VerdictLaws
 pub mod CutLaws
-pub mod NamedLaws

@@ -1,13 +1,15 @@
 -- How a block is cut into requests: at each line that is exactly four dashes and an LF. n such lines give
 -- n + 1 requests, and no bytes give none.
-use Rattle.std.specs.Prelude.{ℕ, ◌==◌, ◌&&◌, ◌≤◌, ◌<◌, ◌^◌, Bool, false, List, [], ◌∷◌, ◌++◌, length, Result, Ok, Err, IsUtf8, if◌then◌else◌}
+use Rattle.std.specs.Borrow.{Bor}
+use Rattle.std.specs.Prelude.{ℕ, ◌≡◌, ◌==◌, ◌&&◌, ◌≤◌, ◌<◌, ◌^◌, Bool, false, List, [], ◌∷◌, ◌++◌, length, Option, Result, Ok, Err, IsUtf8, if◌then◌else◌}
 use Rattle.std.specs.List.{onto_first}
 use Rattle.terms.specs.declared.term.Term.{Term}
 use Rattle.meaning.specs.declared.update.Operation.{Operation}
 use Rattle.meaning.specs.declared.reply.Refusal.{Refusal}
 use Rattle.rules.specs.declared.fault.BlockFault.{BlockFault}
 use Rattle.rules.specs.declared.fault.BlockFault.TheVariants as block_fault
-use Rattle.rules.specs.Refusal.{IsChecked}
+use Rattle.rules.specs.Refusal.{IsJudged}
+use Rattle.rules.specs.Runnable.{IsTaken}
 
 -- the lines with their LFs; the last has none, and is [] after an LF at the end
 abbrev pub whole_lines : List ℕ → List (List ℕ)
@@ -31,16 +33,38 @@ abbrev pub requests : List ℕ → List (List ℕ)
 requests [] = []
 requests (b ∷ bs) = texts_of (whole_lines (b ∷ bs))
 
--- each text is checked, in order
-pub data AreChecked : List (List ℕ) → List (Result (List (Operation Term)) Refusal) → Type 0 where
-  none : AreChecked [] []
-  more : {text : List ℕ} {texts : List (List ℕ)} {c : Result (List (Operation Term)) Refusal} {cs : List (Result (List (Operation Term)) Refusal)}
-      → IsChecked text c → AreChecked texts cs → AreChecked (text ∷ texts) (c ∷ cs)
+-- each text gives its answer, in order
+pub data AreEach {A : Type 0} (P : List ℕ → A → Type 0) : List (List ℕ) → List A → Type 0 where
+  none : AreEach P [] []
+  more : {text : List ℕ} {texts : List (List ℕ)} {c : A} {cs : List A} → P text c → AreEach P texts cs → AreEach P (text ∷ texts) (c ∷ cs)
 
--- the block's requests; or the first of three faults that holds: more than 2^28 bytes, more than 4,096 requests, no UTF-8; or memory ran out
+-- the answers of a block's requests; or the first of three faults that holds: more than 2^28 bytes, more than 4,096 requests, no UTF-8; or
+-- memory ran out
+abbrev pub IsSplitInto : {A : Type 0} → (List ℕ → A → Type 0) → List ℕ → Result (List A) BlockFault → Type 0
+IsSplitInto P bytes (Ok block) = (length bytes ≤ 2 ^ 28) × (length (requests bytes) ≤ 4096) × IsUtf8 bytes × AreEach P (requests bytes) block
+IsSplitInto P bytes (Err block_fault.OutOfMemory) = Unit {0}
+IsSplitInto P bytes (Err block_fault.TooLong) = 2 ^ 28 < length bytes
+IsSplitInto P bytes (Err block_fault.TooManyRequests) = (length bytes ≤ 2 ^ 28) × (4096 < length (requests bytes))
+IsSplitInto P bytes (Err block_fault.BadUtf8) = (length bytes ≤ 2 ^ 28) × (length (requests bytes) ≤ 4096) × (IsUtf8 bytes → ⊥)
+
+-- the block's text, or the first of the three faults
+abbrev pub IsBlockText : List ℕ → Result (Bor (List ℕ)) BlockFault → Type 0
+IsBlockText bytes (Ok text) = (text.now ≡ bytes) × (length bytes ≤ 2 ^ 28) × (length (requests bytes) ≤ 4096) × IsUtf8 bytes
+IsBlockText bytes (Err block_fault.OutOfMemory) = ⊥
+IsBlockText bytes (Err block_fault.TooLong) = 2 ^ 28 < length bytes
+IsBlockText bytes (Err block_fault.TooManyRequests) = (length bytes ≤ 2 ^ 28) × (4096 < length (requests bytes))
+IsBlockText bytes (Err block_fault.BadUtf8) = (length bytes ≤ 2 ^ 28) × (length (requests bytes) ≤ 4096) × (IsUtf8 bytes → ⊥)
+
+-- what the run takes of each request
+abbrev pub AreTaken : List (List ℕ) → List (Result (List (Operation Term)) Refusal) → Type 0
+AreTaken = AreEach IsTaken
+
 abbrev pub IsSplit : List ℕ → Result (List (Result (List (Operation Term)) Refusal)) BlockFault → Type 0
-IsSplit bytes (Ok block) = (length bytes ≤ 2 ^ 28) × (length (requests bytes) ≤ 4096) × IsUtf8 bytes × AreChecked (requests bytes) block
-IsSplit bytes (Err block_fault.OutOfMemory) = Unit {0}
-IsSplit bytes (Err block_fault.TooLong) = 2 ^ 28 < length bytes
-IsSplit bytes (Err block_fault.TooManyRequests) = (length bytes ≤ 2 ^ 28) × (4096 < length (requests bytes))
-IsSplit bytes (Err block_fault.BadUtf8) = (length bytes ≤ 2 ^ 28) × (length (requests bytes) ≤ 4096) × (IsUtf8 bytes → ⊥)
+IsSplit = IsSplitInto IsTaken
+
+-- whether each request is refused
+abbrev pub AreJudged : List (List ℕ) → List (Option Refusal) → Type 0
+AreJudged = AreEach IsJudged
+
+abbrev pub AreVerdicts : List ℕ → Result (List (Option Refusal)) BlockFault → Type 0
+AreVerdicts = IsSplitInto IsJudged

@@ -3,7 +3,7 @@ ghost use Rattle.std.specs.Prelude.{◌≡◌, ◌++◌, IfOk, OnOk, length};
 ghost use Rattle.std.specs.List.{flat_map};
 ghost use Rattle.rules.specs.Terms.{terms_of_slot, terms_of_graph, terms_of_quad, terms_of_place, terms_of_pattern, terms_of_plan, terms_of_operation, terms_of_request, terms_of};
 
-use crate::request::Checked;
+use crate::running::Taken;
 use meaning::{Operation, Place, Plan, QuadTemplate, Slot, TriplePattern};
 use sets::Items;
 use std::alloc::{AllocError, Global};
@@ -13,7 +13,7 @@ use terms::Term;
 /// The requests of a block, in order. Contracts see them as a list.
 #[derive(Drop)]
 pub struct Block {
-    requests: Items<Checked>,
+    requests: Items<Taken>,
 }
 
 impl Model for Block {
@@ -29,7 +29,7 @@ impl Model for Block {
 
 impl Block {
     /// The block of these requests. It takes no memory.
-    pub fn new(requests: Items<Checked>) -> Block
+    pub fn new(requests: Items<Taken>) -> Block
         ensures { result ≡ requests }
     {
         Block { requests }
@@ -43,7 +43,7 @@ impl Block {
     }
 
     /// Its requests.
-    pub fn as_slice(&self) -> &[Checked]
+    pub fn as_slice(&self) -> &[Taken]
         ensures { result.now ≡ self.now }
     {
         self.requests.as_slice()
@@ -163,7 +163,7 @@ fn add_operations(
     Ok(())
 }
 
-fn add_request(alloc: Global, found: &mut Vec<Term>, request: &Checked) -> Result<(), AllocError>
+fn add_request(alloc: Global, found: &mut Vec<Term>, request: &Taken) -> Result<(), AllocError>
     ensures { OnOk result (found.new.items ≡ found.old.items ++ terms_of_request request.now) }
 {
     match request {
@@ -172,11 +172,7 @@ fn add_request(alloc: Global, found: &mut Vec<Term>, request: &Checked) -> Resul
     }
 }
 
-fn add_requests(
-    alloc: Global,
-    found: &mut Vec<Term>,
-    requests: &[Checked],
-) -> Result<(), AllocError>
+fn add_requests(alloc: Global, found: &mut Vec<Term>, requests: &[Taken]) -> Result<(), AllocError>
     ensures { OnOk result (found.new.items ≡ found.old.items ++ terms_of requests.now) }
 {
     for request in requests {

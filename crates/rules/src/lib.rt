@@ -1,22 +1,22 @@
-//! What requests are: their translation to operations over terms, what they are refused for, and how a block is cut into requests.
+//! What requests are: updates, or why they are refused; what can be run of them; and how a block is cut into requests.
 //!
-//! Stands on `grammar`, `terms` and `meaning`. Used above: `checked` gives the one request that a text is, `split` the requests of a block.
+//! Stands on `grammar`, `translation` and `meaning`. Used above: `checked` gives the one request that a text is, `split` the requests of a
+//! block, and `verdicts` whether each is refused.
 #![tactic(auto)]
 
 mod block;
 mod cut;
 mod fault;
 pub mod laws;
-mod names;
 mod request;
+mod running;
 mod splitting;
-mod translation;
-mod variables;
 
 pub use block::Block;
 pub use fault::BlockFault;
-pub use request::{Checked, Update, check, checked};
-pub use splitting::split;
+pub use request::{Checked, Update, Verdict, check, checked, judged, taken};
+pub use running::{Taken, runnable};
+pub use splitting::{split, verdicts};
 
 #[cfg(test)]
 mod tests;

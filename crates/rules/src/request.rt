@@ -1,80 +1,92 @@
 //! Requests and their refusals.
-ghost use Rattle.std.specs.Prelude.{◌≡◌, ◌^◌, ◌||◌, nat_lt, IfOk};
-ghost use Rattle.rules.specs.Refusal.{place_of, has_kind, IsVerdict, IsChecked};
+ghost use Rattle.std.specs.Prelude.{IfOk};
+ghost use Rattle.rules.specs.Refusal.{IsFirstFault, IsVerdict, IsChecked, IsJudged};
+ghost use Rattle.rules.specs.Runnable.{IsTaken};
 
-use crate::translation::translate;
+use crate::running::{Taken, run_form, runnable};
+use algebra::Operation;
 use grammar::parse;
-use meaning::{Operation, Refusal};
+use meaning::Refusal;
 use sets::Items;
 use std::alloc::{AllocError, Global};
 use syntax_trees::Syntax;
 use terms::Term;
+use translation::{has_fault, translated};
 
 /// The operations of an accepted request, in order.
 pub type Update = Items<Operation<Term>>;
 
-/// A request: its operations, or why it is refused.
+/// A request: its update, or why it is refused.
 pub type Checked = Result<Update, Refusal>;
 
-/// How many bytes a request has at most.
-const MOST_BYTES: usize = 1 << 20;
-
-/// How many operations a request has at most.
-const MOST_OPERATIONS: usize = 256;
-
-/// The place of a kind of refusal among them all.
-fn place_of(kind: Refusal) -> u8
-    ensures { result ≡ place_of kind }
+/// The first kind of fault that a reading is refused for.
+#[tactic(auto, using(crate::proofs::VerdictLaws::first_faults))]
+fn first_fault(alloc: Global, syntax: &Syntax<'_>) -> Result<Option<Refusal>, AllocError>
+    ensures { IfOk result (IsFirstFault syntax.now) }
 {
-    match kind {
-        Refusal::Syntax => 0,
-        Refusal::Prefix => 1,
-        Refusal::VariableInData => 2,
-        Refusal::BlankInDelete => 3,
-        Refusal::LabelReused => 4,
-        Refusal::Limit => 5,
+    if has_fault(alloc, Refusal::Syntax, syntax)? {
+        return Ok(Some(Refusal::Syntax));
     }
+    if has_fault(alloc, Refusal::Prefix, syntax)? {
+        return Ok(Some(Refusal::Prefix));
+    }
+    if has_fault(alloc, Refusal::VariableInData, syntax)? {
+        return Ok(Some(Refusal::VariableInData));
+    }
+    if has_fault(alloc, Refusal::BlankInDelete, syntax)? {
+        return Ok(Some(Refusal::BlankInDelete));
+    }
+    if has_fault(alloc, Refusal::LabelReused, syntax)? {
+        return Ok(Some(Refusal::LabelReused));
+    }
+    if has_fault(alloc, Refusal::Limit, syntax)? {
+        return Ok(Some(Refusal::Limit));
+    }
+    Ok(None)
 }
 
-fn has_kind(kind: Refusal, faults: &[Refusal]) -> bool
-    ensures { result ≡ has_kind kind faults.now }
-{
-    faults
-        .iter()
-        .any(|fault| place_of(*fault) == place_of(kind))
-}
-
-/// Whether a request has too many bytes or too many operations.
-fn is_over(bytes: usize, operations: usize) -> bool
-    ensures { result ≡ (nat_lt (2 ^ 20) bytes || nat_lt 256 operations) }
-{
-    bytes > MOST_BYTES || operations > MOST_OPERATIONS
-}
-
-/// The request that a reading is (SPARQL 1.1 Update, 19.8, and the limits of this program): its refusal is the first of `Prefix`,
-/// `VariableInData` and `Limit` that holds anywhere in it. An error comes only where a growth was refused.
+/// The request that a reading is (SPARQL 1.1 Update, 19.8, and the limits of this program): its refusal is the first of all kinds that holds
+/// anywhere in it. An error comes only where a growth was refused, or where a request has 2^32 variables or labels.
+#[tactic(auto, using(crate::proofs::VerdictLaws::is_refused, crate::proofs::VerdictLaws::is_accepted))]
 pub fn check(alloc: Global, syntax: Syntax<'_>) -> Result<Checked, AllocError>
     ensures { IfOk result (IsVerdict syntax.entry) }
 {
-    let translation = translate(alloc, syntax.steps.as_slice())?;
-    if has_kind(Refusal::Prefix, translation.faults.as_slice()) {
-        return Ok(Err(Refusal::Prefix));
+    match first_fault(alloc, &syntax)? {
+        Some(kind) => Ok(Err(kind)),
+        None => Ok(Ok(translated(alloc, syntax.steps.as_slice())?)),
     }
-    if has_kind(Refusal::VariableInData, translation.faults.as_slice()) {
-        return Ok(Err(Refusal::VariableInData));
-    }
-    if is_over(syntax.length, translation.operations.len()) {
-        return Ok(Err(Refusal::Limit));
-    }
-    Ok(Ok(translation.operations))
 }
 
-/// The request that a text is. An error comes only where a growth was refused.
+/// The request that a text is. An error comes as for `check`.
 pub fn checked(alloc: Global, text: &str) -> Result<Checked, AllocError>
     ensures { IfOk result (IsChecked text.now) }
 {
     match parse(alloc, text)? {
         Some(syntax) => check(alloc, syntax),
         None => Ok(Err(Refusal::Syntax)),
+    }
+}
+
+/// Why a request is refused, or nothing where it is accepted.
+pub type Verdict = Option<Refusal>;
+
+/// The verdict on the request that a text is. An error comes as for `check`.
+pub fn judged(alloc: Global, text: &str) -> Result<Verdict, AllocError>
+    ensures { IfOk result (IsJudged text.now) }
+{
+    match parse(alloc, text)? {
+        Some(syntax) => first_fault(alloc, &syntax),
+        None => Ok(Some(Refusal::Syntax)),
+    }
+}
+
+/// What the run takes of a text: the operations of an accepted request that can be run, or why it is refused. An error comes as for `check`.
+#[tactic(auto, using(crate::proofs::VerdictLaws::taken_accepted, crate::proofs::VerdictLaws::taken_refused))]
+pub fn taken(alloc: Global, text: &str) -> Result<Taken, AllocError>
+    ensures { IfOk result (IsTaken text.now) }
+{
+    match checked(alloc, text)? {
+        Ok(update) => Ok(run_form(runnable(alloc, update)?)),
+        Err(kind) => Ok(Err(kind)),
     }
 }

@@ -1,11 +1,13 @@
 //! The requests of a block of bytes.
 ghost use Rattle.std.specs.Prelude.{◌≡◌, ◌≤◌, ◌^◌, IfOk, length};
-ghost use Rattle.rules.specs.Requests.{whole_lines, texts_of, requests, AreChecked, IsSplit};
+ghost use Rattle.rules.specs.Requests.{whole_lines, texts_of, requests, AreTaken, AreJudged, IsBlockText, IsSplit, AreVerdicts};
 
 use crate::block::Block;
 use crate::cut::{after_separator, text_count, text_len};
 use crate::fault::BlockFault;
-use crate::request::{Checked, checked};
+use crate::request::{Verdict, judged, taken};
+use crate::running::Taken;
+use meaning::Refusal;
 use sets::Items;
 use std::alloc::{AllocError, Global};
 
@@ -26,37 +28,61 @@ fn request_count(bytes: &[u8]) -> usize
     }
 }
 
-/// The requests of a text that isn't empty.
-fn checked_texts(alloc: Global, text: &str) -> Result<Items<Checked>, AllocError>
-    ensures { IfOk result (AreChecked (texts_of (whole_lines text.now))) }
+/// What the run takes of the requests of a text that isn't empty.
+fn taken_texts(alloc: Global, text: &str) -> Result<Items<Taken>, AllocError>
+    ensures { IfOk result (AreTaken (texts_of (whole_lines text.now))) }
 {
     let mut found = Items::new(alloc);
     let mut rest = text;
     let mut goes_on = true;
     while goes_on {
         let (request, after) = rest.split_at(text_len(rest.as_bytes()));
-        found.push(checked(alloc, request)?)?;
+        found.push(taken(alloc, request)?)?;
         goes_on = !after.is_empty();
         rest = after_separator(after);
     }
     Ok(found)
 }
 
-fn checked_requests(alloc: Global, text: &str) -> Result<Items<Checked>, AllocError>
-    ensures { IfOk result (AreChecked (requests text.now)) }
+fn taken_requests(alloc: Global, text: &str) -> Result<Items<Taken>, AllocError>
+    ensures { IfOk result (AreTaken (requests text.now)) }
 {
     if text.is_empty() {
         Ok(Items::new(alloc))
     } else {
-        checked_texts(alloc, text)
+        taken_texts(alloc, text)
     }
 }
 
-/// The requests of a block, each as it is checked. The block is cut at each line that is exactly four dashes and an LF: n such lines give
-/// n + 1 requests, and no bytes give none. The fault is the first of `TooLong`, `TooManyRequests` and `BadUtf8` that holds;
-/// `OutOfMemory` comes only where a growth was refused.
-pub fn split(alloc: Global, bytes: &[u8]) -> Result<Block, BlockFault>
-    ensures { IsSplit bytes.now result }
+/// Whether the requests of a text that isn't empty are refused.
+fn judged_texts(alloc: Global, text: &str) -> Result<Items<Verdict>, AllocError>
+    ensures { IfOk result (AreJudged (texts_of (whole_lines text.now))) }
+{
+    let mut found = Items::new(alloc);
+    let mut rest = text;
+    let mut goes_on = true;
+    while goes_on {
+        let (request, after) = rest.split_at(text_len(rest.as_bytes()));
+        found.push(judged(alloc, request)?)?;
+        goes_on = !after.is_empty();
+        rest = after_separator(after);
+    }
+    Ok(found)
+}
+
+fn judged_requests(alloc: Global, text: &str) -> Result<Items<Verdict>, AllocError>
+    ensures { IfOk result (AreJudged (requests text.now)) }
+{
+    if text.is_empty() {
+        Ok(Items::new(alloc))
+    } else {
+        judged_texts(alloc, text)
+    }
+}
+
+/// The text of a block's bytes, where it isn't too long and has not too many requests.
+fn text_of(bytes: &[u8]) -> Result<&str, BlockFault>
+    ensures { IsBlockText bytes.now result }
 {
     if bytes.len() > MOST_BYTES {
         return Err(BlockFault::TooLong);
@@ -64,8 +90,28 @@ pub fn split(alloc: Global, bytes: &[u8]) -> Result<Block, BlockFault>
     if request_count(bytes) > MOST_REQUESTS {
         return Err(BlockFault::TooManyRequests);
     }
-    let Ok(text) = str::from_utf8(bytes) else {
-        return Err(BlockFault::BadUtf8);
-    };
-    Ok(Block::new(checked_requests(alloc, text)?))
+    match str::from_utf8(bytes) {
+        Ok(text) => Ok(text),
+        Err(_) => Err(BlockFault::BadUtf8),
+    }
+}
+
+/// The requests of a block, each as the run takes it. The block is cut at each line that is exactly four dashes and an LF: n such lines give
+/// n + 1 requests, and no bytes give none. The fault is the first of `TooLong`, `TooManyRequests` and `BadUtf8` that holds;
+/// `OutOfMemory` comes only where a growth was refused, or where a request has 2^32 variables or labels.
+#[tactic(auto, using(crate::proofs::CutLaws::splits))]
+pub fn split(alloc: Global, bytes: &[u8]) -> Result<Block, BlockFault>
+    ensures { IsSplit bytes.now result }
+{
+    let text = text_of(bytes)?;
+    Ok(Block::new(taken_requests(alloc, text)?))
+}
+
+/// The verdicts on the requests of a block, in order. Faults come as for `split`.
+#[tactic(auto, using(crate::proofs::CutLaws::splits))]
+pub fn verdicts(alloc: Global, bytes: &[u8]) -> Result<Items<Verdict>, BlockFault>
+    ensures { AreVerdicts bytes.now result }
+{
+    let text = text_of(bytes)?;
+    Ok(judged_requests(alloc, text)?)
 }

@@ -1,9 +1,12 @@
 //! The program `sparql-block`: the command line, the files, and what is told.
 #![tactic(auto)]
 
+ghost use Rattle.std.specs.Prelude.{◌≤◌};
 ghost use Rattle.command_line.specs.CommandLine.{HasWorkers};
 
-use cli::{Fault, InFile, Job, LineFault, Message, OutFile, Watched, read_job, run_engine};
+use cli::{
+    Fault, InFile, Job, LineFault, Message, OutFile, Watched, check_engine, read_job, run_engine,
+};
 use std::process::ExitCode;
 use std::rt::{Env, Files};
 use std::sync::Wait;
@@ -25,19 +28,20 @@ fn words(rt: &(impl Env + AllocGlobal)) -> Result<Vec<String>, LineFault> {
     }
 }
 
-/// Does a job.
-fn done<R: Wait + Files + Print + AllocGlobal>(rt: &R, job: &Job) -> Result<(), Fault>
-    requires { HasWorkers job.now }
+/// Runs a block on a base: the dataset goes to a file, the reply lines to standard output. Workers are from 1 to 64.
+fn run<R: Wait + Files + Print + AllocGlobal>(
+    rt: &R,
+    base: &str,
+    block: &str,
+    out: &str,
+    workers: u32,
+) -> Result<(), Fault>
+    requires some { 1 ≤ workers }
+    requires most { workers ≤ 64 }
 {
-    let Job::Run {
-        base,
-        block,
-        out,
-        workers,
-    } = job;
-    let mut base = Watched::new(InFile::new(rt, base.as_str()));
-    let mut block = Watched::new(InFile::new(rt, block.as_str()));
-    let mut dataset = Watched::new(OutFile::new(rt, out.as_str()));
+    let mut base = Watched::new(InFile::new(rt, base));
+    let mut block = Watched::new(InFile::new(rt, block));
+    let mut dataset = Watched::new(OutFile::new(rt, out));
     let mut replies = Watched::new(io::writer(rt));
     run_engine(
         rt,
@@ -46,8 +50,30 @@ fn done<R: Wait + Files + Print + AllocGlobal>(rt: &R, job: &Job) -> Result<(), 
         &mut block,
         &mut dataset,
         &mut replies,
-        *workers,
+        workers,
     )
+}
+
+/// Checks a block: the lines of the verdicts go to standard output.
+fn check<R: Files + Print + AllocGlobal>(rt: &R, block: &str) -> Result<(), Fault> {
+    let mut block = Watched::new(InFile::new(rt, block));
+    let mut replies = Watched::new(io::writer(rt));
+    check_engine(rt.alloc(), &mut block, &mut replies)
+}
+
+/// Does a job.
+fn done<R: Wait + Files + Print + AllocGlobal>(rt: &R, job: &Job) -> Result<(), Fault>
+    requires { HasWorkers job.now }
+{
+    match job {
+        Job::Run {
+            base,
+            block,
+            out,
+            workers,
+        } => run(rt, base.as_str(), block.as_str(), out.as_str(), *workers),
+        Job::Check { block } => check(rt, block.as_str()),
+    }
 }
 
 /// Reads the command line and does its job.

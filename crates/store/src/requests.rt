@@ -9,7 +9,7 @@ ghost use Rattle.store.specs.Held.{is_held};
 use crate::numbering::number_term;
 use dict::{Dict, Id};
 use meaning::{Modify, Operation, Place, Plan, QuadTemplate, Refusal, Slot, TriplePattern};
-use rules::Checked;
+use rules::Taken;
 use sets::Items;
 use std::alloc::{AllocError, Global};
 use terms::Term;
@@ -139,7 +139,7 @@ fn number_operations(
     Ok(list)
 }
 
-fn number_request(alloc: Global, dict: &Dict, request: &Checked) -> Result<Request, AllocError>
+fn number_request(alloc: Global, dict: &Dict, request: &Taken) -> Result<Request, AllocError>
     requires { request_known (is_held dict.now) request.now ≡ true }
     ensures renamed { IfOk result (λ r. renamed_request (term_of dict.now) r ≡ request.now) }
     ensures known { IfOk result (λ r. request_known (is_known dict.now) r ≡ true) }
@@ -157,7 +157,7 @@ fn number_request(alloc: Global, dict: &Dict, request: &Checked) -> Result<Reque
 pub(crate) fn number_requests(
     alloc: Global,
     dict: &Dict,
-    requests: &[Checked],
+    requests: &[Taken],
 ) -> Result<Vec<Request>, AllocError>
     requires { list_all (request_known (is_held dict.now)) requests.now ≡ true }
     ensures renamed { IfOk result (λ list. map (renamed_request (term_of dict.now)) list.items ≡ requests.now) }

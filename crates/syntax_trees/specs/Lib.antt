@@ -1,0 +1,4 @@
+pub mod Operators
+pub mod Expressions
+pub mod Groups
+pub mod Codes

@@ -1,19 +1,43 @@
-//! The trees.
+//! The trees of requests, but for groups and expressions.
 
-use lexer::{IriText, LocalPart, Piece};
+use crate::group::Group;
+use lexer::{Digits, IriText, Label, LocalPart, Piece, Quoted, Tag};
 use sets::Items;
 
-/// A variable, an IRI, a prefixed name, or `a` (SPARQL 1.1 Query, 19.8, productions 78, 106 and 136).
+/// An IRI, or a prefixed name (SPARQL 1.1 Query, 19.8, production 136).
 #[derive(Drop)]
-pub enum Node<'a> {
+pub enum Name<'a> {
     Iri(IriText<'a>),
     Prefixed {
         prefix: Piece<'a>,
         local: LocalPart<'a>,
     },
+}
+
+/// A literal (SPARQL 1.1 Query, 19.8, productions 129, 130 and 134).
+#[derive(Drop)]
+pub enum Literal<'a> {
+    /// A string alone.
+    Plain(Quoted<'a>),
+    /// A string with a language tag.
+    Tagged(Quoted<'a>, Tag<'a>),
+    /// A string with its datatype.
+    Typed(Quoted<'a>, Name<'a>),
+    Integer(Digits<'a>),
+    Boolean(bool),
+}
+
+/// A place of a triple: a name, `a`, a variable, a blank node or a literal (SPARQL 1.1 Query, 19.8, productions 78, 106, 108 and 109).
+#[derive(Drop)]
+pub enum Node<'a> {
+    Name(Name<'a>),
+    /// The verb `a`.
     Type,
     /// A variable, without its `?` or `$`.
     Variable(Piece<'a>),
+    /// A blank node, by its label.
+    Blank(Label<'a>),
+    Literal(Literal<'a>),
 }
 
 /// A verb and its objects.
@@ -30,24 +54,68 @@ pub struct SameSubject<'a> {
     pub properties: Items<Property<'a>>,
 }
 
-/// A triple, or a triple pattern.
+/// Triples, and the graph that they stand in, which is a name or a variable (SPARQL 1.1 Update, 19.8, productions 50 to 52). No graph is the
+/// default graph.
 #[derive(Drop)]
-pub struct Triple<'a> {
-    pub subject: Node<'a>,
-    pub verb: Node<'a>,
-    pub object: Node<'a>,
+pub struct Block<'a> {
+    pub graph: Option<Node<'a>>,
+    pub triples: Items<SameSubject<'a>>,
 }
 
-/// An operation (SPARQL 1.1 Update, section 3.1).
+/// What DROP and CLEAR name (SPARQL 1.1 Update, 19.8, production 47).
+#[derive(Drop)]
+pub enum Target<'a> {
+    Graph(Name<'a>),
+    Default,
+    Named,
+    All,
+}
+
+/// What COPY, MOVE and ADD name: a graph, or the default graph (SPARQL 1.1 Update, 19.8, production 45).
+#[derive(Drop)]
+pub enum Place<'a> {
+    Default,
+    Graph(Name<'a>),
+}
+
+/// What is done with two graphs.
+#[derive(Clone, Copy, Debug, Drop, PartialEq, Eq)]
+pub enum Transfer {
+    Copy,
+    Move,
+    Add,
+}
+
+/// An operation (SPARQL 1.1 Update, 19.8, production 30).
 #[derive(Drop)]
 pub enum Operation<'a> {
-    InsertData(Items<SameSubject<'a>>),
-    DeleteData(Items<SameSubject<'a>>),
-    /// DELETE and INSERT with their templates, one of which may be missing and is then empty, and the one triple pattern of WHERE.
+    Create {
+        silent: bool,
+        graph: Name<'a>,
+    },
+    Drop {
+        silent: bool,
+        target: Target<'a>,
+    },
+    Clear {
+        silent: bool,
+        target: Target<'a>,
+    },
+    Transfer {
+        how: Transfer,
+        silent: bool,
+        from: Place<'a>,
+        to: Place<'a>,
+    },
+    InsertData(Items<Block<'a>>),
+    DeleteData(Items<Block<'a>>),
+    DeleteWhere(Items<Block<'a>>),
+    /// DELETE and INSERT with their templates, one of which may be missing and is then empty, the graph of WITH, and the group of WHERE.
     Modify {
-        delete: Items<SameSubject<'a>>,
-        insert: Items<SameSubject<'a>>,
-        pattern: Triple<'a>,
+        with: Option<Name<'a>>,
+        delete: Items<Block<'a>>,
+        insert: Items<Block<'a>>,
+        pattern: Group<'a>,
     },
 }
 
@@ -63,4 +131,12 @@ pub enum Step<'a> {
 pub struct Syntax<'a> {
     pub steps: Items<Step<'a>>,
     pub length: usize,
+}
+
+/// A triple, or a triple pattern.
+#[derive(Drop)]
+pub struct Triple<'a> {
+    pub subject: Node<'a>,
+    pub verb: Node<'a>,
+    pub object: Node<'a>,
 }

@@ -8,7 +8,7 @@ returns-in-Err c =
 
 pub returns-in-Some : goal.returns-in-Some
 returns-in-Some c =
-    parse_enters (app_of c.in_ok-program.field-0) c.in_ok-program.ensures _ c.in-Ok.matches _ c.run_job.result c.in-Ok.ensures.kinds c.in-Ok.ensures.matches c.in-Some.ensures.rows c.run_job.ensures
+    parse_enters (app_of c.in_ok-program.field-0) c.in_ok-program.ensures _ c.in-Ok.matches _ _ c.command_job.result c.in-Ok.ensures.kinds c.in-Ok.ensures.matches c.in-Some.ensures.name c.in-Some.ensures.rows c.command_job.ensures
 
 pub returns : goal.returns
 returns c =

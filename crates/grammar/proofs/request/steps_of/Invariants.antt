@@ -1,5 +1,5 @@
 use Rattle.std.proofs.Common.{length}
-use Rattle.grammar.proofs.Requests.{IsReadSoFar}
+use Rattle.grammar.proofs.RequestLaws.{IsReadSoFar}
 use Rattle.grammar.proofs.request.steps_of.Given as goal
 
 abbrev pub invariant-loop-rest : goal.invariant-loop-rest

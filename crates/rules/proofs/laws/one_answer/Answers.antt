@@ -1,4 +1,4 @@
-use Rattle.rules.proofs.Verdicts.{one_answer}
+use Rattle.rules.proofs.VerdictLaws.{one_answer}
 use Rattle.rules.proofs.laws.one_answer.Goals as goal
 
 pub returns : goal.returns

@@ -1,4 +1,4 @@
-use Rattle.rules.proofs.Verdicts.{verdict_checked, unread_checked}
+use Rattle.rules.proofs.VerdictLaws.{verdict_checked, unread_checked}
 use Rattle.rules.proofs.request.checked.Goals as goal
 
 pub returns-in-Some : goal.returns-in-Some

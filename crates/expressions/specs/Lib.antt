@@ -1,0 +1,4 @@
+pub mod Operators
+pub mod Calls
+pub mod Grammar
+pub mod Reading

@@ -1,0 +1,13 @@
+//! What the names of a request mean: declared prefixes, the terms that nodes stand for, and the numbers of variables and blank node labels.
+//!
+//! Stands on `syntax_trees` and `terms`. Used above: `Prefixes` gives the term of a node, `Variables` and `Labels` numbers. All are looked up in
+//! sorted orders.
+#![tactic(auto)]
+
+mod key;
+mod numbers;
+mod prefixes;
+mod search;
+
+pub use numbers::{Labels, Variables};
+pub use prefixes::Prefixes;

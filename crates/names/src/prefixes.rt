@@ -1,0 +1,288 @@
+//! Declared prefixes, and what names and literals stand for.
+ghost use Rattle.std.specs.Prelude.{◌≡◌, ◌++◌, IfOk, OnOk, Some, [], bytes_eq, is_none, string_bytes, true};
+ghost use Rattle.std.specs.Option.{ForSome, option_map};
+ghost use Rattle.iris.specs.Iri.{IsIri};
+ghost use Rattle.iris.specs.Forms.{is_tag};
+ghost use Rattle.terms.specs.Parts.{tag_bytes};
+ghost use Rattle.terms.specs.Literal.{lang_string};
+ghost use Rattle.terms.specs.declared.term.Term.TheVariants as term;
+ghost use Rattle.syntax_trees.specs.declared.tree.Node.TheVariants as node;
+ghost use Rattle.names.specs.Names.{declare, namespace_of, rdf_type, iri_of, is_lang_iri, literal_from as the_literal_from, typed_literal, truth as the_truth, literal_of, no_term, name_term, term_of};
+
+use crate::key::Key;
+use iris::Iri;
+use lexer::laws::iri_with_local;
+use lexer::{Digits, IriText, LocalPart, Piece, Tag};
+use std::alloc::{AllocError, Global};
+use std::collections::BTreeMap;
+use std::marker::Model;
+use syntax_trees::{Literal as Written, Name, Node};
+use terms::{Literal, Term};
+
+const RDF_TYPE: &[u8] = b"http://www.w3.org/1999/02/22-rdf-syntax-ns#type";
+
+const XSD_STRING: &[u8] = b"http://www.w3.org/2001/XMLSchema#string";
+
+const XSD_INTEGER: &[u8] = b"http://www.w3.org/2001/XMLSchema#integer";
+
+const XSD_BOOLEAN: &[u8] = b"http://www.w3.org/2001/XMLSchema#boolean";
+
+const LANG_STRING: &[u8] = b"http://www.w3.org/1999/02/22-rdf-syntax-ns#langString";
+
+/// The declared prefixes with their IRIs. Contracts see a list in the order of the prefixes.
+#[derive(Drop)]
+pub struct Prefixes<'a> {
+    map: BTreeMap<Key<'a>, IriText<'a>>,
+}
+
+impl<'a> Model for Prefixes<'a> {
+    ghost use Rattle.std.specs.Prelude.{List, ℕ};
+
+    ghost Value = { List (List ℕ × List ℕ) };
+
+    ghost view = { λ p. p.map.entries };
+}
+
+/// The term that stands where there is none; a request with such a place is refused.
+fn no_term() -> Term
+    ensures { result ≡ no_term }
+{
+    Term::Made {
+        request: 0,
+        op: 0,
+        label: 0,
+        rank: 0,
+    }
+}
+
+/// The IRI that a text is.
+fn iri_from(alloc: Global, bytes: &[u8]) -> Result<Option<Iri>, AllocError>
+    requires { IsIri bytes.now }
+    ensures { IfOk result (λ found. found ≡ Some bytes.now) }
+{
+    match str::from_utf8(bytes) {
+        Ok(text) => Iri::check(alloc, text),
+        Err(_) => Ok(None),
+    }
+}
+
+/// The IRI that a namespace and a local part are, one after the other.
+fn joined(
+    alloc: Global,
+    namespace: &IriText<'_>,
+    local: &LocalPart<'_>,
+) -> Result<Option<Iri>, AllocError>
+    ensures { IfOk result (λ found. found ≡ Some (namespace.now ++ local.now)) }
+{
+    let mut text = Vec::from_slice(alloc, namespace.as_bytes())?;
+    text.extend_from_slice(local.as_bytes())?;
+    iri_with_local();
+    iri_from(alloc, text.as_slice())
+}
+
+/// Whether a text is two texts, one after the other. It looks at no more bytes than the text has.
+#[tactic(auto, using(crate::proofs::JoinLaws::joined_is, crate::proofs::JoinLaws::too_long))]
+fn is_joined(front: &[u8], back: &[u8], text: &[u8]) -> bool
+    ensures { result ≡ bytes_eq (front.now ++ back.now) text.now }
+{
+    if front.len() > text.len() {
+        return false;
+    }
+    let (first, rest) = text.split_at(front.len());
+    front == first && back == rest
+}
+
+/// The literal of these parts.
+fn literal_from(lexical: String, datatype: Iri, tag: Option<String>) -> Option<Literal>
+    requires { ForSome (tag_bytes tag) (λ t. is_tag t ≡ true) }
+    ensures { result ≡ the_literal_from (string_bytes lexical) datatype (tag_bytes tag) }
+{
+    let _lexical = lexical.as_str();
+    let _datatype = datatype.as_str();
+    Literal::new(lexical, datatype, tag)
+}
+
+/// The literal of a string and a datatype that is one of this module's.
+fn literal_with(
+    alloc: Global,
+    lexical: String,
+    datatype: &[u8],
+    tag: Option<String>,
+) -> Result<Option<Literal>, AllocError>
+    requires iri { IsIri datatype.now }
+    requires tag { ForSome (tag_bytes tag) (λ t. is_tag t ≡ true) }
+    ensures { IfOk result (λ found. found ≡ the_literal_from (string_bytes lexical) datatype.now (tag_bytes tag)) }
+{
+    match iri_from(alloc, datatype)? {
+        Some(iri) => Ok(literal_from(lexical, iri, tag)),
+        None => Ok(None),
+    }
+}
+
+impl<'a> Prefixes<'a> {
+    /// No prefixes.
+    pub fn new(alloc: Global) -> Prefixes<'a>
+        ensures { result ≡ [] }
+    {
+        Prefixes {
+            map: BTreeMap::new(alloc),
+        }
+    }
+
+    /// One prefix more, which takes the place of an earlier one of the same name. An error comes only where a growth was refused.
+    pub fn declare(&mut self, prefix: &Piece<'a>, iri: &IriText<'a>) -> Result<(), AllocError>
+        ensures { OnOk result (self.new ≡ declare prefix.now iri.now self.old) }
+    {
+        self.map.insert(Key::new(prefix.as_bytes()), iri.again())?;
+        Ok(())
+    }
+
+    /// The IRI of a prefix.
+    fn namespace_of(&self, prefix: &Piece<'a>) -> Option<IriText<'a>>
+        ensures { result ≡ namespace_of self.now prefix.now }
+    {
+        match self.map.get(&Key::new(prefix.as_bytes())) {
+            Some(iri) => Some(iri.again()),
+            None => None,
+        }
+    }
+
+    /// Whether a name's prefix isn't declared.
+    pub fn is_undeclared(&self, name: &Name<'a>) -> bool
+        ensures { result ≡ is_none (iri_of self.now name.now) }
+    {
+        match name {
+            Name::Iri(_) => false,
+            Name::Prefixed { prefix, .. } => self.namespace_of(prefix).is_none(),
+        }
+    }
+
+    /// Whether a name is rdf:langString. No IRI is made.
+    pub fn is_lang_string(&self, name: &Name<'a>) -> bool
+        ensures { result ≡ is_lang_iri (iri_of self.now name.now) }
+    {
+        match name {
+            Name::Iri(iri) => iri.as_bytes() == LANG_STRING,
+            Name::Prefixed { prefix, local } => match self.namespace_of(prefix) {
+                Some(namespace) => is_joined(namespace.as_bytes(), local.as_bytes(), LANG_STRING),
+                None => false,
+            },
+        }
+    }
+
+    /// The IRI of a name, if its prefix is declared.
+    pub fn iri_of(&self, alloc: Global, name: &Name<'a>) -> Result<Option<Iri>, AllocError>
+        ensures { IfOk result (λ found. found ≡ iri_of self.now name.now) }
+    {
+        match name {
+            Name::Iri(iri) => iri_from(alloc, iri.as_bytes()),
+            Name::Prefixed { prefix, local } => match self.namespace_of(prefix) {
+                Some(namespace) => joined(alloc, &namespace, local),
+                None => Ok(None),
+            },
+        }
+    }
+
+    /// The literal of a string and its written datatype.
+    fn typed(
+        &self,
+        alloc: Global,
+        lexical: String,
+        datatype: &Name<'a>,
+    ) -> Result<Option<Literal>, AllocError>
+        ensures { IfOk result (λ found. found ≡ typed_literal (string_bytes lexical) (iri_of self.now datatype.now)) }
+    {
+        match self.iri_of(alloc, datatype)? {
+            Some(iri) => Ok(literal_from(lexical, iri, None)),
+            None => Ok(None),
+        }
+    }
+
+    /// The literal that is written so.
+    fn literal_of(
+        &self,
+        alloc: Global,
+        literal: &Written<'a>,
+    ) -> Result<Option<Literal>, AllocError>
+        ensures { IfOk result (λ found. found ≡ literal_of self.now literal.now) }
+    {
+        match literal {
+            Written::Plain(text) => literal_with(alloc, text.value(alloc)?, XSD_STRING, None),
+            Written::Tagged(text, tag) => tagged(alloc, text.value(alloc)?, tag),
+            Written::Typed(text, datatype) => self.typed(alloc, text.value(alloc)?, datatype),
+            Written::Integer(digits) => {
+                literal_with(alloc, digits_text(alloc, digits)?, XSD_INTEGER, None)
+            }
+            Written::Boolean(truth) => {
+                literal_with(alloc, truth_text(alloc, *truth)?, XSD_BOOLEAN, None)
+            }
+        }
+    }
+
+    /// The term that a name is.
+    pub fn name_term(&self, alloc: Global, name: &Name<'a>) -> Result<Term, AllocError>
+        ensures { IfOk result (λ term. term ≡ name_term self.now name.now) }
+    {
+        match self.iri_of(alloc, name)? {
+            Some(iri) => Ok(Term::Iri(iri)),
+            None => Ok(no_term()),
+        }
+    }
+
+    /// The term that a literal is.
+    fn literal_term(&self, alloc: Global, literal: &Written<'a>) -> Result<Term, AllocError>
+        ensures { IfOk result (λ term. term ≡ term_of self.now (node.Literal literal.now)) }
+    {
+        match self.literal_of(alloc, literal)? {
+            Some(literal) => Ok(Term::Literal(literal)),
+            None => Ok(no_term()),
+        }
+    }
+
+    /// The term that a node is.
+    pub fn term_of(&self, alloc: Global, node: &Node<'a>) -> Result<Term, AllocError>
+        ensures { IfOk result (λ term. term ≡ term_of self.now node.now) }
+    {
+        match node {
+            Node::Name(name) => self.name_term(alloc, name),
+            Node::Type => type_term(alloc),
+            Node::Literal(literal) => self.literal_term(alloc, literal),
+            Node::Variable(_) | Node::Blank(_) => Ok(no_term()),
+        }
+    }
+}
+
+/// The literal of a string and a language tag.
+fn tagged(alloc: Global, lexical: String, tag: &Tag<'_>) -> Result<Option<Literal>, AllocError>
+    ensures { IfOk result (λ found. found ≡ the_literal_from (string_bytes lexical) lang_string (Some tag.now)) }
+{
+    let tag = tag.lower(alloc)?;
+    literal_with(alloc, lexical, LANG_STRING, Some(tag))
+}
+
+/// Digits as a text.
+fn digits_text(alloc: Global, digits: &Digits<'_>) -> Result<String, AllocError>
+    ensures { IfOk result (λ text. string_bytes text ≡ digits.now) }
+{
+    match str::from_utf8(digits.as_bytes()) {
+        Ok(text) => String::from_str(alloc, text),
+        Err(_) => Err(AllocError),
+    }
+}
+
+/// A truth value as a text.
+fn truth_text(alloc: Global, truth: bool) -> Result<String, AllocError>
+    ensures { IfOk result (λ text. string_bytes text ≡ the_truth truth) }
+{
+    String::from_str(alloc, if truth { "true" } else { "false" })
+}
+
+/// What the verb `a` is.
+fn type_term(alloc: Global) -> Result<Term, AllocError>
+    ensures { IfOk result (λ t. t ≡ term.Iri rdf_type) }
+{
+    match iri_from(alloc, RDF_TYPE)? {
+        Some(iri) => Ok(Term::Iri(iri)),
+        None => Ok(no_term()),
+    }
+}

@@ -1,0 +1,5 @@
+pub mod StepLaws
+pub mod SignLaws
+pub mod KeywordLaws
+pub mod ManyLaws
+pub mod NameLaws

@@ -1,0 +1,18 @@
+use Rattle.std.proofs.Common.{◌≡◌, ◌≤◌, map}
+use Rattle.syntax_trees.specs.Expressions.{tree_of}
+use Rattle.translation.specs.Chains.{chained, step_of}
+use Rattle.translation.specs.Groups.{translated_tree}
+use Rattle.translation.proofs.TreeLaws.{weight}
+use Rattle.translation.proofs.groups.+translated_tree.Given as goal
+
+abbrev pub decreases-translated_tree : goal.decreases-translated_tree
+decreases-translated_tree l = weight (tree_of l.expression.now)
+
+abbrev pub invariant-loop-rest : goal.invariant-loop-rest
+invariant-loop-rest l = record {
+  told : chained (translated_tree l.scope.prefixes.now l.scope.variables.now (tree_of l.rest)) (map step_of l.steps.items) ≡ translated_tree l.scope.prefixes.now l.scope.variables.now (tree_of l.fn.expression);
+  no_deeper : weight (tree_of l.rest) ≤ weight (tree_of l.fn.expression);
+}
+
+abbrev pub decreases-loop-rest : goal.decreases-loop-rest
+decreases-loop-rest l = weight (tree_of l.rest)

@@ -1,0 +1,285 @@
+//! Requests as updates over terms.
+ghost use Rattle.std.specs.Prelude.{◌≡◌, IfOk, map};
+ghost use Rattle.std.specs.Option.{option_map};
+ghost use Rattle.algebra.specs.Plans.{plan_of};
+ghost use Rattle.std.specs.Prelude.{[], None};
+ghost use Rattle.algebra.specs.declared.update.Operation.TheVariants as made;
+ghost use Rattle.algebra.specs.declared.update.GraphOperation.TheVariants as graphs;
+ghost use Rattle.translation.specs.Groups.{empty_group, quads_pattern};
+ghost use Rattle.names.specs.Names.{name_term};
+ghost use Rattle.names.specs.Numbers.{variables_of, labels_of, with_labels};
+ghost use Rattle.translation.specs.Nodes.{nodes_of_where, nodes_of_operation};
+ghost use Rattle.translation.specs.Translation.{target_of, graph_at, transfer_of, modify_with, operation_with, operation_of, translated};
+
+use crate::groups::{empty_group, quads_pattern, translated_group};
+use crate::nodes::{add_operation, add_where};
+use crate::scope::Scope;
+use crate::triples::template_of;
+use algebra::{
+    GraphOperation, Modify, Operation, Pattern, Plan, Target as MadeTarget,
+    Transfer as MadeTransfer,
+};
+use names::{Labels, Prefixes, Variables};
+use sets::Items;
+use std::alloc::{AllocError, Global};
+use syntax_trees::{Block, Name, Node, Operation as Written, Place, Step, Target, Transfer};
+use terms::Term;
+
+fn target_of<'a>(
+    alloc: Global,
+    prefixes: &Prefixes<'a>,
+    target: &Target<'a>,
+) -> Result<MadeTarget<Term>, AllocError>
+    ensures { IfOk result (λ made. made ≡ target_of prefixes.now target.now) }
+{
+    match target {
+        Target::Graph(name) => Ok(MadeTarget::Graph(prefixes.name_term(alloc, name)?)),
+        Target::Default => Ok(MadeTarget::Default),
+        Target::Named => Ok(MadeTarget::Named),
+        Target::All => Ok(MadeTarget::All),
+    }
+}
+
+fn graph_at<'a>(
+    alloc: Global,
+    prefixes: &Prefixes<'a>,
+    place: &Place<'a>,
+) -> Result<Option<Term>, AllocError>
+    ensures { IfOk result (λ graph. graph ≡ graph_at prefixes.now place.now) }
+{
+    match place {
+        Place::Default => Ok(None),
+        Place::Graph(name) => Ok(Some(prefixes.name_term(alloc, name)?)),
+    }
+}
+
+fn transfer_of(how: Transfer) -> MadeTransfer
+    ensures { result ≡ transfer_of how }
+{
+    match how {
+        Transfer::Copy => MadeTransfer::Copy,
+        Transfer::Move => MadeTransfer::Move,
+        Transfer::Add => MadeTransfer::Add,
+    }
+}
+
+/// The graph that WHERE begins in.
+fn active_graph<'a>(
+    alloc: Global,
+    prefixes: &Prefixes<'a>,
+    with: &Option<Name<'a>>,
+) -> Result<Option<Term>, AllocError>
+    ensures { IfOk result (λ graph. graph ≡ option_map (name_term prefixes.now) with.now) }
+{
+    match with {
+        Some(name) => Ok(Some(prefixes.name_term(alloc, name)?)),
+        None => Ok(None),
+    }
+}
+
+/// DELETE and INSERT over a pattern.
+fn modify_with<'a>(
+    alloc: Global,
+    scope: &Scope<'_, 'a>,
+    with: &Option<Name<'a>>,
+    delete: &[Block<'a>],
+    insert: &[Block<'a>],
+    pattern: Plan<Term>,
+) -> Result<Operation<Term>, AllocError>
+    ensures { IfOk result (λ operation. operation ≡ modify_with scope.now.prefixes.now scope.now.variables.now scope.now.labels.now with.now delete.now insert.now (plan_of pattern)) }
+{
+    Ok(Operation::Modify(Modify {
+        width: scope.variables.width(),
+        active: active_graph(alloc, scope.prefixes, with)?,
+        pattern: Pattern::new(pattern),
+        delete: template_of(alloc, scope, with, delete)?,
+        insert: template_of(alloc, scope, with, insert)?,
+    }))
+}
+
+/// CREATE.
+fn created<'a>(
+    alloc: Global,
+    prefixes: &Prefixes<'a>,
+    silent: bool,
+    graph: &Name<'a>,
+) -> Result<Operation<Term>, AllocError>
+    ensures { IfOk result (λ operation. operation ≡ made.Graphs silent (graphs.Create (name_term prefixes.now graph.now))) }
+{
+    Ok(Operation::Graphs {
+        silent,
+        operation: GraphOperation::Create(prefixes.name_term(alloc, graph)?),
+    })
+}
+
+/// DROP.
+fn dropped<'a>(
+    alloc: Global,
+    prefixes: &Prefixes<'a>,
+    silent: bool,
+    target: &Target<'a>,
+) -> Result<Operation<Term>, AllocError>
+    ensures { IfOk result (λ operation. operation ≡ made.Graphs silent (graphs.Drop (target_of prefixes.now target.now))) }
+{
+    Ok(Operation::Graphs {
+        silent,
+        operation: GraphOperation::Drop(target_of(alloc, prefixes, target)?),
+    })
+}
+
+/// CLEAR.
+fn cleared<'a>(
+    alloc: Global,
+    prefixes: &Prefixes<'a>,
+    silent: bool,
+    target: &Target<'a>,
+) -> Result<Operation<Term>, AllocError>
+    ensures { IfOk result (λ operation. operation ≡ made.Graphs silent (graphs.Clear (target_of prefixes.now target.now))) }
+{
+    Ok(Operation::Graphs {
+        silent,
+        operation: GraphOperation::Clear(target_of(alloc, prefixes, target)?),
+    })
+}
+
+/// What is done with two graphs.
+fn between<'a>(
+    alloc: Global,
+    prefixes: &Prefixes<'a>,
+    how: Transfer,
+    from: &Place<'a>,
+    to: &Place<'a>,
+) -> Result<GraphOperation<Term>, AllocError>
+    ensures { IfOk result (λ operation. operation ≡ graphs.Transfer (transfer_of how) (graph_at prefixes.now from.now) (graph_at prefixes.now to.now)) }
+{
+    Ok(GraphOperation::Transfer {
+        how: transfer_of(how),
+        from: graph_at(alloc, prefixes, from)?,
+        to: graph_at(alloc, prefixes, to)?,
+    })
+}
+
+/// INSERT DATA or DELETE DATA, which have the empty group as WHERE.
+fn data_with<'a>(
+    alloc: Global,
+    scope: &Scope<'_, 'a>,
+    delete: &[Block<'a>],
+    insert: &[Block<'a>],
+) -> Result<Operation<Term>, AllocError>
+    ensures { IfOk result (λ operation. operation ≡ modify_with scope.now.prefixes.now scope.now.variables.now scope.now.labels.now None delete.now insert.now empty_group) }
+{
+    modify_with(alloc, scope, &None, delete, insert, empty_group(alloc))
+}
+
+/// DELETE WHERE, which has its quads as WHERE.
+fn delete_where<'a>(
+    alloc: Global,
+    scope: &Scope<'_, 'a>,
+    quads: &[Block<'a>],
+) -> Result<Operation<Term>, AllocError>
+    ensures { IfOk result (λ operation. operation ≡ modify_with scope.now.prefixes.now scope.now.variables.now scope.now.labels.now None quads.now [] (quads_pattern scope.now.prefixes.now scope.now.variables.now quads.now)) }
+{
+    let pattern = quads_pattern(alloc, scope, quads)?;
+    modify_with(alloc, scope, &None, quads, &[], pattern)
+}
+
+fn operation_with<'a>(
+    alloc: Global,
+    scope: &Scope<'_, 'a>,
+    operation: &Written<'a>,
+) -> Result<Operation<Term>, AllocError>
+    ensures { IfOk result (λ made. made ≡ operation_with scope.now.prefixes.now scope.now.variables.now scope.now.labels.now operation.now) }
+{
+    match operation {
+        Written::Create { silent, graph } => created(alloc, scope.prefixes, *silent, graph),
+        Written::Drop { silent, target } => dropped(alloc, scope.prefixes, *silent, target),
+        Written::Clear { silent, target } => cleared(alloc, scope.prefixes, *silent, target),
+        Written::Transfer {
+            how,
+            silent,
+            from,
+            to,
+        } => Ok(Operation::Graphs {
+            silent: *silent,
+            operation: between(alloc, scope.prefixes, *how, from, to)?,
+        }),
+        Written::InsertData(quads) => data_with(alloc, scope, &[], quads.as_slice()),
+        Written::DeleteData(quads) => data_with(alloc, scope, quads.as_slice(), &[]),
+        Written::DeleteWhere(quads) => delete_where(alloc, scope, quads.as_slice()),
+        Written::Modify {
+            with,
+            delete,
+            insert,
+            pattern,
+        } => {
+            let pattern = translated_group(alloc, scope, pattern.elements())?;
+            let (delete, insert) = (delete.as_slice(), insert.as_slice());
+            modify_with(alloc, scope, with, delete, insert, pattern)
+        }
+    }
+}
+
+/// The nodes of an operation.
+pub fn operation_nodes<'a>(
+    alloc: Global,
+    operation: &Written<'a>,
+) -> Result<Vec<Node<'a>>, AllocError>
+    ensures { IfOk result (λ nodes. nodes.items ≡ nodes_of_operation operation.now) }
+{
+    let mut nodes = Vec::new(alloc);
+    add_operation(alloc, &mut nodes, operation)?;
+    Ok(nodes)
+}
+
+/// The variables of WHERE.
+fn variables_of<'a>(alloc: Global, operation: &Written<'a>) -> Result<Variables<'a>, AllocError>
+    ensures { IfOk result (λ variables. variables ≡ variables_of (nodes_of_where operation.now)) }
+{
+    let mut nodes = Vec::new(alloc);
+    add_where(alloc, &mut nodes, operation)?;
+    Variables::of(alloc, nodes.as_slice())
+}
+
+/// The labels of an operation, numbered by first appearance.
+fn labels_of<'a>(alloc: Global, operation: &Written<'a>) -> Result<Labels<'a>, AllocError>
+    ensures { IfOk result (λ labels. labels ≡ with_labels (labels_of (nodes_of_operation operation.now)) []) }
+{
+    let mut labels = Labels::new(alloc);
+    let nodes = operation_nodes(alloc, operation)?;
+    labels.add_nodes(nodes.as_slice())?;
+    Ok(labels)
+}
+
+fn operation_of<'a>(
+    alloc: Global,
+    prefixes: &Prefixes<'a>,
+    operation: &Written<'a>,
+) -> Result<Operation<Term>, AllocError>
+    ensures { IfOk result (λ made. made ≡ operation_of prefixes.now operation.now) }
+{
+    let variables = variables_of(alloc, operation)?;
+    let labels = labels_of(alloc, operation)?;
+    let scope = Scope {
+        prefixes,
+        variables: &variables,
+        labels: &labels,
+    };
+    operation_with(alloc, &scope, operation)
+}
+
+/// The operations of a request (SPARQL 1.1 Update, section 3). A name whose prefix isn't declared before it, and a literal with rdf:langString
+/// as its written datatype, stand for a term that no request may have: such a request is refused. An error comes only where a growth was
+/// refused, or where an operation has 2^32 variables or labels.
+pub fn translated(alloc: Global, steps: &[Step<'_>]) -> Result<Items<Operation<Term>>, AllocError>
+    ensures { IfOk result (λ operations. operations ≡ translated steps.now) }
+{
+    let mut prefixes = Prefixes::new(alloc);
+    let mut operations = Items::new(alloc);
+    for step in steps {
+        match step {
+            Step::Declare { prefix, iri } => prefixes.declare(prefix, iri)?,
+            Step::Do(operation) => operations.push(operation_of(alloc, &prefixes, operation)?)?,
+        }
+    }
+    Ok(operations)
+}
