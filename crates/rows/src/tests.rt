@@ -197,13 +197,13 @@ const ROWS: [Row; 25] = [
         "<http://e/a> <http://e/p> \"1\"^^<http://www.w3.org/2001/XMLSchema#integer> .\n",
         "0 ok +1 -0\n1 refused variable-in-data\n2 refused prefix\n",
     ),
-    // Operations on whole graphs can be checked and not run yet.
+    // A graph that was made stays, empty.
     (
         "",
         "CREATE GRAPH <x:g>\n----\nINSERT DATA { <x:a> <x:p> 1 } ; CLEAR ALL",
         0,
-        "",
-        "0 refused syntax\n1 refused syntax\n",
+        "#@graph <x:g>\n",
+        "0 ok +0 -0\n1 ok +0 -0\n",
     ),
 ];
 

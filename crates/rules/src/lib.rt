@@ -1,4 +1,4 @@
-//! What requests are: updates, or why they are refused; what can be run of them; and how a block is cut into requests.
+//! What requests are: updates, or why they are refused; and how a block is cut into requests.
 //!
 //! Stands on `grammar`, `translation` and `meaning`. Used above: `checked` gives the one request that a text is, `split` the requests of a
 //! block, and `verdicts` whether each is refused.
@@ -10,13 +10,11 @@ mod cut;
 mod fault;
 pub mod laws;
 mod request;
-mod running;
 mod splitting;
 
 pub use block::Block;
 pub use fault::BlockFault;
-pub use request::{Checked, Update, Verdict, check, checked, judged, taken};
-pub use running::{Taken, runnable};
+pub use request::{Checked, Update, Verdict, check, checked, judged};
 pub use splitting::{split, verdicts};
 
 #[cfg(test)]

@@ -1,6 +1,6 @@
 //! Texts and blocks with the answers that the standard and this program's limits give them.
 
-use crate::{BlockFault, Checked, checked, split, taken, verdicts};
+use crate::{BlockFault, Checked, checked, split, verdicts};
 use algebra::{Expression, GraphOperation, Link, Modify, Operation, Place, Plan, Slot};
 use meaning::Refusal;
 use std::alloc::{AllocError, Global};
@@ -277,33 +277,24 @@ fn blocks(rt: HostRuntime) -> Result<(), BlockFault> {
     Ok(())
 }
 
-/// Texts, and whether each is accepted and can be run now.
-const RUNS: [(&str, bool); 8] = [
-    ("INSERT DATA { <a:b> <a:c> \"x\"@en }", true),
-    (
-        "INSERT DATA { _:x <a:c> 1 GRAPH <a:g> { <a:b> <a:c> 1 } }",
-        true,
-    ),
-    ("DELETE DATA { <a:b> <a:c> 1 }", true),
-    (
-        "WITH <a:g> DELETE { ?s ?p ?o } INSERT { _:x ?p 1 } WHERE { ?s ?p ?o }",
-        true,
-    ),
-    (
-        "INSERT { ?s ?p 1 } WHERE { GRAPH ?g { ?s ?p ?o } MINUS { ?o ?p ?s } FILTER(?o > 1) }",
-        true,
-    ),
-    ("DELETE WHERE { ?s ?p ?o . GRAPH <a:g> { ?o ?p ?s } }", true),
-    ("INSERT DATA { } ; CREATE GRAPH <a:g>", false),
-    ("COPY <a:g> TO DEFAULT ; DELETE WHERE { ?s ?p ?o }", false),
+/// Operations on whole graphs, and how many terms each has.
+const GRAPHS_NAMED: [(&str, usize); 8] = [
+    ("CREATE GRAPH <a:g>", 1),
+    ("DROP SILENT GRAPH <a:g>", 1),
+    ("DROP ALL", 0),
+    ("CLEAR GRAPH <a:g>", 1),
+    ("CLEAR DEFAULT ; CLEAR NAMED", 0),
+    ("COPY <a:g> TO <a:h>", 2),
+    ("MOVE DEFAULT TO <a:g>", 1),
+    ("ADD <a:g> TO DEFAULT", 1),
 ];
 
 #[test]
-fn runs(rt: HostRuntime) -> Result<(), AllocError> {
+fn names_of_graphs(rt: HostRuntime) -> Result<(), BlockFault> {
     let alloc = rt.alloc();
-    for (text, want) in RUNS {
-        assert!(rt; answer(alloc, text)?.is_ok(), "{text}");
-        assert!(rt; taken(alloc, text)?.is_ok() == want, "{text}");
+    for (text, want) in GRAPHS_NAMED {
+        let block = split(alloc, text.as_bytes())?;
+        assert!(rt; block.terms(alloc)?.len() == want, "{text}");
     }
     Ok(())
 }

@@ -22,10 +22,14 @@ use Rattle.algebra.specs.declared.pattern.TriplePattern.{TriplePattern}
 use Rattle.algebra.specs.Expressions as expression
 use Rattle.algebra.specs.Expressions.{Expression}
 use Rattle.algebra.specs.Plans.{Plan, Basic, Join, LeftJoin, Union, Minus, Filter, InGraph}
+use Rattle.algebra.specs.declared.update.Target.{Target}
+use Rattle.algebra.specs.declared.update.Target.TheVariants as target
+use Rattle.algebra.specs.declared.update.GraphOperation.{GraphOperation}
+use Rattle.algebra.specs.declared.update.GraphOperation.TheVariants as graphs
 use Rattle.algebra.specs.declared.update.Operation.{Operation}
 use Rattle.algebra.specs.declared.update.Operation.TheVariants as operation
-use Rattle.meaning_laws.specs.Renaming.{option_known, slot_known, graph_known, template_known, place_known, pattern_known, expression_known, plan_known, operation_known, request_known}
-use Rattle.rules.specs.Terms.{terms_of_slot, terms_of_graph, terms_of_quad as terms_of_template, terms_of_place, terms_of_pattern, terms_of_expression, terms_of_plan, terms_of_operation, terms_of_request, terms_of}
+use Rattle.meaning_laws.specs.Renaming.{option_known, slot_known, graph_known, template_known, place_known, pattern_known, expression_known, plan_known, target_known, graphs_known, operation_known, request_known}
+use Rattle.rules.specs.Terms.{terms_of_slot, terms_of_graph, terms_of_quad as terms_of_template, terms_of_place, terms_of_pattern, terms_of_expression, terms_of_plan, terms_of_target, terms_of_graphs, terms_of_operation, terms_of_request, terms_of}
 use Rattle.store.specs.Held.{is_held}
 
 all_such : (p : Term → Bool) (xs : List Term) → ((t : Term) → has term_order xs t ≡ true → p t ≡ true) → list_all p xs ≡ true
@@ -125,19 +129,34 @@ module _ (p : Term → Bool) where
       let a = all_parts (terms_of_place n) (terms_of_plan w) h in
       and_from (place_known p n) (plan_known p w) (place_held n a.0) (plan_held w a.1)
 
-  active_held : (g : Option Term) → list_all p (option_to_list g) ≡ true → option_known p g ≡ true
-  active_held None h = refl
-  active_held (Some g) h = (and_parts (p g) true h).0
+  name_held : (g : Option Term) → list_all p (option_to_list g) ≡ true → option_known p g ≡ true
+  name_held None h = refl
+  name_held (Some g) h = (and_parts (p g) true h).0
+
+  target_held : (t : Target Term) → list_all p (terms_of_target t) ≡ true → target_known p t ≡ true
+  target_held (target.Graph g) h = (and_parts (p g) true h).0
+  target_held target.Default h = refl
+  target_held target.Named h = refl
+  target_held target.All h = refl
+
+  graphs_held : (o : GraphOperation Term) → list_all p (terms_of_graphs o) ≡ true → graphs_known p o ≡ true
+  graphs_held (graphs.Create g) h = (and_parts (p g) true h).0
+  graphs_held (graphs.Drop t) h = target_held t h
+  graphs_held (graphs.Clear t) h = target_held t h
+  graphs_held (graphs.Transfer how from to) h =
+      let a = all_parts (option_to_list from) (option_to_list to) h in
+      and_from (option_known p from) (option_known p to) (name_held from a.0) (name_held to a.1)
 
   operation_held : (o : Operation Term) → list_all p (terms_of_operation o) ≡ true → operation_known p o ≡ true
   operation_held (operation.Modify m) h =
       let a = all_parts ((option_to_list m.active ++ terms_of_plan m.pattern) ++ flat_map terms_of_template m.delete) (flat_map terms_of_template m.insert) h in
       let b = all_parts (option_to_list m.active ++ terms_of_plan m.pattern) (flat_map terms_of_template m.delete) a.0 in
       let c = all_parts (option_to_list m.active) (terms_of_plan m.pattern) b.0 in
-      and_from (option_known p m.active) (plan_known p m.pattern && (list_all (template_known p) m.delete && list_all (template_known p) m.insert)) (active_held m.active c.0)
+      and_from (option_known p m.active) (plan_known p m.pattern && (list_all (template_known p) m.delete && list_all (template_known p) m.insert)) (name_held m.active c.0)
       (and_from (plan_known p m.pattern) (list_all (template_known p) m.delete && list_all (template_known p) m.insert) (plan_held m.pattern c.1)
       (and_from (list_all (template_known p) m.delete) (list_all (template_known p) m.insert)
       (spread_parts terms_of_template (template_known p) template_held m.delete b.1) (spread_parts terms_of_template (template_known p) template_held m.insert a.1)))
+  operation_held (operation.Graphs silent op) h = graphs_held op h
 
   request_held : (r : Request Term) → list_all p (terms_of_request r) ≡ true → request_known p r ≡ true
   request_held (Ok operations) h = spread_parts terms_of_operation (operation_known p) operation_held operations h

@@ -3,15 +3,15 @@ ghost use Rattle.std.specs.Prelude.{◌≡◌, true, map, IfOk};
 ghost use Rattle.std.specs.List.{list_all};
 ghost use Rattle.std.specs.Option.{option_map};
 ghost use Rattle.dict.specs.Dictionary.{term_of, is_known};
-ghost use Rattle.meaning_laws.specs.Renaming.{renamed_slot, renamed_template, renamed_operation, renamed_request, option_known, slot_known, graph_known, template_known, operation_known, request_known};
+ghost use Rattle.meaning_laws.specs.Renaming.{renamed_slot, renamed_template, renamed_target, renamed_graphs, renamed_operation, renamed_request, option_known, slot_known, graph_known, template_known, target_known, graphs_known, operation_known, request_known};
 ghost use Rattle.store.specs.Held.{is_held};
 
 use crate::numbering::number_term;
 use crate::plans::number_plan;
-use algebra::{Modify, Operation, Pattern, QuadTemplate, Slot};
+use algebra::{GraphOperation, Modify, Operation, Pattern, QuadTemplate, Slot, Target};
 use dict::{Dict, Id};
 use meaning::Refusal;
-use rules::Taken;
+use rules::Checked;
 use sets::Items;
 use std::alloc::{AllocError, Global};
 use terms::Term;
@@ -71,14 +71,65 @@ fn number_templates(
     Ok(list)
 }
 
-fn number_active(dict: &Dict, active: &Option<Term>) -> Option<Id>
-    requires { option_known (is_held dict.now) active.now ≡ true }
-    ensures renamed { option_map (term_of dict.now) result ≡ active.now }
+fn number_name(dict: &Dict, graph: &Option<Term>) -> Option<Id>
+    requires { option_known (is_held dict.now) graph.now ≡ true }
+    ensures renamed { option_map (term_of dict.now) result ≡ graph.now }
     ensures known { option_known (is_known dict.now) result ≡ true }
 {
-    match active {
+    match graph {
         Some(graph) => Some(number_term(dict, graph)),
         None => None,
+    }
+}
+
+fn number_modify(
+    alloc: Global,
+    dict: &Dict,
+    modify: &Modify<Term>,
+) -> Result<Modify<Id>, AllocError>
+    requires { operation_known (is_held dict.now) (Operation.Modify modify.now) ≡ true }
+    ensures renamed { IfOk result (λ m. renamed_operation (term_of dict.now) (Operation.Modify m) ≡ Operation.Modify modify.now) }
+    ensures known { IfOk result (λ m. operation_known (is_known dict.now) (Operation.Modify m) ≡ true) }
+{
+    let delete = number_templates(alloc, dict, modify.delete.as_slice())?;
+    let insert = number_templates(alloc, dict, modify.insert.as_slice())?;
+    let plan = number_plan(alloc, dict, modify.pattern.plan())?;
+    Ok(Modify {
+        width: modify.width,
+        active: number_name(dict, &modify.active),
+        pattern: Pattern::new(plan),
+        delete: Items::from_vec(delete),
+        insert: Items::from_vec(insert),
+    })
+}
+
+fn number_target(dict: &Dict, target: &Target<Term>) -> Target<Id>
+    requires { target_known (is_held dict.now) target.now ≡ true }
+    ensures renamed { renamed_target (term_of dict.now) result ≡ target.now }
+    ensures known { target_known (is_known dict.now) result ≡ true }
+{
+    match target {
+        Target::Graph(graph) => Target::Graph(number_term(dict, graph)),
+        Target::Default => Target::Default,
+        Target::Named => Target::Named,
+        Target::All => Target::All,
+    }
+}
+
+fn number_graphs(dict: &Dict, operation: &GraphOperation<Term>) -> GraphOperation<Id>
+    requires { graphs_known (is_held dict.now) operation.now ≡ true }
+    ensures renamed { renamed_graphs (term_of dict.now) result ≡ operation.now }
+    ensures known { graphs_known (is_known dict.now) result ≡ true }
+{
+    match operation {
+        GraphOperation::Create(graph) => GraphOperation::Create(number_term(dict, graph)),
+        GraphOperation::Drop(target) => GraphOperation::Drop(number_target(dict, target)),
+        GraphOperation::Clear(target) => GraphOperation::Clear(number_target(dict, target)),
+        GraphOperation::Transfer { how, from, to } => GraphOperation::Transfer {
+            how: *how,
+            from: number_name(dict, from),
+            to: number_name(dict, to),
+        },
     }
 }
 
@@ -91,17 +142,13 @@ fn number_operation(
     ensures renamed { IfOk result (λ o. renamed_operation (term_of dict.now) o ≡ operation.now) }
     ensures known { IfOk result (λ o. operation_known (is_known dict.now) o ≡ true) }
 {
-    let Operation::Modify(modify) = operation;
-    let delete = number_templates(alloc, dict, modify.delete.as_slice())?;
-    let insert = number_templates(alloc, dict, modify.insert.as_slice())?;
-    let plan = number_plan(alloc, dict, modify.pattern.plan())?;
-    Ok(Operation::Modify(Modify {
-        width: modify.width,
-        active: number_active(dict, &modify.active),
-        pattern: Pattern::new(plan),
-        delete: Items::from_vec(delete),
-        insert: Items::from_vec(insert),
-    }))
+    match operation {
+        Operation::Modify(modify) => { Ok(Operation::Modify(number_modify(alloc, dict, modify)?)) }
+        Operation::Graphs { silent, operation } => Ok(Operation::Graphs {
+            silent: *silent,
+            operation: number_graphs(dict, operation),
+        }),
+    }
 }
 
 fn number_operations(
@@ -120,7 +167,7 @@ fn number_operations(
     Ok(list)
 }
 
-fn number_request(alloc: Global, dict: &Dict, request: &Taken) -> Result<Request, AllocError>
+fn number_request(alloc: Global, dict: &Dict, request: &Checked) -> Result<Request, AllocError>
     requires { request_known (is_held dict.now) request.now ≡ true }
     ensures renamed { IfOk result (λ r. renamed_request (term_of dict.now) r ≡ request.now) }
     ensures known { IfOk result (λ r. request_known (is_known dict.now) r ≡ true) }
@@ -138,7 +185,7 @@ fn number_request(alloc: Global, dict: &Dict, request: &Taken) -> Result<Request
 pub(crate) fn number_requests(
     alloc: Global,
     dict: &Dict,
-    requests: &[Taken],
+    requests: &[Checked],
 ) -> Result<Vec<Request>, AllocError>
     requires { list_all (request_known (is_held dict.now)) requests.now ≡ true }
     ensures renamed { IfOk result (λ list. map (renamed_request (term_of dict.now)) list.items ≡ requests.now) }
