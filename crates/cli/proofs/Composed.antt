@@ -1,6 +1,6 @@
 -- Numbering, running and naming is running.
 use Rattle.std.proofs.lemmas.List.{take_all}
-use Rattle.std.proofs.Common.{◌≡◌, ℕ, zero, suc, true, List, [], ◌∷◌, length, map, Some, None, Ok, Err, refl, sym, ap, ◌∙◌, subst, arith, slice_get}
+use Rattle.std.proofs.Common.{◌≡◌, ℕ, zero, suc, ◌≤◌, true, List, [], ◌∷◌, length, map, Some, None, Ok, Err, refl, sym, ap, ◌∙◌, subst, arith, slice_get}
 use Rattle.datasets.specs.Dataset.{Dataset, IsDataset}
 use Rattle.datasets.specs.declared.id.Id.{Id}
 use Rattle.terms.specs.Term.{term_order}
@@ -13,6 +13,7 @@ use Rattle.store.specs.Numbered.{IsNumbered, IsCarried, CarriesBlock}
 use Rattle.update.specs.Asked.{IsShort}
 use Rattle.driver.specs.Duty.{AreShort as AreShortNumbers}
 use Rattle.cli.specs.Inputs.{AreShort}
+use Rattle.book.specs.Run.{Run as BookRun, state_of, front_run}
 use Rattle.cli.specs.Outputs.{IsWhole}
 
 length-map : {A B : Type 0} (f : A → B) (xs : List A) → length (map f xs) ≡ length xs
@@ -66,3 +67,17 @@ module _ (d : Dataset Term) (block : List (Request Term)) (terms : List Term) (b
     pub replies_are : replies ≡ (run written block d).1
     unfolding carried all_of
     replies_are = ap (λ p. p.1) whole.2 ∙ carried.replies_are ∙ ap (λ p. p.1) all_of
+
+-- the front of a book that has committed the whole block
+pub whole_book : (terms : List Term) (base : Dataset Id) (block : List (Request Id)) (book : BookRun) (dataset : Dataset Id) (replies : List Reply)
+    → book.terms ≡ terms → book.base ≡ base → book.block ≡ block → length block ≤ (state_of book).front → (dataset, replies) ≡ front_run book
+    → IsWhole terms base block dataset replies
+whole_book terms base block book dataset replies is_terms is_base is_block whole e =
+    ((state_of book).front, whole, e ∙ (λ t. run_of_first (numbers (is_terms t)) (state_of book).front (is_block t) (is_base t)))
+
+-- the run of the whole block
+pub whole_run : (terms : List Term) (base : Dataset Id) (block : List (Request Id)) (dataset : Dataset Id) (replies : List Reply)
+    → (dataset, replies) ≡ run (numbers terms) block base → IsWhole terms base block dataset replies
+whole_run terms base block dataset replies e =
+    let all : length block ≤ length block = omega arith in
+    (length block, all, e ∙ ap (λ (b : List (Request Id)). run (numbers terms) b base) (sym (take_all (length block) block all)))

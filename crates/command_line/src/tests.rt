@@ -18,6 +18,7 @@ fn tell(alloc: Global, line: &str) -> Result<String, Fail> {
                 workers,
             },
         ) => format!(in alloc; "{base} {block} {out} {workers}")?,
+        Ok(Job::Serial { base, block, out }) => format!(in alloc; "serial {base} {block} {out}")?,
         Ok(Job::Check { block }) => format!(in alloc; "check {block}")?,
         Err(fault) => format!(in alloc; "{}", Fault::Line(fault).status())?,
     })
@@ -37,6 +38,12 @@ fn command_lines(rt: HostRuntime) -> Result<(), Fail> {
         ("x run a b c --shards 2", "2"),
         ("x run a b c d", "2"),
         ("x run a b", "2"),
+        ("x serial a b c", "serial a b c"),
+        ("x serial run serial check", "serial run serial check"),
+        ("x serial a b", "2"),
+        ("x serial a b c d", "2"),
+        ("x serial a b c --workers 1", "2"),
+        ("x serial", "2"),
         ("x check b", "check b"),
         ("x check run", "check run"),
         ("x check", "2"),
@@ -51,6 +58,7 @@ fn command_lines(rt: HostRuntime) -> Result<(), Fail> {
         ("x", "2"),
         ("x --help", "0"),
         ("x run --help", "0"),
+        ("x serial --help", "0"),
         ("x check --help", "0"),
     ];
     for (line, want) in table {

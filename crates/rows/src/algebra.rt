@@ -1,6 +1,6 @@
 //! Patterns, filters, graphs and new nodes, from bytes to bytes.
 
-use crate::tests::{Row, answer_to, is_as_expected};
+use crate::tests::{Row, answer_to, is_as_expected, serial_answer_to};
 
 const ROWS: [Row; 21] = [
     // Taking out the last triple of a graph leaves the graph there.
@@ -183,5 +183,7 @@ fn algebra(rt: HostRuntime) {
                 "{block:?} with {workers} workers"
             );
         }
+        let answer = serial_answer_to(rt.alloc(), base.as_bytes(), block.as_bytes());
+        assert!(rt; is_as_expected(&answer, *status, dataset, replies), "{block:?} in order");
     }
 }

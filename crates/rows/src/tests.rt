@@ -1,6 +1,6 @@
 ghost use Rattle.std.specs.Prelude.{◌<◌, ◌≤◌};
 
-use cli::{Fault, Watched, run_engine};
+use cli::{Fault, Watched, run_engine, serial_engine};
 use std::alloc::{AllocError, Global};
 use std::io;
 use std::io::{Read, Write};
@@ -45,6 +45,20 @@ pub(crate) fn answer_to<T: Wait>(
         &mut replies,
         workers,
     );
+    Answer {
+        status: status_of(&outcome),
+        dataset: dataset.inner,
+        replies: replies.inner,
+    }
+}
+
+/// The same by one thread, one request after another.
+pub(crate) fn serial_answer_to(alloc: Global, base: &[u8], block: &[u8]) -> Answer {
+    let mut base = Watched::new(base);
+    let mut block = Watched::new(block);
+    let mut dataset = Watched::new(Vec::new(alloc));
+    let mut replies = Watched::new(Vec::new(alloc));
+    let outcome = serial_engine(alloc, &mut base, &mut block, &mut dataset, &mut replies);
     Answer {
         status: status_of(&outcome),
         dataset: dataset.inner,
@@ -223,6 +237,8 @@ fn rows(rt: HostRuntime) {
                 "{block:?} with {workers} workers"
             );
         }
+        let answer = serial_answer_to(rt.alloc(), base.as_bytes(), block.as_bytes());
+        assert!(rt; is_as_expected(&answer, *status, dataset, replies), "{block:?} in order");
     }
 }
 

@@ -4,8 +4,8 @@ use Rattle.command_line.specs.Replies.{reply_lines}
 use Rattle.cli.proofs.Composed.{short, known, named_dataset, named_is, replies_are}
 use Rattle.cli.proofs.engine.texts_of.Goals as goal
 
-pub outcome_of-requires-clause-short : goal.outcome_of-requires-clause-short
-outcome_of-requires-clause-short g c = short _ _ _ _ _ c.in_ok-numbered.ensures c.requires.short
+pub outcome-requires-clause-short : goal.outcome-requires-clause-short
+outcome-requires-clause-short g c = short _ _ _ _ _ c.in_ok-numbered.ensures c.requires.short
 
 pub named-requires-clause-known : goal.named-requires-clause-known
 named-requires-clause-known g c = known _ _ _ _ _ c.in_ok-numbered.ensures c.carries_block.ensures c.parts-parts.ensures.dataset _ _ c.in_ok-dataset.ensures

@@ -1,0 +1,12 @@
+//! Requests one after another, by one thread.
+//!
+//! Each request is run on the dataset that those before it left: the base with their changes, which is not copied before the end. Stands on
+//! `update` and `reads`. Used above: `run` is the sequential run of the block.
+#![tactic(auto)]
+
+mod current;
+mod sequential;
+#[cfg(test)]
+mod tests;
+
+pub use sequential::{Outcome, run};
