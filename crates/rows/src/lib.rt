@@ -3,8 +3,8 @@
 #![tactic(auto)]
 
 #[cfg(test)]
-mod algebra;
-#[cfg(test)]
 mod checks;
 #[cfg(test)]
 mod tests;
+#[cfg(test)]
+mod where_clauses;

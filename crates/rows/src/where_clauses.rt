@@ -174,7 +174,7 @@ const ROWS: [Row; 21] = [
 ];
 
 #[test]
-fn algebra(rt: HostRuntime) {
+fn where_clauses(rt: HostRuntime) {
     for (base, block, status, dataset, replies) in &ROWS {
         for workers in [1, 2, 8] {
             let answer = answer_to(&rt, rt.alloc(), base.as_bytes(), block.as_bytes(), workers);
