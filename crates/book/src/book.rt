@@ -10,7 +10,7 @@ use crate::copies::{copy_of_event, kept_event};
 use block_machine::laws::{front_is_serial, front_is_within, history_goes_on, ready_after};
 use block_machine::{Entry, Event, Machine, Reply};
 use dict::Dict;
-use reads::View;
+use reads::{Outcome, View};
 use sets::Items;
 use std::alloc::{AllocError, Global};
 use std::marker::Model;
@@ -38,13 +38,6 @@ impl<'a> Model for Book<'a> {
     ghost view = { λ b. record { terms = b.terms.now; base = b.base.now; block = b.block.now; history = b.journal.items } };
 
     ghost invariant = { λ b. IsReplayed (record { terms = b.terms.now; base = b.base.now; block = b.block.now; history = b.journal.items }) b.machine };
-}
-
-/// The dataset after a number of first requests, and their replies.
-#[derive(Drop)]
-pub struct Outcome {
-    pub dataset: View,
-    pub replies: Items<meaning::Reply>,
 }
 
 impl<'a> Book<'a> {

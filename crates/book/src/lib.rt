@@ -7,7 +7,7 @@
 pub mod book;
 pub mod copies;
 
-pub use book::{Book, Outcome};
+pub use book::Book;
 
 /// A request at numbers of terms: its operations, or why it is refused.
 pub type Request = Result<sets::Items<algebra::Operation<datasets::Id>>, meaning::Refusal>;

@@ -8,8 +8,8 @@ use crate::outputs::{Texts, write_texts};
 use command_line::{Fault, File, replies_text};
 use driver::run_to_end;
 use nquads::{Watched, canonical_text, tag};
+use reads::Outcome;
 use rules::Block;
-use serial::Outcome;
 use std::alloc::{AllocError, Global};
 use std::io::{Read, Write};
 use std::sync::Wait;
@@ -105,11 +105,8 @@ impl<'r, T: Wait> Runs for Workers<'r, T> {
     fn outcome(&self, alloc: Global, numbered: &Numbered) -> Result<Outcome, AllocError> {
         let Numbered { terms, base, block } = numbered;
         let book = run_to_end(self.rt, alloc, terms, base, block.as_slice(), self.count)?;
-        let front = book.outcome(alloc)?;
-        Ok(Outcome {
-            dataset: front.dataset,
-            replies: front.replies,
-        })
+        let outcome = book.outcome(alloc)?;
+        Ok(outcome)
     }
 }
 

@@ -1,8 +1,9 @@
-//! Finished runs of requests.
+//! Finished runs of requests and of blocks.
 ghost use Rattle.std.specs.Prelude.{◌≡◌, IfOk};
 
 use crate::delta::Delta;
 use crate::note::Note;
+use crate::view::View;
 use sets::Items;
 use std::alloc::{AllocError, Global};
 
@@ -13,6 +14,13 @@ pub struct Finished {
     pub transcript: Items<Note>,
     pub delta: Delta,
     pub reply: meaning::Reply,
+}
+
+/// What first requests of a block come to: the dataset that they leave, and their replies in order.
+#[derive(Drop)]
+pub struct Outcome {
+    pub dataset: View,
+    pub replies: Items<meaning::Reply>,
 }
 
 impl Finished {

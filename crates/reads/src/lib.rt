@@ -17,7 +17,7 @@ pub mod view;
 
 pub use answered::Answered;
 pub use delta::Delta;
-pub use finished::Finished;
+pub use finished::{Finished, Outcome};
 pub use note::Note;
 pub use source::{Source, Stop};
 pub use view::View;

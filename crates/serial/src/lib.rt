@@ -9,4 +9,4 @@ mod sequential;
 #[cfg(test)]
 mod tests;
 
-pub use sequential::{Outcome, run};
+pub use sequential::run;

@@ -9,17 +9,10 @@ ghost use Rattle.serial.specs.Blocks.{AreShort};
 use crate::current::{Current, Reader};
 use dict::Dict;
 use meaning::Reply;
-use reads::{Finished, View};
+use reads::{Finished, Outcome, View};
 use sets::Items;
 use std::alloc::{AllocError, Global};
 use update::{Request, execute};
-
-/// The dataset after a block, and the replies to its requests.
-#[derive(Drop)]
-pub struct Outcome {
-    pub dataset: View,
-    pub replies: Items<Reply>,
-}
 
 // The finished run of the request at this place, on the current dataset.
 fn finished(

@@ -4,13 +4,13 @@ ghost use Rattle.std.specs.Prelude.{IsTrue};
 ghost use Rattle.update.specs.Asked.{IsShort};
 ghost use Rattle.serial.specs.Blocks.{AreShort};
 
-use crate::{Outcome, run};
+use crate::run;
 use algebra::{Modify, Pattern, Place, Plan, QuadTemplate, Slot, TriplePattern};
 use datasets::{Id, Quad};
 use dict::Dict;
 use iris::Iri;
 use meaning::{Operation, Refusal, Reply};
-use reads::View;
+use reads::{Outcome, View};
 use sets::Items;
 use std::alloc::{AllocError, Global};
 use terms::Term;
