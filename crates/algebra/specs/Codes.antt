@@ -2,8 +2,8 @@
 use Rattle.std.specs.Prelude.{ℕ, ◌≡◌, List, [], ◌∷◌, refl}
 use Rattle.std.proofs.Common.{ap, ◌∙◌}
 use Rattle.std.specs.Coded.{Coded, code_by}
-use Rattle.meaning.specs.declared.update.Place.{Place}
-use Rattle.meaning.specs.declared.update.TriplePattern.{TriplePattern}
+use Rattle.algebra.specs.declared.pattern.Place.{Place}
+use Rattle.algebra.specs.declared.pattern.TriplePattern.{TriplePattern}
 use Rattle.algebra.specs.declared.expression.OneOperator.{OneOperator}
 use Rattle.algebra.specs.declared.expression.TwoOperator.{TwoOperator}
 use Rattle.algebra.specs.Expressions as expression

@@ -33,7 +33,9 @@ pub enum TwoOperator {
     Contains,
 }
 
-/// A filter expression (SPARQL 1.1 Query, section 17). Variables have the numbers that they have in patterns.
+/// A filter expression (SPARQL 1.1 Query, section 17). Variables have the numbers that they have in patterns. It is no deeper than the
+/// parentheses of its text, however long that is.
+#[derive(Drop)]
 pub enum Expression<T> {
     Constant(T),
     Variable(u32),
@@ -41,19 +43,6 @@ pub enum Expression<T> {
     Bound(u32),
     One(OneOperator, Box<Expression<T>>),
     Two(TwoOperator, Box<Expression<T>>, Box<Expression<T>>),
-}
-
-// A loop: the first operands of a text lie as deep as it is long.
-impl<T: Drop> Drop for Expression<T> {
-    fn drop(mut self) {
-        loop {
-            match self {
-                Expression::Two(_, first, _second) => self = Box::into_inner(first),
-                Expression::One(_, inner) => self = Box::into_inner(inner),
-                Expression::Constant(_term) => return,
-                Expression::Variable(_) => return,
-                Expression::Bound(_) => return,
-            }
-        }
-    }
+    /// Operators with their right operands, from left to right.
+    Chain(Box<Expression<T>>, Vec<(TwoOperator, Expression<T>)>),
 }

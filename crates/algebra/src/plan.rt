@@ -3,38 +3,31 @@ ghost use Rattle.std.specs.Prelude.{◌≡◌};
 ghost use Rattle.algebra.specs.Plans.{plan_of};
 
 use crate::expression::Expression;
-use meaning::{Place, TriplePattern};
+use crate::pattern::{Place, TriplePattern};
 use sets::Items;
 use std::marker::Model;
 
-/// A graph pattern of the algebra (SPARQL 1.1 Query, 18.2 and 18.6). The filters of a list all have to hold.
+/// How a group goes on with a pattern (SPARQL 1.1 Query, 18.2.2.6).
+#[derive(Drop)]
+pub enum Link<T> {
+    Join,
+    /// OPTIONAL, with the filters of its group.
+    LeftJoin(Vec<Expression<T>>),
+    Minus,
+}
+
+/// A graph pattern of the algebra (SPARQL 1.1 Query, 18.2 and 18.6). The filters of a list all have to hold. It is no deeper than the
+/// braces of its text, however long that is.
+#[derive(Drop)]
 pub enum Plan<T> {
     /// A basic graph pattern, asked of the active graph. With no triple pattern it is the empty group.
     Basic(Items<TriplePattern<T>>),
-    Join(Box<Plan<T>>, Box<Plan<T>>),
-    LeftJoin(Box<Plan<T>>, Box<Plan<T>>, Vec<Expression<T>>),
-    Union(Box<Plan<T>>, Box<Plan<T>>),
-    Minus(Box<Plan<T>>, Box<Plan<T>>),
-    Filter(Vec<Expression<T>>, Box<Plan<T>>),
+    /// A group: from the empty group on each pattern in order, and then filters over the whole.
+    Group(Vec<(Link<T>, Plan<T>)>, Vec<Expression<T>>),
+    /// Patterns from left to right; of none, the empty group.
+    Union(Vec<Plan<T>>),
     /// A pattern that is asked of a named graph, or of each.
     InGraph(Place<T>, Box<Plan<T>>),
-}
-
-// A loop: the left operands of a text lie as deep as it is long.
-impl<T: Drop> Drop for Plan<T> {
-    fn drop(mut self) {
-        loop {
-            match self {
-                Plan::Join(left, _right) => self = Box::into_inner(left),
-                Plan::LeftJoin(left, _right, _condition) => self = Box::into_inner(left),
-                Plan::Union(left, _right) => self = Box::into_inner(left),
-                Plan::Minus(left, _right) => self = Box::into_inner(left),
-                Plan::Filter(_filters, inner) => self = Box::into_inner(inner),
-                Plan::InGraph(_place, inner) => self = Box::into_inner(inner),
-                Plan::Basic(_triples) => return,
-            }
-        }
-    }
 }
 
 /// The pattern of a WHERE. Contracts see its tree.

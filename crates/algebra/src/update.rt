@@ -1,7 +1,7 @@
 //! Operations of a request (SPARQL 1.1 Update, section 3).
 
 use crate::plan::Pattern;
-use meaning::QuadTemplate;
+use crate::template::QuadTemplate;
 use sets::Items;
 
 /// DELETE and INSERT with their WHERE (SPARQL 1.1 Update, 3.1.3). INSERT DATA and DELETE DATA have the empty group as WHERE, and DELETE WHERE

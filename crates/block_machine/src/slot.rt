@@ -79,8 +79,7 @@ pub fn abort(slot: &mut Slot, n: u64)
     requires { n + 1 < 2 ^ 64 }
     ensures { slot.new ≡ aborted_slot slot.old n }
 {
-    slot.status = Status::Ready(n + 1);
-    slot.notes.clear();
+    give_up(slot, n);
     slot.estimate = true;
     slot.pass = None;
     slot.stamp = None;

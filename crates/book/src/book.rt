@@ -26,9 +26,14 @@ pub struct Book<'a> {
 }
 
 impl<'a> Model for Book<'a> {
+    ghost use Rattle.std.specs.Coded.{codes};
+    ghost use Rattle.algebra.specs.Codes.{plan_code};
     ghost use Rattle.book.specs.Run.{Run, IsReplayed};
+    ghost use Rattle.datasets.specs.declared.id.Id.{Id as Number};
 
     ghost Value = { Run };
+
+    ghost coded = { Prim.hlevel (codes, plan_code {K = Number} (Prim.hlevel codes)) };
 
     ghost view = { λ b. record { terms = b.terms.now; base = b.base.now; block = b.block.now; history = b.journal.items } };
 

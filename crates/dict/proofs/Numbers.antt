@@ -18,7 +18,7 @@ use Rattle.datasets.specs.declared.id.Id.TheVariants.{Known, Made}
 use Rattle.datasets.specs.Id.{id_order, id_order_is}
 use Rattle.meaning_laws.specs.Renaming.{IsRenaming}
 use Rattle.dict.specs.Dictionary.{is_written, IsDictionary, term_of, is_known, written, numbers}
-use Rattle.dict.proofs.Places.{below_at}
+use Rattle.sets.proofs.Places.{below_at}
 
 written_at : (terms : List Term) (n : ℕ) (d : Term) → list_all is_written terms ≡ true → n < length terms → is_written (get_or terms n d) ≡ true
 written_at [] n d h lt = absurd (omega (arith, lt))
@@ -64,4 +64,5 @@ module _ (terms : List Term) (dictionary : IsDictionary terms) where
     literals = λ x h. refl;
     nodes = λ r o l s. refl;
     nodes_known = λ r o l s. refl;
+    passes = λ e m he hm. refl;
   }

@@ -9,6 +9,8 @@ use Rattle.datasets.specs.declared.id.Id.{Id}
 use Rattle.datasets.specs.declared.id.Id.TheVariants.{Known, Made}
 use Rattle.datasets.specs.Id.{id_order}
 use Rattle.meaning.specs.Vocabulary.{Vocabulary}
+use Rattle.meaning_laws.specs.Renaming.{renamed_expression, renamed_mapping}
+use Rattle.values.specs.Values.{passes}
 
 -- no node that a request made
 abbrev pub is_written : Term → Bool
@@ -30,7 +32,13 @@ is_known terms (Made request operation label rank) = true
 
 -- what the definitions need to know of terms, and of their numbers
 abbrev pub written : Vocabulary Term
-written = record { order = term_order; is_iri = is_iri; is_literal = is_literal; made = term.Made }
+written = record { order = term_order; is_iri = is_iri; is_literal = is_literal; made = term.Made; passes = passes }
 
 abbrev pub numbers : List Term → Vocabulary Id
-numbers terms = record { order = id_order; is_iri = λ id. is_iri (term_of terms id); is_literal = λ id. is_literal (term_of terms id); made = Made }
+numbers terms = record {
+  order = id_order;
+  is_iri = λ id. is_iri (term_of terms id);
+  is_literal = λ id. is_literal (term_of terms id);
+  made = Made;
+  passes = λ e m. passes (renamed_expression (term_of terms) e) (renamed_mapping (term_of terms) m);
+}

@@ -4,9 +4,8 @@ ghost use Rattle.sets.specs.Sets.{set_of as the_set_of, has};
 ghost use Rattle.terms.specs.Term.{term_order};
 ghost use Rattle.dict.specs.Dictionary.{IsDictionary, is_written, is_known, term_of as the_term_of, numbers};
 
-use crate::search::place_of;
 use datasets::Id;
-use sets::set_of;
+use sets::{place_of, set_of};
 use std::alloc::{AllocError, Global};
 use std::marker::Model;
 use terms::Term;

@@ -6,7 +6,6 @@
 
 pub mod dictionary;
 pub mod laws;
-pub mod search;
 
 pub use datasets::Id;
 pub use dictionary::Dict;

@@ -34,9 +34,14 @@ pub struct Driver<'s, 'a, R: Wait> {
 }
 
 impl<'s, 'a, R: Wait> Model for Driver<'s, 'a, R> {
+    ghost use Rattle.std.specs.Coded.{codes};
+    ghost use Rattle.algebra.specs.Codes.{plan_code};
+    ghost use Rattle.datasets.specs.declared.id.Id.{Id as Number};
     ghost use Rattle.shared.specs.Duty.{Duty};
 
     ghost Value = { Duty };
+
+    ghost coded = { Prim.hlevel (codes, plan_code {K = Number} (Prim.hlevel codes)) };
 
     ghost view = { λ d. record { table = d.shared.now; subject = record { terms = d.terms.now; base = d.base.now; block = d.block.now } } };
 }

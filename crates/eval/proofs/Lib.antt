@@ -1,5 +1,9 @@
+pub mod Folds
 pub mod Maps
-pub mod Seen
+pub mod Members
+pub mod Nearness
+pub mod Outside
 pub mod Replacing
 pub mod Scanned
-pub mod Outside
+pub mod Seen
+pub mod Shapes

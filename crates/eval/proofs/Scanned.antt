@@ -1,37 +1,50 @@
 -- The scan for a triple pattern is near it, and finds its solutions.
 use Rattle.std.specs.Prelude.{Bool, true, false, cond, ◌&&◌, ◌⊎◌, ℕ, filter, option_and_then}
+use Rattle.std.specs.List.{list_any}
 use Rattle.std.specs.Ordering.{is_eq}
 use Rattle.std.specs.Cmp.{tied_itself}
-use Rattle.std.proofs.Common.{◌≡◌, List, Option, Some, None, refl, ap, ◌∙◌, inl, inr}
+use Rattle.std.proofs.lemmas.Bool.{or_left, or_right}
+use Rattle.std.proofs.Common.{◌≡◌, List, [], ◌∷◌, Option, Some, None, refl, ap, inl, inr}
 use Rattle.sets.specs.Sets.{set_of}
 use Rattle.datasets.specs.declared.id.Id.{Id}
 use Rattle.datasets.specs.declared.quad.Quad.{Quad}
+use Rattle.datasets.specs.declared.read.GraphPlace.TheVariants.{Only}
 use Rattle.datasets.specs.declared.read.QuadPattern.{QuadPattern}
-use Rattle.datasets.specs.declared.read.Read.TheVariants.{Scan}
 use Rattle.datasets.specs.Dataset.{matches, quads_in, same_graph, free_or}
 use Rattle.datasets.specs.Id.{id_order, id_total}
+use Rattle.algebra.specs.Plans.{Basic}
+use Rattle.algebra.specs.declared.pattern.Place.{Place}
+use Rattle.algebra.specs.declared.pattern.Place.TheVariants.{Term, Variable}
+use Rattle.algebra.specs.declared.pattern.TriplePattern.{TriplePattern}
+use Rattle.algebra.specs.declared.template.Slot.{Slot}
 use Rattle.meaning.specs.Mapping.{Mapping, mapping_cmp, fitted, empty_mapping}
-use Rattle.meaning.specs.Near.{is_written, slot_of}
+use Rattle.meaning.specs.Near.{is_written, is_graph_written, is_near_quad, is_for_plan, slot_of, quad_of}
 use Rattle.meaning.specs.Solutions.{mapping_onto, solutions_among}
-use Rattle.meaning.specs.declared.update.Place.{Place}
-use Rattle.meaning.specs.declared.update.Place.TheVariants.{Term, Variable}
-use Rattle.meaning.specs.declared.update.Plan.{Plan}
-use Rattle.meaning.specs.declared.update.Plan.TheVariants.{Triple}
-use Rattle.meaning.specs.declared.update.TriplePattern.{TriplePattern}
-use Rattle.eval.specs.Scans.{scan_of, term_of, is_for_plan}
+use Rattle.eval.specs.Scans.{scan_of, term_of, AskedPatterns}
 use Rattle.eval.proofs.Maps.{filter_map-filter_alike}
 
 -- ---- nearness
 
-written : (p : Place Id) → is_written id_order (slot_of id_order p) (term_of p) ≡ true
-written (Term t) = ap is_eq (tied_itself id_total t)
-written (Variable v) = refl
+written_term : (p : Place Id) → is_written id_order (slot_of id_order p) (term_of p) ≡ true
+written_term (Term t) = ap is_eq (tied_itself id_total t)
+written_term (Variable v) = refl
 
-all_true : (a b c : Bool) → a ≡ true → b ≡ true → c ≡ true → (a && (b && (c && true))) ≡ true
-all_true a b c e f g = λ i. e i && (f i && (g i && true))
+all_true : (a b c d : Bool) → a ≡ true → b ≡ true → c ≡ true → d ≡ true → (a && (b && (c && d))) ≡ true
+all_true a b c d e f g h = λ i. e i && (f i && (g i && h i))
 
-pub scan_allowed : (t : TriplePattern Id) → is_for_plan (Triple t) (Scan (scan_of t)) ≡ true
-scan_allowed t = all_true _ _ _ (written t.subject) (written t.predicate) (written t.object)
+module _ (written : Option (Slot Id)) (graph : Option Id) (here : is_graph_written id_order written (Only graph) ≡ true) where
+  near_it : (t : TriplePattern Id) → is_near_quad id_order (quad_of id_order written t) (scan_of t graph) ≡ true
+  near_it t = all_true _ _ _ _ (written_term t.subject) (written_term t.predicate) (written_term t.object) here
+
+  asked_among : (ts all : List (TriplePattern Id))
+      → ((p : QuadPattern Id) → list_any (λ t. is_near_quad id_order (quad_of id_order written t) p) ts ≡ true → list_any (λ t. is_near_quad id_order (quad_of id_order written t) p) all ≡ true)
+      → AskedPatterns (is_for_plan id_order written (Basic all)) graph ts
+  asked_among [] all f = tt
+  asked_among (t ∷ ts) all f = (f (scan_of t graph) (or_left _ _ (near_it t)), asked_among ts all (λ p h. f p (or_right _ _ h)))
+
+  -- the scans for the triple patterns of a basic pattern are for it
+  pub basic_asked : (ts : List (TriplePattern Id)) → AskedPatterns (is_for_plan id_order written (Basic ts)) graph ts
+  basic_asked ts = asked_among ts ts (λ p h. h)
 
 -- ---- solutions
 
@@ -51,9 +64,9 @@ then_nothing : {A B : Type 0} (f : A → Option B) (o : Option A) → ((a : A) �
 then_nothing f None h = refl
 then_nothing f (Some a) h = h a
 
-alike : (width : ℕ) (t : TriplePattern Id) (q : Quad Id) → (matches id_order (scan_of t) q ≡ same_graph id_order q.graph None) ⊎ (mapping_onto id_order width t q ≡ None)
-alike width t q =
-    unmatched (same_graph id_order q.graph None) (free_or id_order (term_of t.subject) q.subject) (free_or id_order (term_of t.predicate) q.predicate) (free_or id_order (term_of t.object) q.object)
+alike : (width : ℕ) (t : TriplePattern Id) (g : Option Id) (q : Quad Id) → (matches id_order (scan_of t g) q ≡ same_graph id_order q.graph g) ⊎ (mapping_onto id_order width t q ≡ None)
+alike width t g q =
+    unmatched (same_graph id_order q.graph g) (free_or id_order (term_of t.subject) q.subject) (free_or id_order (term_of t.predicate) q.predicate) (free_or id_order (term_of t.object) q.object)
     (mapping_onto id_order width t q)
     (λ e. ap (λ o. option_and_then (fitted id_order t.object q.object) (option_and_then (fitted id_order t.predicate q.predicate) o)) (no_fit t.subject q.subject (empty_mapping width) e))
     (λ e. ap (λ o. option_and_then (fitted id_order t.object q.object) o)
@@ -61,11 +74,7 @@ alike width t q =
     (λ e. then_nothing (fitted id_order t.object q.object) (option_and_then (fitted id_order t.predicate q.predicate) (fitted id_order t.subject q.subject (empty_mapping width))) (λ m. no_fit t.object q.object m e))
 
 -- what the scan for a triple pattern finds gives its solutions
-pub solutions_scanned : (width : ℕ) (t : TriplePattern Id) (quads : List (Quad Id))
-    → solutions_among id_order width t (filter (matches id_order (scan_of t)) quads) ≡ solutions_among id_order width t (quads_in id_order None quads)
-solutions_scanned width t quads =
-    ap (set_of (mapping_cmp id_order)) (filter_map-filter_alike (mapping_onto id_order width t) (matches id_order (scan_of t)) (λ q. same_graph id_order q.graph None) (alike width t) quads)
-
--- the same where the plan and the scan are known to be these
-pub scan_near : (plan : Plan Id) (t : TriplePattern Id) (p : QuadPattern Id) → plan ≡ Triple t → p ≡ scan_of t → is_for_plan plan (Scan p) ≡ true
-scan_near plan t p e f = (λ i. is_for_plan (e i) (Scan (f i))) ∙ scan_allowed t
+pub solutions_scanned : (width : ℕ) (t : TriplePattern Id) (g : Option Id) (quads : List (Quad Id))
+    → solutions_among id_order width t (filter (matches id_order (scan_of t g)) quads) ≡ solutions_among id_order width t (quads_in id_order g quads)
+solutions_scanned width t g quads =
+    ap (set_of (mapping_cmp id_order)) (filter_map-filter_alike (mapping_onto id_order width t) (matches id_order (scan_of t g)) (λ q. same_graph id_order q.graph g) (alike width t g) quads)

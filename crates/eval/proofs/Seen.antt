@@ -54,3 +54,9 @@ scan_seen p c d told e =
     and_twice true true = refl
     and_twice true false = refl
     and_twice false b = refl
+
+pub name_seen : (g : Id) (c : Delta) (d : View) → has id_order (applied c d).names g ≡ ((has id_order d.names g && not (has id_order c.gone g)) || has id_order c.there g)
+unfolding applied
+name_seen g c d =
+    has-union id_total g (without id_order d.names c.gone) c.there
+    ∙ ap (λ b. b || has id_order c.there g) (has-without id_total id_exact g d.names c.gone)

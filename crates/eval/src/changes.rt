@@ -1,14 +1,16 @@
 //! Changes that a request made and that are not published.
-ghost use Rattle.std.specs.Prelude.{◌≡◌, IfOk};
+ghost use Rattle.std.specs.Prelude.{◌≡◌, ◌&&◌, ◌||◌, not, IfOk};
+ghost use Rattle.sets.specs.Sets.{has, union, without};
 ghost use Rattle.datasets.specs.Dataset.{names_of as the_names_of};
+ghost use Rattle.datasets.specs.Id.{id_order};
 ghost use Rattle.eval.specs.Changes.{seen_through, replaced_change, with_replaced};
 ghost use Rattle.reads.specs.Reads.{View, applied};
 
-use crate::lacking::quads_lacking;
+use crate::lacking::{names_lacking, quads_lacking};
 use datasets::{Id, Quad, QuadPattern};
 use quad_index::matching::matching;
 use reads::Delta;
-use reads::lists::{copied_names, copied_quads, quads_union};
+use reads::lists::{copied_names, copied_quads, has_name, names_union, quads_union};
 use std::alloc::{AllocError, Global};
 
 /// The quads of a pattern after the changes, from those that were told before them. What doesn't match is left out, and so are doubles.
@@ -24,6 +26,22 @@ pub fn quads_after(
     let kept = quads_lacking(alloc, &matched, changes.absent())?;
     let added = matching(alloc, pattern, changes.present())?;
     quads_union(kept, added)
+}
+
+/// The graph names after the changes, from those that were told before them.
+pub fn names_after(alloc: Global, changes: &Delta, told: &[Id]) -> Result<Vec<Id>, AllocError>
+    ensures { IfOk result (λ names. names.items ≡ union id_order (without id_order told.now changes.now.gone) changes.now.there) }
+{
+    let kept = names_lacking(alloc, told, changes.gone())?;
+    let added = copied_names(alloc, changes.there())?;
+    names_union(kept, added)
+}
+
+/// Whether a graph name is there after the changes, from whether it was there before them.
+pub fn is_named_after(changes: &Delta, name: Id, was_there: bool) -> bool
+    ensures { result ≡ ((was_there && not (has id_order changes.now.gone name)) || has id_order changes.now.there name) }
+{
+    (was_there && !has_name(changes.gone(), &name)) || has_name(changes.there(), &name)
 }
 
 // The names of the quads' graphs.

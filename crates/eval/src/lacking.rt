@@ -1,4 +1,4 @@
-//! Differences of lists of quads, by binary search.
+//! Differences of lists, by binary search.
 ghost use Rattle.std.specs.Prelude.{◌≡◌, IfOk};
 ghost use Rattle.std.specs.List.Sorted.{IsStrictlySortedBy};
 ghost use Rattle.sets.specs.Sets.{has, without};
@@ -6,32 +6,27 @@ ghost use Rattle.datasets.specs.Dataset.{quad_order};
 ghost use Rattle.datasets.specs.Id.{id_order};
 
 use datasets::{Id, Quad};
-use dict::search::place_of;
-use reads::lists::copied_quads;
-use sets::set_of;
+use reads::lists::{copied_names, copied_quads};
+use sets::{Exact, place_of, set_of};
 use std::alloc::{AllocError, Global};
 
-// Whether a set has the quad.
-fn is_member(set: &[Quad<Id>], quad: &Quad<Id>) -> bool
-    requires { IsStrictlySortedBy (quad_order id_order) set.now }
-    ensures { result ≡ has (quad_order id_order) set.now quad.now }
+// Whether a set has the value.
+fn is_member<T: Exact>(set: &[T], value: &T) -> bool
+    requires { IsStrictlySortedBy T.cmp set.now }
+    ensures { result ≡ has T.cmp set.now value.now }
 {
-    place_of(set, quad).is_some()
+    place_of(set, value).is_some()
 }
 
 // Those that are not in a set, in their order.
-fn quads_outside(
-    alloc: Global,
-    quads: &[Quad<Id>],
-    set: &[Quad<Id>],
-) -> Result<Vec<Quad<Id>>, AllocError>
-    requires { IsStrictlySortedBy (quad_order id_order) set.now }
-    ensures { IfOk result (λ kept. kept.items ≡ without (quad_order id_order) quads.now set.now) }
+fn outside<T: Exact + Copy>(alloc: Global, items: &[T], set: &[T]) -> Result<Vec<T>, AllocError>
+    requires { IsStrictlySortedBy T.cmp set.now }
+    ensures { IfOk result (λ kept. kept.items ≡ without T.cmp items.now set.now) }
 {
     let mut kept = Vec::new(alloc);
-    for quad in quads {
-        if !is_member(set, quad) {
-            kept.push(*quad)?;
+    for item in items {
+        if !is_member(set, item) {
+            kept.push(*item)?;
         }
     }
     Ok(kept)
@@ -46,5 +41,13 @@ pub fn quads_lacking(
     ensures { IfOk result (λ kept. kept.items ≡ without (quad_order id_order) quads.now others.now) }
 {
     let set = set_of(copied_quads(alloc, others)?);
-    quads_outside(alloc, quads, &set)
+    outside(alloc, quads, &set)
+}
+
+/// The names that are none of the others, in their order.
+pub fn names_lacking(alloc: Global, names: &[Id], others: &[Id]) -> Result<Vec<Id>, AllocError>
+    ensures { IfOk result (λ kept. kept.items ≡ without id_order names.now others.now) }
+{
+    let set = set_of(copied_names(alloc, others)?);
+    outside(alloc, names, &set)
 }

@@ -14,8 +14,12 @@ use datasets::{Id, Quad, QuadPattern, Read};
 use reads::{Answered, Delta, Note, Source, Stop};
 use std::alloc::{AllocError, Global};
 
-// Puts a read with its answer at the end.
-fn note(notes: &mut Vec<Note>, read: Read<Id>, answer: Answered) -> Result<(), AllocError>
+/// Puts a read with its answer at the end.
+pub(crate) fn note(
+    notes: &mut Vec<Note>,
+    read: Read<Id>,
+    answer: Answered,
+) -> Result<(), AllocError>
     ensures ok { OnOk result (notes.new.items ≡ notes.old.items ++ record { read = read; answer = answer } ∷ []) }
     ensures err { OnErr result (notes.new.items ≡ notes.old.items) }
 {

@@ -1,5 +1,5 @@
 -- What an operation does to a dataset (SPARQL 1.1 Update, 3.1).
-use Rattle.std.specs.Prelude.{ℕ, Bool, nat_lt, if◌then◌else◌, List, length, None, Result, Ok, Err}
+use Rattle.std.specs.Prelude.{ℕ, Bool, nat_lt, if◌then◌else◌, List, length, Result, Ok, Err}
 use Rattle.sets.specs.Sets.{union, without}
 use Rattle.datasets.specs.Dataset.{Dataset, quad_order, names_of}
 use Rattle.datasets.specs.declared.quad.Quad.{Quad}
@@ -7,7 +7,7 @@ use Rattle.meaning.specs.Vocabulary.{Vocabulary}
 use Rattle.meaning.specs.Mapping.{Mapping}
 use Rattle.meaning.specs.Solutions.{solutions}
 use Rattle.meaning.specs.Template.{instances}
-use Rattle.meaning.specs.declared.update.QuadTemplate.{QuadTemplate}
+use Rattle.algebra.specs.declared.template.QuadTemplate.{QuadTemplate}
 use Rattle.meaning.specs.declared.update.Operation.{Operation}
 use Rattle.meaning.specs.declared.update.Operation.TheVariants as operation
 use Rattle.meaning.specs.declared.reply.Cause.{Cause}
@@ -31,6 +31,7 @@ module _ {K : Type 0} (V : Vocabulary K) where
       if is_too_many (length found) then Err TooManySolutions
       else Ok (replaced d (instances V request place delete found) (instances V request place insert found))
 
-  -- the effect of the operation at a place of a request, both counted from 0. WHERE is evaluated once, in the default graph.
+  -- the effect of the operation at a place of a request, both counted from 0. WHERE is evaluated once, in the graph of WITH or the
+  -- default graph.
   abbrev pub effect_of : (request place : ℕ) → Operation K → Dataset K → Result (Dataset K) Cause
-  effect_of request place (operation.Modify m) d = modified request place m.delete m.insert (solutions V.order m.width m.pattern d None) d
+  effect_of request place (operation.Modify m) d = modified request place m.delete m.insert (solutions V.order V.passes m.width m.pattern d m.active) d

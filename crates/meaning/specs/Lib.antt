@@ -1,5 +1,6 @@
 pub mod Vocabulary
 pub mod Mapping
+pub mod Operators
 pub mod Solutions
 pub mod Template
 pub mod Effect

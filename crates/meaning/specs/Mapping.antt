@@ -1,12 +1,13 @@
--- Solution mappings (SPARQL 1.1 Query, 18.1.8). A mapping is a row: for each variable of the pattern, in byte order of its name, its
--- term or nothing.
-use Rattle.std.specs.Prelude.{ℕ, List, Option, Some, None, cond, replicate, slice_set, slice_index_or}
+-- Solution mappings (SPARQL 1.1 Query, 18.1.8 and 18.3). A mapping is a row: for each variable of the pattern, in byte order of its name,
+-- its term or nothing.
+use Rattle.std.specs.Prelude.{ℕ, Bool, true, false, List, Option, Some, None, cond, map, zip, replicate, slice_set, slice_index_or}
+use Rattle.std.specs.List.{list_all, list_any}
 use Rattle.std.specs.declared.cmp.Ordering.{Ordering}
 use Rattle.std.specs.Ordering.{eq_by_cmp}
 use Rattle.std.specs.Option.{option_cmp}
 use Rattle.std.specs.Cmp.Lexicographic.{slice_cmp}
-use Rattle.meaning.specs.declared.update.Place.{Place}
-use Rattle.meaning.specs.declared.update.Place.TheVariants as place
+use Rattle.algebra.specs.declared.pattern.Place.{Place}
+use Rattle.algebra.specs.declared.pattern.Place.TheVariants as place
 
 abbrev pub Mapping : Type 0 → Type 0
 Mapping K = List (Option K)
@@ -19,6 +20,23 @@ module _ {K : Type 0} where
   -- the term that a mapping has for a variable
   abbrev pub term_for : Mapping K → ℕ → Option K
   term_for mapping v = slice_index_or mapping v None
+
+  abbrev pub either : Option K → Option K → Option K
+  either (Some x) y = Some x
+  either None y = y
+
+  -- the union of two mappings
+  abbrev pub merge : Mapping K → Mapping K → Mapping K
+  merge a b = map (λ (p : Option K × Option K). either p.0 p.1) (zip a b)
+
+  abbrev pub are_bound : Option K → Option K → Bool
+  are_bound (Some x) (Some y) = true
+  are_bound (Some x) None = false
+  are_bound None y = false
+
+  -- whether some variable is bound in both
+  abbrev pub shares : Mapping K → Mapping K → Bool
+  shares a b = list_any (λ (p : Option K × Option K). are_bound p.0 p.1) (zip a b)
 
 module _ {K : Type 0} (R : K → K → Ordering) where
   -- by each variable in turn, unbound first, then by the order of terms
@@ -34,3 +52,16 @@ module _ {K : Type 0} (R : K → K → Ordering) where
   abbrev pub fitted : Place K → K → Mapping K → Option (Mapping K)
   fitted (place.Term y) x mapping = cond (eq_by_cmp R x y) (Some mapping) None
   fitted (place.Variable v) x mapping = bound_to mapping v x (term_for mapping v)
+
+  abbrev pub agree : Option K → Option K → Bool
+  agree (Some x) (Some y) = eq_by_cmp R x y
+  agree (Some x) None = true
+  agree None y = true
+
+  -- whether two mappings agree on each variable that is bound in both
+  abbrev pub compatible : Mapping K → Mapping K → Bool
+  compatible a b = list_all (λ (p : Option K × Option K). agree p.0 p.1) (zip a b)
+
+  -- the merge of two compatible mappings
+  abbrev pub joined : Mapping K → Mapping K → Option (Mapping K)
+  joined a b = cond (compatible a b) (Some (merge a b)) None

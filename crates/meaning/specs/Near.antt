@@ -1,6 +1,7 @@
 -- Which reads are near a request: a run that reads only these conflicts with another only where their quads meet.
 use Rattle.std.specs.Prelude.{Bool, true, false, ◌&&◌, ◌||◌, List, Option, Some, None, is_none}
 use Rattle.std.specs.List.{list_any}
+use Rattle.std.specs.Option.{option_map}
 use Rattle.std.specs.declared.cmp.Ordering.{Ordering}
 use Rattle.std.specs.Ordering.{eq_by_cmp}
 use Rattle.datasets.specs.declared.read.GraphPlace.{GraphPlace}
@@ -8,16 +9,26 @@ use Rattle.datasets.specs.declared.read.GraphPlace.TheVariants.{Any, Only}
 use Rattle.datasets.specs.declared.read.QuadPattern.{QuadPattern}
 use Rattle.datasets.specs.declared.read.Read.{Read}
 use Rattle.datasets.specs.declared.read.Read.TheVariants.{Scan, GraphIs, Graphs}
-use Rattle.meaning.specs.declared.update.Slot.{Slot}
-use Rattle.meaning.specs.declared.update.Slot.TheVariants as slot
-use Rattle.meaning.specs.declared.update.Place.{Place}
-use Rattle.meaning.specs.declared.update.Place.TheVariants as place
-use Rattle.meaning.specs.declared.update.TriplePattern.{TriplePattern}
-use Rattle.meaning.specs.declared.update.Plan.{Plan}
-use Rattle.meaning.specs.declared.update.Plan.TheVariants.{Empty, Triple}
-use Rattle.meaning.specs.declared.update.QuadTemplate.{QuadTemplate}
+use Rattle.algebra.specs.declared.pattern.Place.{Place}
+use Rattle.algebra.specs.declared.pattern.Place.TheVariants as place
+use Rattle.algebra.specs.declared.pattern.TriplePattern.{TriplePattern}
+use Rattle.algebra.specs.declared.template.Slot.{Slot}
+use Rattle.algebra.specs.declared.template.Slot.TheVariants as slot
+use Rattle.algebra.specs.declared.template.QuadTemplate.{QuadTemplate}
+use Rattle.algebra.specs.Plans.{Plan, Basic, Join, LeftJoin, Union, Minus, Filter, InGraph}
 use Rattle.meaning.specs.declared.update.Operation.{Operation}
 use Rattle.meaning.specs.declared.update.Operation.TheVariants as operation
+
+-- whether all graph names may be asked for: only where a graph variable is written
+abbrev pub asks_names : {K : Type 0} → Plan K → Bool
+asks_names (Basic ts) = false
+asks_names (Join a b) = asks_names a || asks_names b
+asks_names (LeftJoin a b es) = asks_names a || asks_names b
+asks_names (Union a b) = asks_names a || asks_names b
+asks_names (Minus a b) = asks_names a || asks_names b
+asks_names (Filter es a) = asks_names a
+asks_names (InGraph (place.Term t) a) = asks_names a
+asks_names (InGraph (place.Variable v) a) = true
 
 module _ {K : Type 0} (R : K → K → Ordering) where
   -- the written term; free or any term at a variable or a label
@@ -27,7 +38,7 @@ module _ {K : Type 0} (R : K → K → Ordering) where
   is_written (slot.Variable v) x = true
   is_written (slot.Label l) x = true
 
-  -- the graph place of a template's quad: nothing written is the default graph
+  -- the graph place of a quad: nothing written is the default graph
   abbrev pub is_graph_written : Option (Slot K) → GraphPlace K → Bool
   is_graph_written None Any = false
   is_graph_written None (Only g) = is_none g
@@ -41,25 +52,40 @@ module _ {K : Type 0} (R : K → K → Ordering) where
   is_near_quad t p =
       is_written t.subject p.subject && (is_written t.predicate p.predicate && (is_written t.object p.object && is_graph_written t.graph p.graph))
 
-  -- a triple pattern as a quad of the default graph
   abbrev pub slot_of : Place K → Slot K
   slot_of (place.Term t) = slot.Term t
   slot_of (place.Variable v) = slot.Variable v
 
-  abbrev pub quad_of : TriplePattern K → QuadTemplate K
-  quad_of t = record { subject = slot_of t.subject; predicate = slot_of t.predicate; object = slot_of t.object; graph = None }
+  -- a triple pattern as a quad of this graph
+  abbrev pub quad_of : Option (Slot K) → TriplePattern K → QuadTemplate K
+  quad_of graph t = record { subject = slot_of t.subject; predicate = slot_of t.predicate; object = slot_of t.object; graph = graph }
 
-  abbrev pub is_near_plan : Plan K → QuadPattern K → Bool
-  is_near_plan Empty p = false
-  is_near_plan (Triple t) p = is_near_quad (quad_of t) p
+  -- a pattern that is asked of this graph
+  abbrev pub is_near_plan : Option (Slot K) → Plan K → QuadPattern K → Bool
+  is_near_plan graph (Basic ts) p = list_any (λ t. is_near_quad (quad_of graph t) p) ts
+  is_near_plan graph (Join a b) p = is_near_plan graph a p || is_near_plan graph b p
+  is_near_plan graph (LeftJoin a b es) p = is_near_plan graph a p || is_near_plan graph b p
+  is_near_plan graph (Union a b) p = is_near_plan graph a p || is_near_plan graph b p
+  is_near_plan graph (Minus a b) p = is_near_plan graph a p || is_near_plan graph b p
+  is_near_plan graph (Filter es a) p = is_near_plan graph a p
+  is_near_plan graph (InGraph n a) p = is_near_plan (Some (slot_of n)) a p
+
+  -- a read for a pattern
+  abbrev pub is_for_plan : Option (Slot K) → Plan K → Read K → Bool
+  is_for_plan graph plan (Scan p) = is_near_plan graph plan p
+  is_for_plan graph plan (GraphIs g) = true
+  is_for_plan graph plan Graphs = asks_names plan
+
+  abbrev pub is_near_template : List (QuadTemplate K) → Read K → Bool
+  is_near_template ts (Scan p) = list_any (λ t. is_near_quad t p) ts
+  is_near_template ts (GraphIs g) = true
+  is_near_template ts Graphs = false
 
   -- a scan has the written terms and the graph place of a quad or a triple pattern of the operation
   abbrev pub is_near : Operation K → Read K → Bool
-  is_near (operation.Modify m) (Scan p) =
-      list_any (λ t. is_near_quad t p) m.delete || (list_any (λ t. is_near_quad t p) m.insert || is_near_plan m.pattern p)
-  is_near (operation.Modify m) (GraphIs g) = true
-  is_near (operation.Modify m) Graphs = false
+  is_near (operation.Modify m) read =
+      is_near_template m.delete read || (is_near_template m.insert read || is_for_plan (option_map slot.Term m.active) m.pattern read)
 
-  -- a scan is near one of the request's operations
+  -- a read is near one of the request's operations
   abbrev pub is_near_request : List (Operation K) → Read K → Bool
   is_near_request operations read = list_any (λ op. is_near op read) operations

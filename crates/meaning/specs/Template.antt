@@ -3,9 +3,9 @@ use Rattle.std.specs.Prelude.{ℕ, ◌+◌, Bool, not, ◌&&◌, if◌then◌els
 use Rattle.datasets.specs.declared.quad.Quad.{Quad}
 use Rattle.meaning.specs.Vocabulary.{Vocabulary}
 use Rattle.meaning.specs.Mapping.{Mapping, term_for}
-use Rattle.meaning.specs.declared.update.Slot.{Slot}
-use Rattle.meaning.specs.declared.update.Slot.TheVariants as slot
-use Rattle.meaning.specs.declared.update.QuadTemplate.{QuadTemplate}
+use Rattle.algebra.specs.declared.template.Slot.{Slot}
+use Rattle.algebra.specs.declared.template.Slot.TheVariants as slot
+use Rattle.algebra.specs.declared.template.QuadTemplate.{QuadTemplate}
 
 module _ {K : Type 0} (V : Vocabulary K) where
   -- the term in a place of a template, if it is bound; node is the blank node that a label makes

@@ -1,60 +1,10 @@
-//! Operations, their patterns and their templates (SPARQL 1.1 Update, section 3).
-ghost use Rattle.std.specs.Prelude.{◌≡◌, []};
+//! Operations that are run (SPARQL 1.1 Update, section 3).
+ghost use Rattle.std.specs.Prelude.{◌≡◌, [], None};
+ghost use Rattle.algebra.specs.Plans.{nothing};
 
+use algebra::{Modify, Pattern, Plan, QuadTemplate};
 use sets::Items;
 use std::alloc::Global;
-
-/// A place of a triple pattern: a term, or a variable by its number. Variables are numbered from 0 in the byte order of their names.
-#[derive(Clone, Copy, Drop)]
-pub enum Place<T> {
-    Term(T),
-    Variable(u32),
-}
-
-/// A triple pattern (SPARQL 1.1 Query, section 18.1.5).
-#[derive(Clone, Copy, Drop)]
-pub struct TriplePattern<T> {
-    pub subject: Place<T>,
-    pub predicate: Place<T>,
-    pub object: Place<T>,
-}
-
-/// A pattern of WHERE (SPARQL 1.1 Query, section 18.2).
-#[derive(Clone, Copy, Drop)]
-pub enum Plan<T> {
-    /// The empty group, whose one solution is the empty mapping.
-    Empty,
-    /// A triple pattern, asked of the active graph.
-    Triple(TriplePattern<T>),
-}
-
-/// A place of a template: a term, a variable by its number, or a blank node label by its number. Variables are numbered as in patterns,
-/// labels from 0 by first appearance in the operation.
-#[derive(Clone, Copy, Drop)]
-pub enum Slot<T> {
-    Term(T),
-    Variable(u32),
-    Label(u32),
-}
-
-/// A quad of a template. With no graph it is of the default graph.
-#[derive(Clone, Copy, Drop)]
-pub struct QuadTemplate<T> {
-    pub subject: Slot<T>,
-    pub predicate: Slot<T>,
-    pub object: Slot<T>,
-    pub graph: Option<Slot<T>>,
-}
-
-/// DELETE and INSERT with their WHERE (SPARQL 1.1 Update, section 3.1.3). INSERT DATA and DELETE DATA have the empty group as WHERE.
-#[derive(Drop)]
-pub struct Modify<T> {
-    /// How many variables WHERE has.
-    pub width: u32,
-    pub pattern: Plan<T>,
-    pub delete: Items<QuadTemplate<T>>,
-    pub insert: Items<QuadTemplate<T>>,
-}
 
 /// An operation of a request (SPARQL 1.1 Update, section 3.1).
 #[derive(Drop)]
@@ -62,14 +12,22 @@ pub enum Operation<T> {
     Modify(Modify<T>),
 }
 
+// The pattern that is the empty group.
+fn nothing<T>(alloc: Global) -> Pattern<T>
+    ensures { result ≡ nothing }
+{
+    Pattern::new(Plan::Basic(Items::new(alloc)))
+}
+
 impl<T> Operation<T> {
     /// INSERT DATA of these quads (SPARQL 1.1 Update, section 3.1.1). It takes no memory.
     pub fn insert_data(alloc: Global, quads: Items<QuadTemplate<T>>) -> Operation<T>
-        ensures { result ≡ Operation.Modify (record { width = 0; pattern = Plan.Empty; delete = []; insert = quads }) }
+        ensures { result ≡ Operation.Modify (record { width = 0; active = None; pattern = nothing; delete = []; insert = quads }) }
     {
         Operation::Modify(Modify {
             width: 0,
-            pattern: Plan::Empty,
+            active: None,
+            pattern: nothing(alloc),
             delete: Items::new(alloc),
             insert: quads,
         })
@@ -77,11 +35,12 @@ impl<T> Operation<T> {
 
     /// DELETE DATA of these quads (SPARQL 1.1 Update, section 3.1.2). It takes no memory.
     pub fn delete_data(alloc: Global, quads: Items<QuadTemplate<T>>) -> Operation<T>
-        ensures { result ≡ Operation.Modify (record { width = 0; pattern = Plan.Empty; delete = quads; insert = [] }) }
+        ensures { result ≡ Operation.Modify (record { width = 0; active = None; pattern = nothing; delete = quads; insert = [] }) }
     {
         Operation::Modify(Modify {
             width: 0,
-            pattern: Plan::Empty,
+            active: None,
+            pattern: nothing(alloc),
             delete: quads,
             insert: Items::new(alloc),
         })

@@ -113,7 +113,7 @@ module _ {K : Type 0} (V : Vocabulary K) (o : IsExactOrder V) where
 
   effect-dataset : (i n : ℕ) (op : Operation K) (d : Dataset K) → IsDataset V.order d → LeavesDataset (effect_of V i n op d)
   effect-dataset i n (operation.Modify m) d h =
-      let found = solutions V.order m.width m.pattern d None in
+      let found = solutions V.order V.passes m.width m.pattern d m.active in
       unless-dataset (is_too_many (length found)) (replaced V d (instances V i n m.delete found) (instances V i n m.insert found))
       (replaced-dataset d (instances V i n m.delete found) (instances V i n m.insert found) h)
 

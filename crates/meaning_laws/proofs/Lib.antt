@@ -1,4 +1,10 @@
+pub mod RenamedLists
 pub mod RenamedSets
+pub mod RenamedMappings
+pub mod RenamedOperators
 pub mod RenamedSolutions
 pub mod Renames
 pub mod Answers
+pub mod Members
+pub mod Bindings
+pub mod BasicPatterns

@@ -1,212 +1,192 @@
--- A renaming carries mappings and the solutions of patterns along.
-use Rattle.std.proofs.Common.{◌≡◌, ℕ, zero, suc, Bool, true, false, ◌&&◌, List, [], ◌∷◌, Option, Some, None, map, refl, sym, ap, ◌∙◌}
-use Rattle.std.specs.Prelude.{cond, filter, filter_map, replicate, slice_set, slice_index_or, option_and_then, if◌then◌else◌}
-use Rattle.std.specs.List.{list_all, cons_option}
-use Rattle.std.specs.Option.{option_map, option_cmp}
-use Rattle.std.specs.Cmp.Lexicographic.{slice_cmp}
+-- A renaming carries the solutions of patterns along.
+use Rattle.std.proofs.Common.{◌≡◌, ℕ, Bool, true, ◌&&◌, List, [], ◌∷◌, Option, Some, map, refl, sym, ap, ◌∙◌}
+use Rattle.std.specs.Prelude.{cond, filter, filter_map}
+use Rattle.std.specs.List.{list_all, flat_map}
+use Rattle.std.specs.Option.{option_map}
 use Rattle.std.specs.declared.cmp.Ordering.{Ordering}
-use Rattle.std.specs.Ordering.{is_eq, ordering_then}
 use Rattle.std.proofs.lemmas.Bool.{and_parts, and_from}
-use Rattle.sets.specs.Sets.{set_of}
+use Rattle.sets.specs.Sets.{has, set_of}
 use Rattle.datasets.specs.declared.quad.Quad.{Quad}
 use Rattle.datasets.specs.Dataset.{Dataset, same_graph, quads_in}
-use Rattle.meaning.specs.Mapping.{Mapping, empty_mapping, term_for, mapping_cmp, bound_to, fitted}
-use Rattle.meaning.specs.Solutions.{mapping_onto, solutions_among, solutions}
-use Rattle.meaning.specs.declared.update.Place.{Place}
-use Rattle.meaning.specs.declared.update.Place.TheVariants as place
-use Rattle.meaning.specs.declared.update.TriplePattern.{TriplePattern}
-use Rattle.meaning.specs.declared.update.Plan.{Plan}
-use Rattle.meaning.specs.declared.update.Plan.TheVariants.{Empty, Triple}
-use Rattle.meaning_laws.specs.Renaming.{renamed_quad, renamed, renamed_place, renamed_pattern, renamed_plan, option_known, quad_known, dataset_known, place_known, pattern_known, plan_known}
-use Rattle.meaning_laws.proofs.RenamedSets.{map-if, all-filter, all-set_of, map-set_of, option-order}
+use Rattle.algebra.specs.declared.pattern.Place.TheVariants as place
+use Rattle.algebra.specs.declared.pattern.TriplePattern.{TriplePattern}
+use Rattle.algebra.specs.Expressions.{Expression}
+use Rattle.algebra.specs.Plans.{Plan, Basic, Join, LeftJoin, Union, Minus, Filter, InGraph}
+use Rattle.meaning.specs.Mapping.{Mapping, empty_mapping, mapping_cmp, fitted}
+use Rattle.meaning.specs.Operators.{join, union_of, minus, left_join}
+use Rattle.meaning.specs.Solutions.{mapping_onto, solutions_among, joined_with, basic_solutions, passes_all, solutions}
+use Rattle.meaning_laws.specs.Renaming.{renamed_quad, renamed, renamed_pattern, renamed_expression, renamed_plan, renamed_mapping, option_known, quad_known, dataset_known, pattern_known, expression_known, plan_known, mapping_known}
+use Rattle.meaning_laws.proofs.RenamedLists.{map-if, all-if, all-filter, all-map, map-filter_map, map-flat_map, all-filter_map, all-flat_map}
+use Rattle.meaning_laws.proofs.RenamedSets.{has-map, map-quads_in}
+use Rattle.meaning_laws.proofs.RenamedMappings.{empty-map, empty-known, fitted-map, fitted-known, onto-map, onto-known}
+use Rattle.meaning_laws.proofs.RenamedOperators.{set-map, set-known, union-map, union-known, join-map, join-known, minus-map, minus-known, passing-map, left-map, left-known}
+
+-- ---- basic patterns
 
 module _ {A B : Type 0} (R : A → A → Ordering) (S : B → B → Ordering) (f : A → B) (k : A → Bool)
-    (o : (x y : A) → k x ≡ true → k y ≡ true → S (f x) (f y) ≡ R x y) where
-  -- ---- mappings
+    (o : (x y : A) → k x ≡ true → k y ≡ true → S (f x) (f y) ≡ R x y) (width : ℕ) where
+  found-known : (t : TriplePattern A) (qs : List (Quad A)) → list_all (quad_known k) qs ≡ true
+      → list_all (mapping_known k) (filter_map (mapping_onto R width t) qs) ≡ true
+  found-known t qs h = all-filter_map (quad_known k) (mapping_known k) (mapping_onto R width t) (λ q hq. onto-known R S f k o width t q hq) qs h
 
-  abbrev pub renamed_mapping : Mapping A → Mapping B
-  renamed_mapping m = map (option_map f) m
+  among-map : (t : TriplePattern A) (qs : List (Quad A)) → pattern_known k t ≡ true → list_all (quad_known k) qs ≡ true
+      → map (renamed_mapping f) (solutions_among R width t qs) ≡ solutions_among S width (renamed_pattern f t) (map (renamed_quad f) qs)
+  among-map t qs ht h =
+      set-map R S f k o (filter_map (mapping_onto R width t) qs) (found-known t qs h)
+      ∙ ap (set_of (mapping_cmp S))
+      (map-filter_map (renamed_quad f) (renamed_mapping f) (quad_known k) (mapping_onto R width t) (mapping_onto S width (renamed_pattern f t))
+      (λ q hq. onto-map R S f k o width t q ht hq) qs h)
 
-  abbrev pub mapping_known : Mapping A → Bool
-  mapping_known m = list_all (option_known k) m
+  among-known : (t : TriplePattern A) (qs : List (Quad A)) → list_all (quad_known k) qs ≡ true
+      → list_all (mapping_known k) (solutions_among R width t qs) ≡ true
+  among-known t qs h = set-known R S f k o (filter_map (mapping_onto R width t) qs) (found-known t qs h)
 
-  pub empty-map : (width : ℕ) → renamed_mapping (empty_mapping width) ≡ empty_mapping width
-  empty-map zero = refl
-  empty-map (suc w) = ap (λ m. None ∷ m) (empty-map w)
+  joined-map : (found : List (Mapping A)) (ts : List (TriplePattern A)) (qs : List (Quad A))
+      → list_all (mapping_known k) found ≡ true → list_all (pattern_known k) ts ≡ true → list_all (quad_known k) qs ≡ true
+      → map (renamed_mapping f) (joined_with R width found ts qs)
+      ≡ joined_with S width (map (renamed_mapping f) found) (map (renamed_pattern f) ts) (map (renamed_quad f) qs)
+  joined-map found [] qs hf ht h = refl
+  joined-map found (t ∷ ts) qs hf ht h =
+      let parts = and_parts (pattern_known k t) (list_all (pattern_known k) ts) ht in
+      let next = solutions_among R width t qs in
+      let known = among-known t qs h in
+      joined-map (join R found next) ts qs (join-known R S f k o found next hf known) parts.1 h
+      ∙ ap (λ (ms : List (Mapping B)). joined_with S width ms (map (renamed_pattern f) ts) (map (renamed_quad f) qs))
+      (join-map R S f k o found next hf known
+      ∙ ap (join S (map (renamed_mapping f) found)) (among-map t qs parts.0 h))
 
-  pub empty-known : (width : ℕ) → mapping_known (empty_mapping width) ≡ true
-  empty-known zero = refl
-  empty-known (suc w) = empty-known w
+  joined-known : (found : List (Mapping A)) (ts : List (TriplePattern A)) (qs : List (Quad A))
+      → list_all (mapping_known k) found ≡ true → list_all (quad_known k) qs ≡ true
+      → list_all (mapping_known k) (joined_with R width found ts qs) ≡ true
+  joined-known found [] qs hf h = hf
+  joined-known found (t ∷ ts) qs hf h =
+      let next = solutions_among R width t qs in
+      joined-known (join R found next) ts qs (join-known R S f k o found next hf (among-known t qs h)) h
 
-  pub term-for : (m : Mapping A) (v : ℕ) → option_map f (term_for m v) ≡ term_for (renamed_mapping m) v
-  term-for [] v = refl
-  term-for (x ∷ m) zero = refl
-  term-for (x ∷ m) (suc v) = term-for m v
+  none-known : list_all (mapping_known k) (empty_mapping width ∷ []) ≡ true
+  none-known = and_from (mapping_known k (empty_mapping width)) true (empty-known k width) refl
 
-  pub term-for-known : (m : Mapping A) (v : ℕ) → mapping_known m ≡ true → option_known k (term_for m v) ≡ true
-  term-for-known [] v h = refl
-  term-for-known (x ∷ m) zero h = (and_parts (option_known k x) (mapping_known m) h).0
-  term-for-known (x ∷ m) (suc v) h = term-for-known m v (and_parts (option_known k x) (mapping_known m) h).1
+  pub basic-map : (ts : List (TriplePattern A)) (qs : List (Quad A)) → list_all (pattern_known k) ts ≡ true
+      → list_all (quad_known k) qs ≡ true
+      → map (renamed_mapping f) (basic_solutions R width ts qs) ≡ basic_solutions S width (map (renamed_pattern f) ts) (map (renamed_quad f) qs)
+  basic-map ts qs ht h =
+      joined-map (empty_mapping width ∷ []) ts qs none-known ht h
+      ∙ ap (λ (m : Mapping B). joined_with S width (m ∷ []) (map (renamed_pattern f) ts) (map (renamed_quad f) qs)) (empty-map f width)
 
-  set-map : (m : Mapping A) (v : ℕ) (x : Option A) → renamed_mapping (slice_set m v x) ≡ slice_set (renamed_mapping m) v (option_map f x)
-  set-map [] v x = refl
-  set-map (y ∷ m) zero x = refl
-  set-map (y ∷ m) (suc v) x = ap (λ ys. option_map f y ∷ ys) (set-map m v x)
+  pub basic-known : (ts : List (TriplePattern A)) (qs : List (Quad A)) → list_all (quad_known k) qs ≡ true
+      → list_all (mapping_known k) (basic_solutions R width ts qs) ≡ true
+  basic-known ts qs h = joined-known (empty_mapping width ∷ []) ts qs none-known h
 
-  set-known : (m : Mapping A) (v : ℕ) (x : Option A) → mapping_known m ≡ true → option_known k x ≡ true → mapping_known (slice_set m v x) ≡ true
-  set-known [] v x h hx = refl
-  set-known (y ∷ m) zero x h hx = and_from (option_known k x) (mapping_known m) hx (and_parts (option_known k y) (mapping_known m) h).1
-  set-known (y ∷ m) (suc v) x h hx =
-      let parts = and_parts (option_known k y) (mapping_known m) h in
-      and_from (option_known k y) (mapping_known (slice_set m v x)) parts.0 (set-known m v x parts.1 hx)
+-- ---- patterns
 
-  pub mapping-order : (m n : Mapping A) → mapping_known m ≡ true → mapping_known n ≡ true → mapping_cmp S (renamed_mapping m) (renamed_mapping n) ≡ mapping_cmp R m n
-  mapping-order [] [] h h' = refl
-  mapping-order [] (y ∷ n) h h' = refl
-  mapping-order (x ∷ m) [] h h' = refl
-  mapping-order (x ∷ m) (y ∷ n) h h' =
-      let a = and_parts (option_known k x) (mapping_known m) h in
-      let b = and_parts (option_known k y) (mapping_known n) h' in
-      (λ i. ordering_then (option-order R S f k o x y a.0 b.0 i) (mapping-order m n a.1 b.1 i))
+module _ {A B : Type 0} (R : A → A → Ordering) (S : B → B → Ordering) (f : A → B) (k : A → Bool)
+    (o : (x y : A) → k x ≡ true → k y ≡ true → S (f x) (f y) ≡ R x y)
+    (p : Expression A → Mapping A → Bool) (q : Expression B → Mapping B → Bool)
+    (e : (c : Expression A) (m : Mapping A) → expression_known k c ≡ true → mapping_known k m ≡ true
+    → q (renamed_expression f c) (renamed_mapping f m) ≡ p c m)
+    (width : ℕ) where
+  -- the solutions and the tests, before and after
+  abbrev found : Plan A → Dataset A → Option A → List (Mapping A)
+  found a d g = solutions R p width a d g
 
-  -- ---- a triple pattern onto a triple
+  abbrev found_after : Plan A → Dataset A → Option A → List (Mapping B)
+  found_after a d g = solutions S q width (renamed_plan f a) (renamed f d) (option_map f g)
 
-  -- whether there is no mapping, or one of known terms
-  found-known : Option (Mapping A) → Bool
-  found-known None = true
-  found-known (Some m) = mapping_known m
+  abbrev test : List (Expression A) → Mapping A → Bool
+  test es = passes_all p es
 
-  cond-map : (b : Bool) (m : Mapping A) → option_map renamed_mapping (cond b (Some m) None) ≡ cond b (Some (renamed_mapping m)) None
-  cond-map true m = refl
-  cond-map false m = refl
+  abbrev test_after : List (Expression A) → Mapping B → Bool
+  test_after es = passes_all q (map (renamed_expression f) es)
 
-  cond-known : (b : Bool) (m : Mapping A) → mapping_known m ≡ true → found-known (cond b (Some m) None) ≡ true
-  unfolding found-known
-  cond-known true m h = h
-  cond-known false m h = refl
+  test-map : (es : List (Expression A)) → list_all (expression_known k) es ≡ true
+      → (m : Mapping A) → mapping_known k m ≡ true → test_after es (renamed_mapping f m) ≡ test es m
+  test-map es h m hm =
+      all-map (renamed_expression f) (expression_known k) (λ c. p c m) (λ c. q c (renamed_mapping f m)) (λ c hc. e c m hc hm) es h
 
-  equal-map : (x y : A) (m : Mapping A) → k x ≡ true → k y ≡ true
-      → option_map renamed_mapping (cond (is_eq (R x y)) (Some m) None) ≡ cond (is_eq (S (f x) (f y))) (Some (renamed_mapping m)) None
-  equal-map x y m hx hy = cond-map (is_eq (R x y)) m ∙ (λ i. cond (is_eq (sym (o x y hx hy) i)) (Some (renamed_mapping m)) None)
+  quads-known : (d : Dataset A) → dataset_known k d ≡ true → list_all (quad_known k) d.quads ≡ true
+  quads-known d h = (and_parts (list_all (quad_known k) d.quads) (list_all k d.names) h).0
 
-  bound-map : (m : Mapping A) (v : ℕ) (x : A) (t : Option A) → k x ≡ true → option_known k t ≡ true
-      → option_map renamed_mapping (bound_to R m v x t) ≡ bound_to S (renamed_mapping m) v (f x) (option_map f t)
-  bound-map m v x None hx h = ap Some (set-map m v (Some x))
-  bound-map m v x (Some y) hx h = equal-map x y m hx h
+  names-known : (d : Dataset A) → dataset_known k d ≡ true → list_all k d.names ≡ true
+  names-known d h = (and_parts (list_all (quad_known k) d.quads) (list_all k d.names) h).1
 
-  bound-known : (m : Mapping A) (v : ℕ) (x : A) (t : Option A) → mapping_known m ≡ true → k x ≡ true → found-known (bound_to R m v x t) ≡ true
-  unfolding found-known
-  bound-known m v x None h hx = set-known m v (Some x) h hx
-  bound-known m v x (Some y) h hx = cond-known (is_eq (R x y)) m h
+  graph-known : (d : Dataset A) (g : Option A) → dataset_known k d ≡ true → list_all (quad_known k) (quads_in R g d.quads) ≡ true
+  graph-known d g h = all-filter (quad_known k) (λ x. same_graph R x.graph g) d.quads (quads-known d h)
 
-  fitted-map : (p : Place A) (x : A) (m : Mapping A) → place_known k p ≡ true → k x ≡ true → mapping_known m ≡ true
-      → option_map renamed_mapping (fitted R p x m) ≡ fitted S (renamed_place f p) (f x) (renamed_mapping m)
-  fitted-map (place.Term y) x m hp hx h = equal-map x y m hx hp
-  fitted-map (place.Variable v) x m hp hx h =
-      bound-map m v x (term_for m v) hx (term-for-known m v h) ∙ ap (bound_to S (renamed_mapping m) v (f x)) (term-for m v)
+  -- ---- under a graph variable
 
-  fitted-known : (p : Place A) (x : A) (m : Mapping A) → k x ≡ true → mapping_known m ≡ true → found-known (fitted R p x m) ≡ true
-  fitted-known (place.Term y) x m hx h = cond-known (is_eq (R x y)) m h
-  fitted-known (place.Variable v) x m hx h = bound-known m v x (term_for m v) h hx
+  module _ (v : ℕ) where
+    -- solutions of a named graph, with the variable bound to its name
+    abbrev named : (A → List (Mapping A)) → A → List (Mapping A)
+    named ms name = filter_map (fitted R (place.Variable v) name) (ms name)
 
-  then-map : (p : Place A) (x : A) (m : Option (Mapping A)) → place_known k p ≡ true → k x ≡ true → found-known m ≡ true
-      → option_map renamed_mapping (option_and_then (fitted R p x) m) ≡ option_and_then (fitted S (renamed_place f p) (f x)) (option_map renamed_mapping m)
-  unfolding found-known
-  then-map p x None hp hx h = refl
-  then-map p x (Some m) hp hx h = fitted-map p x m hp hx h
+    abbrev named_after : (B → List (Mapping B)) → B → List (Mapping B)
+    named_after ms name = filter_map (fitted S (place.Variable v) name) (ms name)
 
-  then-known : (p : Place A) (x : A) (m : Option (Mapping A)) → k x ≡ true → found-known m ≡ true → found-known (option_and_then (fitted R p x) m) ≡ true
-  unfolding found-known
-  then-known p x None hx h = refl
-  then-known p x (Some m) hx h = fitted-known p x m hx h
+    named-known : (ms : A → List (Mapping A)) → ((name : A) → list_all (mapping_known k) (ms name) ≡ true)
+        → (name : A) → k name ≡ true → list_all (mapping_known k) (named ms name) ≡ true
+    named-known ms h name hn =
+        all-filter_map (mapping_known k) (mapping_known k) (fitted R (place.Variable v) name)
+        (λ m hm. fitted-known R S f k o (place.Variable v) name m hn hm) (ms name) (h name)
 
-  -- a triple pattern's places are known, and a quad's
-  record Three (a b c : Bool) : Type 0 where
-    pub first : a ≡ true
-    pub second : b ≡ true
-    pub third : c ≡ true
+    named-map : (ms : A → List (Mapping A)) (ms' : B → List (Mapping B)) → ((name : A) → list_all (mapping_known k) (ms name) ≡ true)
+        → (name : A) → k name ≡ true → map (renamed_mapping f) (ms name) ≡ ms' (f name) → map (renamed_mapping f) (named ms name) ≡ named_after ms' (f name)
+    named-map ms ms' h name hn e =
+        map-filter_map (renamed_mapping f) (renamed_mapping f) (mapping_known k) (fitted R (place.Variable v) name) (fitted S (place.Variable v) (f name))
+        (λ m hm. fitted-map R S f k o (place.Variable v) name m refl hn hm) (ms name) (h name)
+        ∙ ap (filter_map (fitted S (place.Variable v) (f name))) e
 
-  three : (a b c : Bool) → (a && (b && c)) ≡ true → Three a b c
-  three a b c h =
-      let x = and_parts a (b && c) h in
-      let y = and_parts b c x.1 in
-      record { first = x.0; second = y.0; third = y.1 }
+  -- ---- by the pattern
 
-  triple : (q : Quad A) → quad_known k q ≡ true → Three (k q.subject) (k q.predicate) (k q.object)
-  triple q h =
-      let x = three (k q.subject) (k q.predicate) (k q.object && option_known k q.graph) h in
-      record { first = x.first; second = x.second; third = (and_parts (k q.object) (option_known k q.graph) x.third).0 }
+  pub solutions-known : (a : Plan A) (d : Dataset A) (g : Option A) → dataset_known k d ≡ true → list_all (mapping_known k) (found a d g) ≡ true
+  solutions-known (Basic ts) d g h = basic-known R S f k o width ts (quads_in R g d.quads) (graph-known d g h)
+  solutions-known (Join a b) d g h = join-known R S f k o (found a d g) (found b d g) (solutions-known a d g h) (solutions-known b d g h)
+  solutions-known (LeftJoin a b es) d g h =
+      left-known R S f k o (test es) (found a d g) (found b d g) (solutions-known a d g h) (solutions-known b d g h)
+  solutions-known (Union a b) d g h = union-known R S f k o (found a d g) (found b d g) (solutions-known a d g h) (solutions-known b d g h)
+  solutions-known (Minus a b) d g h = minus-known R S f k o (found a d g) (found b d g) (solutions-known a d g h)
+  solutions-known (Filter es a) d g h = all-filter (mapping_known k) (test es) (found a d g) (solutions-known a d g h)
+  solutions-known (InGraph (place.Term name) a) d g h =
+      all-if (mapping_known k) (has R d.names name) (found a d (Some name)) [] (solutions-known a d (Some name) h) refl
+  solutions-known (InGraph (place.Variable v) a) d g h =
+      let ms = λ (name : A). found a d (Some name) in
+      set-known R S f k o (flat_map (named v ms) d.names)
+      (all-flat_map k (mapping_known k) (named v ms) (named-known v ms (λ name. solutions-known a d (Some name) h)) d.names (names-known d h))
 
-  onto-map : (width : ℕ) (t : TriplePattern A) (q : Quad A) → pattern_known k t ≡ true → quad_known k q ≡ true
-      → option_map renamed_mapping (mapping_onto R width t q) ≡ mapping_onto S width (renamed_pattern f t) (renamed_quad f q)
-  onto-map width t q h h' =
-      let p = three (place_known k t.subject) (place_known k t.predicate) (place_known k t.object) h in
-      let x = triple q h' in
-      let first = fitted R t.subject q.subject (empty_mapping width) in
-      let second = option_and_then (fitted R t.predicate q.predicate) first in
-      let first-known = fitted-known t.subject q.subject (empty_mapping width) x.first (empty-known width) in
-      then-map t.object q.object second p.third x.third (then-known t.predicate q.predicate first x.second first-known)
-      ∙ ap (option_and_then (fitted S (renamed_place f t.object) (f q.object)))
-      (then-map t.predicate q.predicate first p.second x.second first-known
-      ∙ ap (option_and_then (fitted S (renamed_place f t.predicate) (f q.predicate)))
-      (fitted-map t.subject q.subject (empty_mapping width) p.first x.first (empty-known width)
-      ∙ ap (fitted S (renamed_place f t.subject) (f q.subject)) (empty-map width)))
-
-  onto-known : (width : ℕ) (t : TriplePattern A) (q : Quad A) → quad_known k q ≡ true → found-known (mapping_onto R width t q) ≡ true
-  onto-known width t q h =
-      let x = triple q h in
-      let first = fitted R t.subject q.subject (empty_mapping width) in
-      let second = option_and_then (fitted R t.predicate q.predicate) first in
-      then-known t.object q.object second x.third
-      (then-known t.predicate q.predicate first x.second (fitted-known t.subject q.subject (empty_mapping width) x.first (empty-known width)))
-
-  -- ---- solutions
-
-  cons-map : (m : Option (Mapping A)) (ms : List (Mapping A)) → map renamed_mapping (cons_option m ms) ≡ cons_option (option_map renamed_mapping m) (map renamed_mapping ms)
-  cons-map None ms = refl
-  cons-map (Some m) ms = refl
-
-  cons-known : (m : Option (Mapping A)) (ms : List (Mapping A)) → found-known m ≡ true → list_all mapping_known ms ≡ true → list_all mapping_known (cons_option m ms) ≡ true
-  unfolding found-known
-  cons-known None ms h h' = h'
-  cons-known (Some m) ms h h' = and_from (mapping_known m) (list_all mapping_known ms) h h'
-
-  each-map : (width : ℕ) (t : TriplePattern A) (qs : List (Quad A)) → pattern_known k t ≡ true → list_all (quad_known k) qs ≡ true
-      → map renamed_mapping (filter_map (mapping_onto R width t) qs) ≡ filter_map (mapping_onto S width (renamed_pattern f t)) (map (renamed_quad f) qs)
-  each-map width t [] h h' = refl
-  each-map width t (q ∷ qs) h h' =
-      let parts = and_parts (quad_known k q) (list_all (quad_known k) qs) h' in
-      cons-map (mapping_onto R width t q) (filter_map (mapping_onto R width t) qs)
-      ∙ (λ i. cons_option (onto-map width t q h parts.0 i) (each-map width t qs h parts.1 i))
-
-  each-known : (width : ℕ) (t : TriplePattern A) (qs : List (Quad A)) → list_all (quad_known k) qs ≡ true → list_all mapping_known (filter_map (mapping_onto R width t) qs) ≡ true
-  each-known width t [] h = refl
-  each-known width t (q ∷ qs) h =
-      let parts = and_parts (quad_known k q) (list_all (quad_known k) qs) h in
-      cons-known (mapping_onto R width t q) (filter_map (mapping_onto R width t) qs) (onto-known width t q parts.0) (each-known width t qs parts.1)
-
-  in-default : (qs : List (Quad A)) → list_all (quad_known k) qs ≡ true → map (renamed_quad f) (quads_in R None qs) ≡ quads_in S None (map (renamed_quad f) qs)
-  in-default [] h = refl
-  in-default (q ∷ qs) h =
-      let parts = and_parts (quad_known k q) (list_all (quad_known k) qs) h in
-      let graph = (and_parts (k q.object) (option_known k q.graph) (three (k q.subject) (k q.predicate) (k q.object && option_known k q.graph) parts.0).third).1 in
-      let rest = in-default qs parts.1 in
-      map-if (renamed_quad f) (same_graph R q.graph None) (q ∷ quads_in R None qs) (quads_in R None qs)
-      ∙ (λ i. if is_eq (sym (option-order R S f k o q.graph None graph refl) i) then renamed_quad f q ∷ rest i else rest i)
-
-  pub solutions-map : (width : ℕ) (p : Plan A) (d : Dataset A) → plan_known k p ≡ true → dataset_known k d ≡ true
-      → map renamed_mapping (solutions R width p d None) ≡ solutions S width (renamed_plan f p) (renamed f d) None
-  solutions-map width Empty d h h' = ap (λ m. m ∷ []) (empty-map width)
-  solutions-map width (Triple t) d h h' =
-      let quads = (and_parts (list_all (quad_known k) d.quads) (list_all k d.names) h').0 in
-      let known = all-filter (quad_known k) (λ q. same_graph R q.graph None) d.quads quads in
-      map-set_of (mapping_cmp R) (mapping_cmp S) renamed_mapping mapping_known mapping-order (filter_map (mapping_onto R width t) (quads_in R None d.quads)) (each-known width t (quads_in R None d.quads) known)
-      ∙ ap (set_of (mapping_cmp S)) (each-map width t (quads_in R None d.quads) h known
-      ∙ ap (filter_map (mapping_onto S width (renamed_pattern f t))) (in-default d.quads quads))
-
-  pub solutions-known : (width : ℕ) (p : Plan A) (d : Dataset A) → dataset_known k d ≡ true → list_all mapping_known (solutions R width p d None) ≡ true
-  solutions-known width Empty d h = and_from (mapping_known (empty_mapping width)) true (empty-known width) refl
-  solutions-known width (Triple t) d h =
-      let quads = (and_parts (list_all (quad_known k) d.quads) (list_all k d.names) h).0 in
-      let known = all-filter (quad_known k) (λ q. same_graph R q.graph None) d.quads quads in
-      all-set_of (mapping_cmp R) (mapping_cmp S) renamed_mapping mapping_known mapping-order (filter_map (mapping_onto R width t) (quads_in R None d.quads)) (each-known width t (quads_in R None d.quads) known)
+  pub solutions-map : (a : Plan A) (d : Dataset A) (g : Option A) → plan_known k a ≡ true → dataset_known k d ≡ true → option_known k g ≡ true
+      → map (renamed_mapping f) (found a d g) ≡ found_after a d g
+  solutions-map (Basic ts) d g ha h hg =
+      basic-map R S f k o width ts (quads_in R g d.quads) ha (graph-known d g h)
+      ∙ ap (basic_solutions S width (map (renamed_pattern f) ts)) (map-quads_in R S f k o g d.quads hg (quads-known d h))
+  solutions-map (Join a b) d g ha h hg =
+      let parts = and_parts (plan_known k a) (plan_known k b) ha in
+      join-map R S f k o (found a d g) (found b d g) (solutions-known a d g h) (solutions-known b d g h)
+      ∙ (λ i. join S (solutions-map a d g parts.0 h hg i) (solutions-map b d g parts.1 h hg i))
+  solutions-map (LeftJoin a b es) d g ha h hg =
+      let first = and_parts (plan_known k a) (plan_known k b && list_all (expression_known k) es) ha in
+      let rest = and_parts (plan_known k b) (list_all (expression_known k) es) first.1 in
+      left-map R S f k o (test es) (test_after es) (test-map es rest.1) (found a d g) (found b d g) (solutions-known a d g h) (solutions-known b d g h)
+      ∙ (λ i. left_join S (test_after es) (solutions-map a d g first.0 h hg i) (solutions-map b d g rest.0 h hg i))
+  solutions-map (Union a b) d g ha h hg =
+      let parts = and_parts (plan_known k a) (plan_known k b) ha in
+      union-map R S f k o (found a d g) (found b d g) (solutions-known a d g h) (solutions-known b d g h)
+      ∙ (λ i. union_of S (solutions-map a d g parts.0 h hg i) (solutions-map b d g parts.1 h hg i))
+  solutions-map (Minus a b) d g ha h hg =
+      let parts = and_parts (plan_known k a) (plan_known k b) ha in
+      minus-map R S f k o (found a d g) (found b d g) (solutions-known a d g h) (solutions-known b d g h)
+      ∙ (λ i. minus S (solutions-map a d g parts.0 h hg i) (solutions-map b d g parts.1 h hg i))
+  solutions-map (Filter es a) d g ha h hg =
+      let parts = and_parts (list_all (expression_known k) es) (plan_known k a) ha in
+      passing-map R S f k o (test es) (test_after es) (test-map es parts.0) (found a d g) (solutions-known a d g h)
+      ∙ ap (filter (test_after es)) (solutions-map a d g parts.1 h hg)
+  solutions-map (InGraph (place.Term name) a) d g ha h hg =
+      let parts = and_parts (k name) (plan_known k a) ha in
+      map-if (renamed_mapping f) (has R d.names name) (found a d (Some name)) []
+      ∙ (λ i. cond (sym (has-map R S f k o d.names name (names-known d h) parts.0) i) (solutions-map a d (Some name) parts.1 h parts.0 i) [])
+  solutions-map (InGraph (place.Variable v) a) d g ha h hg =
+      let ms = λ (name : A). found a d (Some name) in
+      let ms' = λ (name : B). solutions S q width (renamed_plan f a) (renamed f d) (Some name) in
+      let each = λ (name : A). solutions-known a d (Some name) h in
+      set-map R S f k o (flat_map (named v ms) d.names) (all-flat_map k (mapping_known k) (named v ms) (named-known v ms each) d.names (names-known d h))
+      ∙ ap (set_of (mapping_cmp S))
+      (map-flat_map f (renamed_mapping f) k (named v ms) (named_after v ms')
+      (λ name hn. named-map v ms ms' each name hn (solutions-map a d (Some name) (and_parts true (plan_known k a) ha).1 h hn)) d.names (names-known d h))

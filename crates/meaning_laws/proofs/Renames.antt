@@ -1,51 +1,47 @@
 -- A renaming carries instances, effects, answers and runs along.
-use Rattle.std.proofs.Common.{◌≡◌, ℕ, suc, ◌+◌, Bool, true, false, ◌&&◌, List, [], ◌∷◌, ◌++◌, length, Option, Some, None, Result, Ok, Err, map, refl, sym, ap, ◌∙◌}
-use Rattle.std.specs.Prelude.{not, filter, filter_map, if◌then◌else◌}
-use Rattle.std.specs.List.{list_all, cons_option}
+use Rattle.std.proofs.Common.{◌≡◌, ℕ, ◌+◌, Bool, true, false, ◌&&◌, List, [], ◌∷◌, ◌++◌, length, Option, Some, None, Result, Ok, Err, map, refl, sym, ap, ◌∙◌}
+use Rattle.std.specs.Prelude.{not, filter_map, if◌then◌else◌}
+use Rattle.std.specs.List.{list_all}
 use Rattle.std.specs.Option.{option_map}
 use Rattle.std.proofs.lemmas.Bool.{and_parts, and_from}
 use Rattle.sets.specs.Sets.{has, union, without}
 use Rattle.datasets.specs.declared.quad.Quad.{Quad}
 use Rattle.datasets.specs.Dataset.{Dataset, quad_order, names_of}
+use Rattle.algebra.specs.declared.template.Slot.{Slot}
+use Rattle.algebra.specs.declared.template.Slot.TheVariants as slot
+use Rattle.algebra.specs.declared.template.QuadTemplate.{QuadTemplate}
 use Rattle.meaning.specs.Vocabulary.{Vocabulary}
 use Rattle.meaning.specs.Mapping.{Mapping}
 use Rattle.meaning.specs.Solutions.{solutions}
 use Rattle.meaning.specs.Template.{term_at, in_some, graph_at, is_legal, legal_quad, instance_of, instances, instances_from}
 use Rattle.meaning.specs.Effect.{is_too_many, replaced, modified, effect_of}
 use Rattle.meaning.specs.Run.{Request, Failure, then_next, performed, count_new, settled, answer_of, run_from}
-use Rattle.meaning.specs.declared.update.Slot.{Slot}
-use Rattle.meaning.specs.declared.update.Slot.TheVariants as slot
-use Rattle.meaning.specs.declared.update.QuadTemplate.{QuadTemplate}
+use Rattle.algebra.specs.declared.update.Modify.{Modify}
 use Rattle.meaning.specs.declared.update.Operation.{Operation}
 use Rattle.meaning.specs.declared.update.Operation.TheVariants as operation
 use Rattle.meaning.specs.declared.reply.Cause.{Cause}
 use Rattle.meaning.specs.declared.reply.Cause.TheVariants.{TooManySolutions}
 use Rattle.meaning.specs.declared.reply.Reply.{Reply}
 use Rattle.meaning.specs.declared.reply.Reply.TheVariants.{Done}
-use Rattle.meaning_laws.specs.Renaming.{renamed_quad, renamed, renamed_slot, renamed_template, renamed_plan, renamed_operation, renamed_request, option_known, quad_known, dataset_known, slot_known, graph_known, template_known, plan_known, operation_known, request_known, IsRenaming, CarriesRun}
-use Rattle.meaning_laws.proofs.RenamedSets.{map-append, length-map, all-append, all-filter, map-union, all-union, map-without, quad-order, map-names_of, all-names_of}
-use Rattle.meaning_laws.proofs.RenamedSolutions.{solutions-map, solutions-known, term-for, term-for-known}
+use Rattle.meaning_laws.specs.Renaming.{renamed_quad, renamed, renamed_slot, renamed_template, renamed_mapping, renamed_operation, renamed_request, option_known, quad_known, dataset_known, slot_known, graph_known, template_known, plan_known, mapping_known, operation_known, request_known, IsRenaming, CarriesRun}
+use Rattle.meaning_laws.proofs.RenamedLists.{some-if, known-if, map-append, length-map, all-append, all-filter, map-filter_map, all-filter_map}
+use Rattle.meaning_laws.proofs.RenamedSets.{map-union, all-union, map-without, quad-order, map-names_of, all-names_of}
+use Rattle.meaning_laws.proofs.RenamedMappings.{term-for, term-for-known}
+use Rattle.meaning_laws.proofs.RenamedSolutions.{solutions-map, solutions-known}
 
 -- ---- templates
 
 module _ {A B : Type 0} (V : Vocabulary A) (W : Vocabulary B) (f : A → B) (k : A → Bool) (r : IsRenaming V W f k) where
-  -- mappings with known terms, renamed
-  abbrev renamed_mapping : Mapping A → Mapping B
-  renamed_mapping m = map (option_map f) m
-
-  abbrev mapping_known : Mapping A → Bool
-  mapping_known m = list_all (option_known k) m
-
   term-at : (node : ℕ → A) (node' : ℕ → B) → ((l : ℕ) → f (node l) ≡ node' l) → (m : Mapping A) (s : Slot A)
-      → option_map f (term_at V node m s) ≡ term_at W node' (renamed_mapping m) (renamed_slot f s)
+      → option_map f (term_at V node m s) ≡ term_at W node' (renamed_mapping f m) (renamed_slot f s)
   term-at node node' e m (slot.Term t) = refl
-  term-at node node' e m (slot.Variable v) = term-for V.order W.order f k r.order m v
+  term-at node node' e m (slot.Variable v) = term-for f m v
   term-at node node' e m (slot.Label l) = ap Some (e l)
 
-  term-known : (node : ℕ → A) → ((l : ℕ) → k (node l) ≡ true) → (m : Mapping A) (s : Slot A) → mapping_known m ≡ true → slot_known k s ≡ true
+  term-known : (node : ℕ → A) → ((l : ℕ) → k (node l) ≡ true) → (m : Mapping A) (s : Slot A) → mapping_known k m ≡ true → slot_known k s ≡ true
       → option_known k (term_at V node m s) ≡ true
   term-known node e m (slot.Term t) hm h = h
-  term-known node e m (slot.Variable v) hm h = term-for-known V.order W.order f k r.order m v hm
+  term-known node e m (slot.Variable v) hm h = term-for-known k m v hm
   term-known node e m (slot.Label l) hm h = e l
 
   some-in : (g : Option A) → option_map (option_map f) (in_some V g) ≡ in_some W (option_map f g)
@@ -63,11 +59,11 @@ module _ {A B : Type 0} (V : Vocabulary A) (W : Vocabulary B) (f : A → B) (k :
   some-known (Some g) h = h
 
   graph-at : (node : ℕ → A) (node' : ℕ → B) → ((l : ℕ) → f (node l) ≡ node' l) → (m : Mapping A) (g : Option (Slot A))
-      → option_map (option_map f) (graph_at V node m g) ≡ graph_at W node' (renamed_mapping m) (option_map (renamed_slot f) g)
+      → option_map (option_map f) (graph_at V node m g) ≡ graph_at W node' (renamed_mapping f m) (option_map (renamed_slot f) g)
   graph-at node node' e m None = refl
   graph-at node node' e m (Some g) = some-in (term_at V node m g) ∙ ap (in_some W) (term-at node node' e m g)
 
-  graph-is-known : (node : ℕ → A) → ((l : ℕ) → k (node l) ≡ true) → (m : Mapping A) (g : Option (Slot A)) → mapping_known m ≡ true → graph_known k g ≡ true
+  graph-is-known : (node : ℕ → A) → ((l : ℕ) → k (node l) ≡ true) → (m : Mapping A) (g : Option (Slot A)) → mapping_known k m ≡ true → graph_known k g ≡ true
       → place-known (graph_at V node m g) ≡ true
   unfolding place-known
   graph-is-known node e m None hm h = refl
@@ -76,10 +72,6 @@ module _ {A B : Type 0} (V : Vocabulary A) (W : Vocabulary B) (f : A → B) (k :
   legal : (s p : A) (g : Option A) → k s ≡ true → k p ≡ true → option_known k g ≡ true → is_legal W (f s) (f p) (option_map f g) ≡ is_legal V s p g
   legal s p None hs hp hg = λ i. not (r.literals s hs i) && r.iris p hp i
   legal s p (Some g) hs hp hg = λ i. not (r.literals s hs i) && (r.iris p hp i && r.iris g hg i)
-
-  some-if : (b : Bool) (q : Quad A) → option_map (renamed_quad f) (if b then Some q else None) ≡ (if b then Some (renamed_quad f q) else None)
-  some-if true q = refl
-  some-if false q = refl
 
   quad-of : (s p o : Option A) (g : Option (Option A)) → option_known k s ≡ true → option_known k p ≡ true → option_known k o ≡ true → place-known g ≡ true
       → option_map (renamed_quad f) (legal_quad V s p o g) ≡ legal_quad W (option_map f s) (option_map f p) (option_map f o) (option_map (option_map f) g)
@@ -90,27 +82,17 @@ module _ {A B : Type 0} (V : Vocabulary A) (W : Vocabulary B) (f : A → B) (k :
   quad-of (Some s) (Some p) (Some o) None hs hp ho hg = refl
   quad-of (Some s) (Some p) (Some o) (Some g) hs hp ho hg =
       let q : Quad A = record { subject = s; predicate = p; object = o; graph = g } in
-      some-if (is_legal V s p g) q ∙ ap (λ (b : Bool). if b then Some (renamed_quad f q) else None) (sym (legal s p g hs hp hg))
-
-  -- whether there is no quad, or one of known terms
-  found-known : Option (Quad A) → Bool
-  found-known None = true
-  found-known (Some q) = quad_known k q
-
-  known-if : (b : Bool) (q : Quad A) → quad_known k q ≡ true → found-known (if b then Some q else None) ≡ true
-  unfolding found-known
-  known-if true q h = h
-  known-if false q h = refl
+      some-if (renamed_quad f) (is_legal V s p g) q ∙ ap (λ (b : Bool). if b then Some (renamed_quad f q) else None) (sym (legal s p g hs hp hg))
 
   quad-of-known : (s p o : Option A) (g : Option (Option A)) → option_known k s ≡ true → option_known k p ≡ true → option_known k o ≡ true → place-known g ≡ true
-      → found-known (legal_quad V s p o g) ≡ true
-  unfolding place-known found-known
+      → option_known (quad_known k) (legal_quad V s p o g) ≡ true
+  unfolding place-known
   quad-of-known None p o g hs hp ho hg = refl
   quad-of-known (Some s) None o g hs hp ho hg = refl
   quad-of-known (Some s) (Some p) None g hs hp ho hg = refl
   quad-of-known (Some s) (Some p) (Some o) None hs hp ho hg = refl
   quad-of-known (Some s) (Some p) (Some o) (Some g) hs hp ho hg =
-      known-if (is_legal V s p g) (record { subject = s; predicate = p; object = o; graph = g })
+      known-if (quad_known k) (is_legal V s p g) (record { subject = s; predicate = p; object = o; graph = g })
       (and_from (k s) _ hs (and_from (k p) _ hp (and_from (k o) _ ho hg)))
 
   -- a template's places are known
@@ -128,8 +110,8 @@ module _ {A B : Type 0} (V : Vocabulary A) (W : Vocabulary B) (f : A → B) (k :
       record { subject = a.0; predicate = b.0; object = c.0; graph = c.1 }
 
   instance-of : (node : ℕ → A) (node' : ℕ → B) → ((l : ℕ) → f (node l) ≡ node' l) → ((l : ℕ) → k (node l) ≡ true) → (m : Mapping A) (t : QuadTemplate A)
-      → mapping_known m ≡ true → template_known k t ≡ true
-      → option_map (renamed_quad f) (instance_of V node m t) ≡ instance_of W node' (renamed_mapping m) (renamed_template f t)
+      → mapping_known k m ≡ true → template_known k t ≡ true
+      → option_map (renamed_quad f) (instance_of V node m t) ≡ instance_of W node' (renamed_mapping f m) (renamed_template f t)
   instance-of node node' e known m t hm h =
       let p = places t h in
       quad-of (term_at V node m t.subject) (term_at V node m t.predicate) (term_at V node m t.object) (graph_at V node m t.graph)
@@ -137,53 +119,40 @@ module _ {A B : Type 0} (V : Vocabulary A) (W : Vocabulary B) (f : A → B) (k :
       (graph-is-known node known m t.graph hm p.graph)
       ∙ (λ i. legal_quad W (term-at node node' e m t.subject i) (term-at node node' e m t.predicate i) (term-at node node' e m t.object i) (graph-at node node' e m t.graph i))
 
-  instance-known : (node : ℕ → A) → ((l : ℕ) → k (node l) ≡ true) → (m : Mapping A) (t : QuadTemplate A) → mapping_known m ≡ true → template_known k t ≡ true
-      → found-known (instance_of V node m t) ≡ true
+  instance-known : (node : ℕ → A) → ((l : ℕ) → k (node l) ≡ true) → (m : Mapping A) (t : QuadTemplate A) → mapping_known k m ≡ true → template_known k t ≡ true
+      → option_known (quad_known k) (instance_of V node m t) ≡ true
   instance-known node known m t hm h =
       let p = places t h in
       quad-of-known (term_at V node m t.subject) (term_at V node m t.predicate) (term_at V node m t.object) (graph_at V node m t.graph)
       (term-known node known m t.subject hm p.subject) (term-known node known m t.predicate hm p.predicate) (term-known node known m t.object hm p.object)
       (graph-is-known node known m t.graph hm p.graph)
 
-  map-cons : (g : Option (Quad A)) (qs : List (Quad A)) → map (renamed_quad f) (cons_option g qs) ≡ cons_option (option_map (renamed_quad f) g) (map (renamed_quad f) qs)
-  map-cons None qs = refl
-  map-cons (Some q) qs = refl
-
-  cons-known : (g : Option (Quad A)) (qs : List (Quad A)) → found-known g ≡ true → list_all (quad_known k) qs ≡ true → list_all (quad_known k) (cons_option g qs) ≡ true
-  unfolding found-known
-  cons-known None qs h h' = h'
-  cons-known (Some q) qs h h' = and_from (quad_known k q) (list_all (quad_known k) qs) h h'
-
   each-map : (node : ℕ → A) (node' : ℕ → B) → ((l : ℕ) → f (node l) ≡ node' l) → ((l : ℕ) → k (node l) ≡ true) → (m : Mapping A) (ts : List (QuadTemplate A))
-      → mapping_known m ≡ true → list_all (template_known k) ts ≡ true
-      → map (renamed_quad f) (filter_map (instance_of V node m) ts) ≡ filter_map (instance_of W node' (renamed_mapping m)) (map (renamed_template f) ts)
-  each-map node node' e known m [] hm h = refl
-  each-map node node' e known m (t ∷ ts) hm h =
-      let parts = and_parts (template_known k t) (list_all (template_known k) ts) h in
-      map-cons (instance_of V node m t) (filter_map (instance_of V node m) ts)
-      ∙ (λ i. cons_option (instance-of node node' e known m t hm parts.0 i) (each-map node node' e known m ts hm parts.1 i))
+      → mapping_known k m ≡ true → list_all (template_known k) ts ≡ true
+      → map (renamed_quad f) (filter_map (instance_of V node m) ts) ≡ filter_map (instance_of W node' (renamed_mapping f m)) (map (renamed_template f) ts)
+  each-map node node' e known m ts hm h =
+      map-filter_map (renamed_template f) (renamed_quad f) (template_known k) (instance_of V node m) (instance_of W node' (renamed_mapping f m))
+      (λ t ht. instance-of node node' e known m t hm ht) ts h
 
-  each-known : (node : ℕ → A) → ((l : ℕ) → k (node l) ≡ true) → (m : Mapping A) (ts : List (QuadTemplate A)) → mapping_known m ≡ true → list_all (template_known k) ts ≡ true
+  each-known : (node : ℕ → A) → ((l : ℕ) → k (node l) ≡ true) → (m : Mapping A) (ts : List (QuadTemplate A)) → mapping_known k m ≡ true → list_all (template_known k) ts ≡ true
       → list_all (quad_known k) (filter_map (instance_of V node m) ts) ≡ true
-  each-known node known m [] hm h = refl
-  each-known node known m (t ∷ ts) hm h =
-      let parts = and_parts (template_known k t) (list_all (template_known k) ts) h in
-      cons-known (instance_of V node m t) (filter_map (instance_of V node m) ts) (instance-known node known m t hm parts.0) (each-known node known m ts hm parts.1)
+  each-known node known m ts hm h =
+      all-filter_map (template_known k) (quad_known k) (instance_of V node m) (λ t ht. instance-known node known m t hm ht) ts h
 
-  instances-from : (i n : ℕ) (ts : List (QuadTemplate A)) (rank : ℕ) (ms : List (Mapping A)) → list_all (template_known k) ts ≡ true → list_all mapping_known ms ≡ true
-      → map (renamed_quad f) (instances_from V i n ts rank ms) ≡ instances_from W i n (map (renamed_template f) ts) rank (map renamed_mapping ms)
+  instances-from : (i n : ℕ) (ts : List (QuadTemplate A)) (rank : ℕ) (ms : List (Mapping A)) → list_all (template_known k) ts ≡ true → list_all (mapping_known k) ms ≡ true
+      → map (renamed_quad f) (instances_from V i n ts rank ms) ≡ instances_from W i n (map (renamed_template f) ts) rank (map (renamed_mapping f) ms)
   instances-from i n ts rank [] h hm = refl
   instances-from i n ts rank (m ∷ ms) h hm =
-      let parts = and_parts (mapping_known m) (list_all mapping_known ms) hm in
+      let parts = and_parts (mapping_known k m) (list_all (mapping_known k) ms) hm in
       map-append (renamed_quad f) (filter_map (instance_of V (λ l. V.made i n l rank) m) ts) (instances_from V i n ts (rank + 1) ms)
       ∙ (λ j. each-map (λ l. V.made i n l rank) (λ l. W.made i n l rank) (λ l. r.nodes i n l rank) (λ l. r.nodes_known i n l rank) m ts parts.0 h j
       ++ instances-from i n ts (rank + 1) ms h parts.1 j)
 
-  instances-known : (i n : ℕ) (ts : List (QuadTemplate A)) (rank : ℕ) (ms : List (Mapping A)) → list_all (template_known k) ts ≡ true → list_all mapping_known ms ≡ true
+  instances-known : (i n : ℕ) (ts : List (QuadTemplate A)) (rank : ℕ) (ms : List (Mapping A)) → list_all (template_known k) ts ≡ true → list_all (mapping_known k) ms ≡ true
       → list_all (quad_known k) (instances_from V i n ts rank ms) ≡ true
   instances-known i n ts rank [] h hm = refl
   instances-known i n ts rank (m ∷ ms) h hm =
-      let parts = and_parts (mapping_known m) (list_all mapping_known ms) hm in
+      let parts = and_parts (mapping_known k m) (list_all (mapping_known k) ms) hm in
       all-append (quad_known k) (filter_map (instance_of V (λ l. V.made i n l rank) m) ts) (instances_from V i n ts (rank + 1) ms)
       (each-known (λ l. V.made i n l rank) (λ l. r.nodes_known i n l rank) m ts parts.0 h) (instances-known i n ts (rank + 1) ms h parts.1)
 
@@ -230,35 +199,48 @@ module _ {A B : Type 0} (V : Vocabulary A) (W : Vocabulary B) (f : A → B) (k :
   unless-known false d h = h
 
   modified-map : (i n : ℕ) (gone ts : List (QuadTemplate A)) (ms : List (Mapping A)) (d : Dataset A)
-      → list_all (template_known k) gone ≡ true → list_all (template_known k) ts ≡ true → list_all mapping_known ms ≡ true → dataset_known k d ≡ true
-      → renamed_result (modified V i n gone ts ms d) ≡ modified W i n (map (renamed_template f) gone) (map (renamed_template f) ts) (map renamed_mapping ms) (renamed f d)
+      → list_all (template_known k) gone ≡ true → list_all (template_known k) ts ≡ true → list_all (mapping_known k) ms ≡ true → dataset_known k d ≡ true
+      → renamed_result (modified V i n gone ts ms d) ≡ modified W i n (map (renamed_template f) gone) (map (renamed_template f) ts) (map (renamed_mapping f) ms) (renamed f d)
   modified-map i n gone ts ms d hg h hm h' =
       unless-map (is_too_many (length ms)) (replaced V d (instances V i n gone ms) (instances V i n ts ms))
-      ∙ (λ j. if is_too_many (sym (length-map renamed_mapping ms) j) then Err TooManySolutions else Ok (after j))
+      ∙ (λ j. if is_too_many (sym (length-map (renamed_mapping f) ms) j) then Err TooManySolutions else Ok (after j))
     where
       after : renamed f (replaced V d (instances V i n gone ms) (instances V i n ts ms))
-          ≡ replaced W (renamed f d) (instances W i n (map (renamed_template f) gone) (map renamed_mapping ms)) (instances W i n (map (renamed_template f) ts) (map renamed_mapping ms))
+          ≡ replaced W (renamed f d) (instances W i n (map (renamed_template f) gone) (map (renamed_mapping f) ms)) (instances W i n (map (renamed_template f) ts) (map (renamed_mapping f) ms))
       after =
           replaced-map d (instances V i n gone ms) (instances V i n ts ms) h' (instances-known i n gone 0 ms hg hm) (instances-known i n ts 0 ms h hm)
           ∙ (λ j. replaced W (renamed f d) (instances-from i n gone 0 ms hg hm j) (instances-from i n ts 0 ms h hm j))
 
+  -- an operation's parts are known
+  record Parts (m : Modify A) : Type 0 where
+    pub active : option_known k m.active ≡ true
+    pub pattern : plan_known k m.pattern ≡ true
+    pub delete : list_all (template_known k) m.delete ≡ true
+    pub insert : list_all (template_known k) m.insert ≡ true
+
+  parts_of : (m : Modify A) → operation_known k (operation.Modify m) ≡ true → Parts m
+  parts_of m h =
+      let a = and_parts (option_known k m.active) (plan_known k m.pattern && (list_all (template_known k) m.delete && list_all (template_known k) m.insert)) h in
+      let b = and_parts (plan_known k m.pattern) (list_all (template_known k) m.delete && list_all (template_known k) m.insert) a.1 in
+      let c = and_parts (list_all (template_known k) m.delete) (list_all (template_known k) m.insert) b.1 in
+      record { active = a.0; pattern = b.0; delete = c.0; insert = c.1 }
+
+  found-known : (m : Modify A) (d : Dataset A) → dataset_known k d ≡ true → list_all (mapping_known k) (solutions V.order V.passes m.width m.pattern d m.active) ≡ true
+  found-known m d h' = solutions-known V.order W.order f k r.order V.passes W.passes r.passes m.width m.pattern d m.active h'
+
   effect-map : (i n : ℕ) (op : Operation A) (d : Dataset A) → operation_known k op ≡ true → dataset_known k d ≡ true
       → renamed_result (effect_of V i n op d) ≡ effect_of W i n (renamed_operation f op) (renamed f d)
   effect-map i n (operation.Modify m) d h h' =
-      let pattern = and_parts (plan_known k m.pattern) (list_all (template_known k) m.delete && list_all (template_known k) m.insert) h in
-      let templates = and_parts (list_all (template_known k) m.delete) (list_all (template_known k) m.insert) pattern.1 in
-      modified-map i n m.delete m.insert (solutions V.order m.width m.pattern d None) d templates.0 templates.1 (solutions-known V.order W.order f k r.order m.width m.pattern d h') h'
+      let p = parts_of m h in
+      modified-map i n m.delete m.insert (solutions V.order V.passes m.width m.pattern d m.active) d p.delete p.insert (found-known m d h') h'
       ∙ ap (λ ms. modified W i n (map (renamed_template f) m.delete) (map (renamed_template f) m.insert) ms (renamed f d))
-      (solutions-map V.order W.order f k r.order m.width m.pattern d pattern.0 h')
+      (solutions-map V.order W.order f k r.order V.passes W.passes r.passes m.width m.pattern d m.active p.pattern h' p.active)
 
   effect-known : (i n : ℕ) (op : Operation A) (d : Dataset A) → operation_known k op ≡ true → dataset_known k d ≡ true → result_known (effect_of V i n op d) ≡ true
   effect-known i n (operation.Modify m) d h h' =
-      let pattern = and_parts (plan_known k m.pattern) (list_all (template_known k) m.delete && list_all (template_known k) m.insert) h in
-      let templates = and_parts (list_all (template_known k) m.delete) (list_all (template_known k) m.insert) pattern.1 in
-      let ms = solutions V.order m.width m.pattern d None in
+      let ms = solutions V.order V.passes m.width m.pattern d m.active in
       unless-known (is_too_many (length ms)) (replaced V d (instances V i n m.delete ms) (instances V i n m.insert ms))
-      (replaced-known d (instances V i n m.delete ms) (instances V i n m.insert ms) h'
-      (instances-known i n m.insert 0 ms templates.1 (solutions-known V.order W.order f k r.order m.width m.pattern d h')))
+      (replaced-known d (instances V i n m.delete ms) (instances V i n m.insert ms) h' (instances-known i n m.insert 0 ms (parts_of m h).insert (found-known m d h')))
 
   -- ---- requests
 

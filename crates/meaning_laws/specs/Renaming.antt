@@ -6,14 +6,16 @@ use Rattle.datasets.specs.Dataset.{Dataset}
 use Rattle.datasets.specs.declared.quad.Quad.{Quad}
 use Rattle.meaning.specs.Vocabulary.{Vocabulary}
 use Rattle.meaning.specs.Run.{Request, run}
-use Rattle.meaning.specs.declared.update.Slot.{Slot}
-use Rattle.meaning.specs.declared.update.Slot.TheVariants.{Term, Variable, Label}
-use Rattle.meaning.specs.declared.update.Place.{Place}
-use Rattle.meaning.specs.declared.update.Place.TheVariants as place
-use Rattle.meaning.specs.declared.update.TriplePattern.{TriplePattern}
-use Rattle.meaning.specs.declared.update.Plan.{Plan}
-use Rattle.meaning.specs.declared.update.Plan.TheVariants.{Empty, Triple}
-use Rattle.meaning.specs.declared.update.QuadTemplate.{QuadTemplate}
+use Rattle.algebra.specs.declared.template.Slot.{Slot}
+use Rattle.algebra.specs.declared.template.Slot.TheVariants.{Term, Variable, Label}
+use Rattle.algebra.specs.declared.template.QuadTemplate.{QuadTemplate}
+use Rattle.algebra.specs.declared.pattern.Place.{Place}
+use Rattle.algebra.specs.declared.pattern.Place.TheVariants as place
+use Rattle.algebra.specs.declared.pattern.TriplePattern.{TriplePattern}
+use Rattle.algebra.specs.Expressions as expression
+use Rattle.algebra.specs.Expressions.{Expression}
+use Rattle.algebra.specs.Plans.{Plan, Basic, Join, LeftJoin, Union, Minus, Filter, InGraph}
+use Rattle.meaning.specs.Mapping.{Mapping}
 use Rattle.meaning.specs.declared.update.Operation.{Operation}
 use Rattle.meaning.specs.declared.update.Operation.TheVariants.{Modify}
 
@@ -44,13 +46,29 @@ module _ {A B : Type 0} (f : A → B) where
   abbrev pub renamed_pattern : TriplePattern A → TriplePattern B
   renamed_pattern t = record { subject = renamed_place t.subject; predicate = renamed_place t.predicate; object = renamed_place t.object }
 
+  abbrev pub renamed_expression : Expression A → Expression B
+  renamed_expression (expression.Constant t) = expression.Constant (f t)
+  renamed_expression (expression.Variable v) = expression.Variable v
+  renamed_expression (expression.Bound v) = expression.Bound v
+  renamed_expression (expression.One o e) = expression.One o (renamed_expression e)
+  renamed_expression (expression.Two o e e') = expression.Two o (renamed_expression e) (renamed_expression e')
+
   abbrev pub renamed_plan : Plan A → Plan B
-  renamed_plan Empty = Empty
-  renamed_plan (Triple t) = Triple (renamed_pattern t)
+  renamed_plan (Basic ts) = Basic (map renamed_pattern ts)
+  renamed_plan (Join p q) = Join (renamed_plan p) (renamed_plan q)
+  renamed_plan (LeftJoin p q es) = LeftJoin (renamed_plan p) (renamed_plan q) (map renamed_expression es)
+  renamed_plan (Union p q) = Union (renamed_plan p) (renamed_plan q)
+  renamed_plan (Minus p q) = Minus (renamed_plan p) (renamed_plan q)
+  renamed_plan (Filter es p) = Filter (map renamed_expression es) (renamed_plan p)
+  renamed_plan (InGraph n p) = InGraph (renamed_place n) (renamed_plan p)
+
+  abbrev pub renamed_mapping : Mapping A → Mapping B
+  renamed_mapping m = map (option_map f) m
 
   abbrev pub renamed_operation : Operation A → Operation B
   renamed_operation (Modify m) = Modify (record {
     width = m.width;
+    active = option_map f m.active;
     pattern = renamed_plan m.pattern;
     delete = map renamed_template m.delete;
     insert = map renamed_template m.insert;
@@ -91,24 +109,43 @@ module _ {A : Type 0} (known : A → Bool) where
   abbrev pub pattern_known : TriplePattern A → Bool
   pattern_known t = place_known t.subject && (place_known t.predicate && place_known t.object)
 
+  abbrev pub expression_known : Expression A → Bool
+  expression_known (expression.Constant t) = known t
+  expression_known (expression.Variable v) = true
+  expression_known (expression.Bound v) = true
+  expression_known (expression.One o e) = expression_known e
+  expression_known (expression.Two o e f) = expression_known e && expression_known f
+
   abbrev pub plan_known : Plan A → Bool
-  plan_known Empty = true
-  plan_known (Triple t) = pattern_known t
+  plan_known (Basic ts) = list_all pattern_known ts
+  plan_known (Join p q) = plan_known p && plan_known q
+  plan_known (LeftJoin p q es) = plan_known p && (plan_known q && list_all expression_known es)
+  plan_known (Union p q) = plan_known p && plan_known q
+  plan_known (Minus p q) = plan_known p && plan_known q
+  plan_known (Filter es p) = list_all expression_known es && plan_known p
+  plan_known (InGraph n p) = place_known n && plan_known p
+
+  abbrev pub mapping_known : Mapping A → Bool
+  mapping_known m = list_all option_known m
 
   abbrev pub operation_known : Operation A → Bool
-  operation_known (Modify m) = plan_known m.pattern && (list_all template_known m.delete && list_all template_known m.insert)
+  operation_known (Modify m) =
+      option_known m.active && (plan_known m.pattern && (list_all template_known m.delete && list_all template_known m.insert))
 
   abbrev pub request_known : Request A → Bool
   request_known (Ok operations) = list_all operation_known operations
   request_known (Err refusal) = true
 
--- the renaming keeps the order and the kinds of the known terms, and takes made nodes, which are known, to made nodes
+-- the renaming keeps the order and the kinds of the known terms and what passes a filter, and takes made nodes, which are known, to made
+-- nodes
 pub record IsRenaming {A B : Type 0} (V : Vocabulary A) (W : Vocabulary B) (f : A → B) (known : A → Bool) : Type 0 where
   pub order : (x y : A) → known x ≡ true → known y ≡ true → W.order (f x) (f y) ≡ V.order x y
   pub iris : (x : A) → known x ≡ true → W.is_iri (f x) ≡ V.is_iri x
   pub literals : (x : A) → known x ≡ true → W.is_literal (f x) ≡ V.is_literal x
   pub nodes : (request operation label rank : ℕ) → f (V.made request operation label rank) ≡ W.made request operation label rank
   pub nodes_known : (request operation label rank : ℕ) → known (V.made request operation label rank) ≡ true
+  pub passes : (e : Expression A) (m : Mapping A) → expression_known known e ≡ true → mapping_known known m ≡ true
+      → W.passes (renamed_expression f e) (renamed_mapping f m) ≡ V.passes e m
 
 -- the run of a renamed block on a renamed dataset is the renamed run, with the same replies, and its terms are known
 pub record IsRenamedRun {A B : Type 0} (V : Vocabulary A) (W : Vocabulary B) (f : A → B) (known : A → Bool) (requests : List (Request A)) (d : Dataset A) : Type 0 where

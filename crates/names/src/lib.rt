@@ -7,7 +7,6 @@
 mod key;
 mod numbers;
 mod prefixes;
-mod search;
 
 pub use numbers::{Labels, Variables};
 pub use prefixes::Prefixes;

@@ -5,9 +5,8 @@ ghost use Rattle.terms.specs.Term.{text_cmp};
 ghost use Rattle.names.specs.Numbers.{variable_of, variables_of, number_of, label_of, labels_of, is_label_in, with_label, with_labels, label_number};
 
 use crate::key::Key;
-use crate::search::place_of;
 use lexer::{Label, Piece};
-use sets::set_of;
+use sets::{place_of, set_of};
 use std::alloc::{AllocError, Global};
 use std::collections::BTreeMap;
 use std::marker::Model;

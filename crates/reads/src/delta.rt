@@ -48,11 +48,13 @@ impl Delta {
     pub fn new(alloc: Global) -> Self
         ensures { result ≡ no_change }
     {
+        let (present, absent) = (Vec::new(alloc), Vec::new(alloc));
+        let (there, gone) = (Vec::new(alloc), Vec::new(alloc));
         Delta {
-            present: Vec::new(alloc),
-            absent: Vec::new(alloc),
-            there: Vec::new(alloc),
-            gone: Vec::new(alloc),
+            present,
+            absent,
+            there,
+            gone,
         }
     }
 

@@ -6,3 +6,5 @@
 mod checks;
 #[cfg(test)]
 mod tests;
+#[cfg(test)]
+mod where_clauses;

@@ -1,5 +1,5 @@
 -- The first fault of a reading, and what it says of the text.
-use Rattle.std.proofs.Common.{◌≡◌, ℕ, ◌+◌, ◌++◌, length-append, ◌<◌, ◌≤◌, ◌^◌, Bool, true, false, ◌||◌, List, [], ◌∷◌, length, Option, Some, None, Result, Ok, Err, refl, sym, ap, ◌∙◌, subst, suc, add-one, arith, eqb, cond, inl, inr, ◌⊎◌}
+use Rattle.std.proofs.Common.{◌≡◌, ℕ, ◌+◌, ◌++◌, length-append, ◌<◌, ◌≤◌, ◌^◌, Bool, true, false, List, [], ◌∷◌, length, Option, Some, None, Result, Ok, Err, refl, sym, ap, ◌∙◌, subst, suc, add-one, arith, eqb, cond, inl, inr}
 use Rattle.std.proofs.lemmas.Bool.{cases_order, or_parts, cases_lt, lt-ltb}
 use Rattle.std.specs.Prelude.{nat_lt, IfOk, fold}
 use Rattle.std.specs.Option.{option_map}

@@ -3,3 +3,4 @@ pub mod Runnable
 pub mod Requests
 pub mod Cutting
 pub mod Terms
+pub mod Parts

@@ -1,5 +1,5 @@
 -- Why a request is refused: the first of the kinds that holds anywhere in it.
-use Rattle.std.specs.Prelude.{ℕ, ◌≡◌, ◌<◌, Bool, true, false, List, Option, Some, None, Result, Ok, Err}
+use Rattle.std.specs.Prelude.{ℕ, ◌≡◌, ◌<◌, true, false, List, Option, Some, None, Result, Ok, Err}
 use Rattle.terms.specs.declared.term.Term.{Term}
 use Rattle.algebra.specs.declared.update.Operation.{Operation}
 use Rattle.meaning.specs.declared.reply.Refusal.{Refusal}

@@ -1,15 +1,17 @@
 -- The terms of requests.
 use Rattle.std.specs.Prelude.{List, [], ◌∷◌, ◌++◌, Option, Some, None, Result, Ok, Err}
 use Rattle.std.specs.List.{flat_map}
+use Rattle.std.specs.Option.{option_to_list}
 use Rattle.terms.specs.declared.term.Term.{Term}
-use Rattle.meaning.specs.declared.update.Slot.{Slot}
-use Rattle.meaning.specs.declared.update.Slot.TheVariants as slot
-use Rattle.meaning.specs.declared.update.QuadTemplate.{QuadTemplate}
-use Rattle.meaning.specs.declared.update.Place.{Place}
-use Rattle.meaning.specs.declared.update.Place.TheVariants as place
-use Rattle.meaning.specs.declared.update.TriplePattern.{TriplePattern}
-use Rattle.meaning.specs.declared.update.Plan.{Plan}
-use Rattle.meaning.specs.declared.update.Plan.TheVariants.{Empty, Triple}
+use Rattle.algebra.specs.declared.template.Slot.{Slot}
+use Rattle.algebra.specs.declared.template.Slot.TheVariants as slot
+use Rattle.algebra.specs.declared.template.QuadTemplate.{QuadTemplate}
+use Rattle.algebra.specs.declared.pattern.Place.{Place}
+use Rattle.algebra.specs.declared.pattern.Place.TheVariants as place
+use Rattle.algebra.specs.declared.pattern.TriplePattern.{TriplePattern}
+use Rattle.algebra.specs.Expressions as expression
+use Rattle.algebra.specs.Expressions.{Expression}
+use Rattle.algebra.specs.Plans.{Plan, Basic, Join, LeftJoin, Union, Minus, Filter, InGraph}
 use Rattle.meaning.specs.declared.update.Operation.{Operation}
 use Rattle.meaning.specs.declared.update.Operation.TheVariants as update
 use Rattle.meaning.specs.declared.reply.Refusal.{Refusal}
@@ -33,12 +35,25 @@ terms_of_place (place.Variable v) = []
 abbrev pub terms_of_pattern : TriplePattern Term → List Term
 terms_of_pattern t = terms_of_place t.subject ++ terms_of_place t.predicate ++ terms_of_place t.object
 
+abbrev pub terms_of_expression : Expression Term → List Term
+terms_of_expression (expression.Constant t) = t ∷ []
+terms_of_expression (expression.Variable v) = []
+terms_of_expression (expression.Bound v) = []
+terms_of_expression (expression.One o e) = terms_of_expression e
+terms_of_expression (expression.Two o e f) = terms_of_expression e ++ terms_of_expression f
+
 abbrev pub terms_of_plan : Plan Term → List Term
-terms_of_plan Empty = []
-terms_of_plan (Triple t) = terms_of_pattern t
+terms_of_plan (Basic ts) = flat_map terms_of_pattern ts
+terms_of_plan (Join a b) = terms_of_plan a ++ terms_of_plan b
+terms_of_plan (LeftJoin a b es) = terms_of_plan a ++ terms_of_plan b ++ flat_map terms_of_expression es
+terms_of_plan (Union a b) = terms_of_plan a ++ terms_of_plan b
+terms_of_plan (Minus a b) = terms_of_plan a ++ terms_of_plan b
+terms_of_plan (Filter es a) = terms_of_plan a ++ flat_map terms_of_expression es
+terms_of_plan (InGraph n a) = terms_of_place n ++ terms_of_plan a
 
 abbrev pub terms_of_operation : Operation Term → List Term
-terms_of_operation (update.Modify m) = terms_of_plan m.pattern ++ flat_map terms_of_quad m.delete ++ flat_map terms_of_quad m.insert
+terms_of_operation (update.Modify m) =
+    option_to_list m.active ++ terms_of_plan m.pattern ++ flat_map terms_of_quad m.delete ++ flat_map terms_of_quad m.insert
 
 -- those of an accepted request
 abbrev pub terms_of_request : Result (List (Operation Term)) Refusal → List Term

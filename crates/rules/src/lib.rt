@@ -5,6 +5,7 @@
 #![tactic(auto)]
 
 mod block;
+mod block_terms;
 mod cut;
 mod fault;
 pub mod laws;

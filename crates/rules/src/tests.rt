@@ -1,8 +1,8 @@
 //! Texts and blocks with the answers that the standard and this program's limits give them.
 
 use crate::{BlockFault, Checked, checked, split, taken, verdicts};
-use algebra::{Expression, GraphOperation, Modify, Operation, Plan};
-use meaning::{Place, Refusal, Slot};
+use algebra::{Expression, GraphOperation, Link, Modify, Operation, Place, Plan, Slot};
+use meaning::Refusal;
 use std::alloc::{AllocError, Global};
 use terms::Term;
 
@@ -278,23 +278,24 @@ fn blocks(rt: HostRuntime) -> Result<(), BlockFault> {
 }
 
 /// Texts, and whether each is accepted and can be run now.
-const RUNS: [(&str, bool); 10] = [
+const RUNS: [(&str, bool); 8] = [
     ("INSERT DATA { <a:b> <a:c> \"x\"@en }", true),
-    ("DELETE DATA { <a:b> <a:c> 1 }", true),
-    ("INSERT DATA { _:x <a:c> 1 }", false),
-    ("INSERT DATA { GRAPH <a:g> { <a:b> <a:c> 1 } }", false),
     (
-        "DELETE { ?s ?p ?o } INSERT { ?s ?p 1 } WHERE { ?s ?p ?o }",
+        "INSERT DATA { _:x <a:c> 1 GRAPH <a:g> { <a:b> <a:c> 1 } }",
         true,
     ),
-    ("INSERT { _:x ?p 1 } WHERE { ?s ?p ?o }", false),
-    ("WITH <a:g> INSERT { ?s ?p 1 } WHERE { ?s ?p ?o }", false),
-    ("INSERT { ?s ?p 1 } WHERE { ?s ?p ?o . ?o ?p ?s }", false),
+    ("DELETE DATA { <a:b> <a:c> 1 }", true),
     (
-        "INSERT { ?s ?p 1 } WHERE { GRAPH <a:g> { ?s ?p ?o } }",
-        false,
+        "WITH <a:g> DELETE { ?s ?p ?o } INSERT { _:x ?p 1 } WHERE { ?s ?p ?o }",
+        true,
     ),
+    (
+        "INSERT { ?s ?p 1 } WHERE { GRAPH ?g { ?s ?p ?o } MINUS { ?o ?p ?s } FILTER(?o > 1) }",
+        true,
+    ),
+    ("DELETE WHERE { ?s ?p ?o . GRAPH <a:g> { ?o ?p ?s } }", true),
     ("INSERT DATA { } ; CREATE GRAPH <a:g>", false),
+    ("COPY <a:g> TO DEFAULT ; DELETE WHERE { ?s ?p ?o }", false),
 ];
 
 #[test]
@@ -359,23 +360,22 @@ fn groups(rt: HostRuntime) -> Result<(), AllocError> {
         "INSERT { } WHERE { ?s <a:p> ?o OPTIONAL { ?s <a:q> ?v FILTER(?o = 1) } FILTER BOUND(?v) }";
     let modify = only_modify(alloc, text)?;
     assert!(rt; modify.width == 3);
-    let Plan::Filter(filters, inner) = modify.pattern.plan() else {
+    let Plan::Group(parts, filters) = modify.pattern.plan() else {
         return Err(AllocError);
     };
     assert!(rt; filters.len() == 1 && matches!(&filters[0], Expression::Bound(2)));
-    assert!(rt; matches!(&**inner, Plan::LeftJoin(_, _, condition) if condition.len() == 1));
+    assert!(rt; parts.len() == 2 && matches!(&parts[0], (Link::Join, Plan::Basic(_))));
+    assert!(rt; matches!(&parts[1].0, Link::LeftJoin(condition) if condition.len() == 1));
     let text = "DELETE WHERE { ?s <a:p> ?o GRAPH ?g { } }";
     let modify = only_modify(alloc, text)?;
     assert!(rt; modify.width == 3 && modify.delete.len() == 1 && modify.insert.is_empty());
     // Behind a GRAPH block more of the default graph may stand, here nothing.
-    let Plan::Join(before, last) = modify.pattern.plan() else {
+    let Plan::Group(parts, filters) = modify.pattern.plan() else {
         return Err(AllocError);
     };
-    assert!(rt; matches!(&**last, Plan::Basic(triples) if triples.is_empty()));
-    let Plan::Join(_, right) = &**before else {
-        return Err(AllocError);
-    };
-    assert!(rt; matches!(&**right, Plan::InGraph(Place::Variable(0), _)));
+    assert!(rt; filters.is_empty() && parts.len() == 3);
+    assert!(rt; matches!(&parts[2].1, Plan::Basic(triples) if triples.is_empty()));
+    assert!(rt; matches!(&parts[1].1, Plan::InGraph(Place::Variable(0), _)));
     Ok(())
 }
 

@@ -8,8 +8,10 @@ ghost use Rattle.std.specs.declared.cmp.Ordering.TheVariants.{Equal};
 ghost use Rattle.sets.specs.Sets.{set_of as the_set_of};
 
 pub mod items;
+pub mod search;
 
 pub use items::Items;
+pub use search::place_of;
 
 /// An order that tells any two values apart.
 pub trait Exact: Ord {

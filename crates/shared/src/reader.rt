@@ -25,10 +25,15 @@ pub struct Reader<'s, 'a, R: Wait> {
 }
 
 impl<'s, 'a, R: Wait> Model for Reader<'s, 'a, R> {
+    ghost use Rattle.std.specs.Coded.{codes};
     ghost use Rattle.std.specs.Prelude.{◌≡◌};
+    ghost use Rattle.algebra.specs.Codes.{plan_code};
+    ghost use Rattle.datasets.specs.declared.id.Id.{Id as Number};
     ghost use Rattle.shared.specs.Calls.{Viewed};
 
     ghost Value = { Viewed };
+
+    ghost coded = { Prim.hlevel (codes, plan_code {K = Number} (Prim.hlevel codes)) };
 
     ghost view = { λ r. r.pass };
 

@@ -23,10 +23,15 @@ struct Asking<'s, 'a> {
 }
 
 impl<'s, 'a> Model for Asking<'s, 'a> {
+    ghost use Rattle.std.specs.Coded.{codes};
+    ghost use Rattle.algebra.specs.Codes.{plan_code};
+    ghost use Rattle.datasets.specs.declared.id.Id.{Id as Number};
     ghost use Rattle.std.specs.Prelude.{◌≡◌};
     ghost use Rattle.shared.specs.Calls.{Viewed};
 
     ghost Value = { Viewed };
+
+    ghost coded = { Prim.hlevel (codes, plan_code {K = Number} (Prim.hlevel codes)) };
 
     ghost view = { λ a. a.pass };
 

@@ -2,11 +2,12 @@
 ghost use Rattle.std.specs.Prelude.{IsTrue};
 ghost use Rattle.update.specs.Asked.{IsShort};
 
+use algebra::{QuadTemplate, Slot};
 use book::Request;
 use datasets::Id;
 use dict::Dict;
 use iris::Iri;
-use meaning::{Operation, QuadTemplate, Slot};
+use meaning::Operation;
 use sets::Items;
 use std::alloc::{AllocError, Global};
 use terms::Term;

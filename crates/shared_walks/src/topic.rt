@@ -14,9 +14,14 @@ pub struct Topic<'a> {
 }
 
 impl<'a> Model for Topic<'a> {
+    ghost use Rattle.std.specs.Coded.{codes};
+    ghost use Rattle.algebra.specs.Codes.{plan_code};
+    ghost use Rattle.datasets.specs.declared.id.Id.{Id as Number};
     ghost use Rattle.shared.specs.declared.kept.Subject.{Subject};
 
     ghost Value = { Subject };
+
+    ghost coded = { Prim.hlevel (codes, plan_code {K = Number} (Prim.hlevel codes)) };
 
     ghost view = { λ t. record { terms = t.terms.now; base = t.base.now; block = t.block.now } };
 }

@@ -42,9 +42,14 @@ pub struct Worker<'s, 'a, R: Wait> {
 }
 
 impl<'s, 'a, R: Wait> Model for Worker<'s, 'a, R> {
+    ghost use Rattle.std.specs.Coded.{codes};
+    ghost use Rattle.algebra.specs.Codes.{plan_code};
+    ghost use Rattle.datasets.specs.declared.id.Id.{Id as Number};
     ghost use Rattle.shared.specs.Duty.{Duty, IsPassFor};
 
     ghost Value = { Duty };
+
+    ghost coded = { Prim.hlevel (codes, plan_code {K = Number} (Prim.hlevel codes)) };
 
     ghost view = { λ w. record { table = w.shared.now; subject = w.topic.now } };
 

@@ -4,8 +4,8 @@ ghost use Rattle.datasets.specs.Id.{id_order};
 ghost use Rattle.meaning.specs.Solutions.{mapping_onto as the_mapping_onto, solutions_among as the_solutions_among};
 
 use crate::mapping::Mapping;
+use algebra::TriplePattern;
 use datasets::{Id, Quad};
-use meaning::TriplePattern;
 use sets::set_of;
 use std::alloc::{AllocError, Global};
 

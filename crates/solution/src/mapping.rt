@@ -1,10 +1,10 @@
 //! Solution mappings.
-ghost use Rattle.std.specs.Prelude.{◌≡◌, IfOk};
+ghost use Rattle.std.specs.Prelude.{◌≡◌, length, IfOk};
 ghost use Rattle.datasets.specs.Id.{id_order};
-ghost use Rattle.meaning.specs.Mapping.{empty_mapping, term_for, fitted};
+ghost use Rattle.meaning.specs.Mapping.{empty_mapping, term_for, fitted, agree, compatible, shares, merge};
 
+use algebra::Place;
 use datasets::Id;
-use meaning::Place;
 use sets::Exact;
 use smallvec::SmallVec;
 use std::alloc::{AllocError, Global};
@@ -91,6 +91,16 @@ impl Exact for Mapping {
     ghost exact = { mapping_exact };
 }
 
+// Whether two places agree: one is unbound, or both have one term.
+fn agrees(a: Option<Id>, b: Option<Id>) -> bool
+    ensures { result ≡ agree id_order a b }
+{
+    match (a, b) {
+        (Some(x), Some(y)) => x == y,
+        _ => true,
+    }
+}
+
 impl Mapping {
     /// The empty mapping, where a pattern has this many variables.
     pub fn empty(alloc: Global, width: u32) -> Result<Mapping, AllocError>
@@ -107,7 +117,21 @@ impl Mapping {
     pub fn at(&self, variable: u32) -> Option<Id>
         ensures { result ≡ term_for self.now variable }
     {
-        self.places.get(variable as usize).copied().flatten()
+        self.place(variable as usize)
+    }
+
+    // The same, where the variable is an index.
+    pub(crate) fn place(&self, variable: usize) -> Option<Id>
+        ensures { result ≡ term_for self.now variable }
+    {
+        self.places.get(variable).copied().flatten()
+    }
+
+    // How many variables there are.
+    pub(crate) fn width(&self) -> usize
+        ensures { result ≡ length self.now }
+    {
+        self.places.len()
     }
 
     /// The mapping under which a place of a pattern is this term, if there is one: a variable that is unbound comes to be bound to it.
@@ -128,5 +152,37 @@ impl Mapping {
                 }
             },
         }
+    }
+    /// Whether the two agree on each variable that is bound in both (SPARQL 1.1 Query, 18.3).
+    pub fn is_compatible(&self, other: &Mapping) -> bool
+        ensures { result ≡ compatible id_order self.now other.now }
+    {
+        let left = self.places.as_slice();
+        let right = other.places.as_slice();
+        left.iter().zip(right).all(|(x, y)| agrees(*x, *y))
+    }
+
+    /// Whether a variable is bound in both.
+    pub fn shares(&self, other: &Mapping) -> bool
+        ensures { result ≡ shares self.now other.now }
+    {
+        let left = self.places.as_slice();
+        let right = other.places.as_slice();
+        left.iter()
+            .zip(right)
+            .any(|(x, y)| x.is_some() && y.is_some())
+    }
+
+    /// The union of two mappings, where this one's term counts if both have one.
+    pub fn merge(&self, other: &Mapping) -> Result<Mapping, AllocError>
+        ensures { IfOk result (λ mapping. mapping ≡ merge self.now other.now) }
+    {
+        let left = self.places.as_slice();
+        let right = other.places.as_slice();
+        let mut places = SmallVec::new(*self.places.allocator());
+        for (x, y) in left.iter().zip(right) {
+            places.push(x.or(*y))?;
+        }
+        Ok(Mapping { places })
     }
 }

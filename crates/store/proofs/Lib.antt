@@ -1,4 +1,5 @@
 pub mod Loops
+pub mod PlanLaws
 pub mod Holding
 pub mod Numbers
 pub mod Carried

@@ -3,14 +3,14 @@ use Rattle.std.specs.Prelude.{Bool, ◌&&◌, nat_lt, map, slice_index_or}
 use Rattle.std.proofs.Common.{◌≡◌, ℕ, zero, suc, ◌<◌, true, List, [], ◌∷◌, ◌++◌, length, Option, Some, None, refl, sym, ap, ◌∙◌, subst, ◌+◌, take, arith, add-one, append_assoc}
 use Rattle.std.specs.List.{list_all}
 use Rattle.std.specs.Option.{option_map}
-use Rattle.std.proofs.lemmas.Bool.{and_parts, and_from, ltb-true, lt-ltb}
+use Rattle.std.proofs.lemmas.Bool.{and_parts, and_from, ltb-true}
 use Rattle.std.proofs.lemmas.List.{append-nil, map-append}
 use Rattle.std.proofs.Math.Seq.{take-suc}
 use Rattle.terms.specs.declared.term.Term.{Term}
 use Rattle.terms.specs.declared.term.Term.TheVariants as term
-use Rattle.terms.specs.Placed.{term_at, quad_at, is_within, is_name_within, is_quad_within, AreWithin, GoesOn, TermsKeepPlaces}
+use Rattle.terms.specs.Placed.{term_at, quad_at, is_within, is_name_within, is_quad_within, GoesOn, TermsKeepPlaces}
 use Rattle.datasets.specs.declared.id.Id.{Id}
-use Rattle.datasets.specs.declared.id.Id.TheVariants.{Known, Made}
+use Rattle.datasets.specs.declared.id.Id.TheVariants.{Known}
 use Rattle.datasets.specs.declared.quad.Quad.{Quad}
 use Rattle.dict.specs.Dictionary.{term_of, is_known}
 use Rattle.meaning_laws.specs.Renaming.{renamed_quad, quad_known, option_known}

@@ -1,3 +1,4 @@
 pub mod Held
+pub mod Parts
 pub mod Tables
 pub mod Numbered

@@ -8,6 +8,7 @@
 pub mod laws;
 pub mod naming;
 pub mod numbering;
+mod plans;
 pub mod requests;
 
 pub use naming::named;

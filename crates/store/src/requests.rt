@@ -3,12 +3,14 @@ ghost use Rattle.std.specs.Prelude.{◌≡◌, true, map, IfOk};
 ghost use Rattle.std.specs.List.{list_all};
 ghost use Rattle.std.specs.Option.{option_map};
 ghost use Rattle.dict.specs.Dictionary.{term_of, is_known};
-ghost use Rattle.meaning_laws.specs.Renaming.{renamed_slot, renamed_template, renamed_place, renamed_pattern, renamed_plan, renamed_operation, renamed_request, slot_known, graph_known, template_known, place_known, pattern_known, plan_known, operation_known, request_known};
+ghost use Rattle.meaning_laws.specs.Renaming.{renamed_slot, renamed_template, renamed_operation, renamed_request, option_known, slot_known, graph_known, template_known, operation_known, request_known};
 ghost use Rattle.store.specs.Held.{is_held};
 
 use crate::numbering::number_term;
+use crate::plans::number_plan;
+use algebra::{Modify, Pattern, QuadTemplate, Slot};
 use dict::{Dict, Id};
-use meaning::{Modify, Operation, Place, Plan, QuadTemplate, Refusal, Slot, TriplePattern};
+use meaning::{Operation, Refusal};
 use rules::Taken;
 use sets::Items;
 use std::alloc::{AllocError, Global};
@@ -69,37 +71,14 @@ fn number_templates(
     Ok(list)
 }
 
-fn number_place(dict: &Dict, place: &Place<Term>) -> Place<Id>
-    requires { place_known (is_held dict.now) place.now ≡ true }
-    ensures renamed { renamed_place (term_of dict.now) result ≡ place.now }
-    ensures known { place_known (is_known dict.now) result ≡ true }
+fn number_active(dict: &Dict, active: &Option<Term>) -> Option<Id>
+    requires { option_known (is_held dict.now) active.now ≡ true }
+    ensures renamed { option_map (term_of dict.now) result ≡ active.now }
+    ensures known { option_known (is_known dict.now) result ≡ true }
 {
-    match place {
-        Place::Term(term) => Place::Term(number_term(dict, term)),
-        Place::Variable(variable) => Place::Variable(*variable),
-    }
-}
-
-fn number_pattern(dict: &Dict, pattern: &TriplePattern<Term>) -> TriplePattern<Id>
-    requires { pattern_known (is_held dict.now) pattern.now ≡ true }
-    ensures renamed { renamed_pattern (term_of dict.now) result ≡ pattern.now }
-    ensures known { pattern_known (is_known dict.now) result ≡ true }
-{
-    TriplePattern {
-        subject: number_place(dict, &pattern.subject),
-        predicate: number_place(dict, &pattern.predicate),
-        object: number_place(dict, &pattern.object),
-    }
-}
-
-fn number_plan(dict: &Dict, plan: &Plan<Term>) -> Plan<Id>
-    requires { plan_known (is_held dict.now) plan.now ≡ true }
-    ensures renamed { renamed_plan (term_of dict.now) result ≡ plan.now }
-    ensures known { plan_known (is_known dict.now) result ≡ true }
-{
-    match plan {
-        Plan::Empty => Plan::Empty,
-        Plan::Triple(pattern) => Plan::Triple(number_pattern(dict, pattern)),
+    match active {
+        Some(graph) => Some(number_term(dict, graph)),
+        None => None,
     }
 }
 
@@ -115,9 +94,11 @@ fn number_operation(
     let Operation::Modify(modify) = operation;
     let delete = number_templates(alloc, dict, modify.delete.as_slice())?;
     let insert = number_templates(alloc, dict, modify.insert.as_slice())?;
+    let plan = number_plan(alloc, dict, modify.pattern.plan())?;
     Ok(Operation::Modify(Modify {
         width: modify.width,
-        pattern: number_plan(dict, &modify.pattern),
+        active: number_active(dict, &modify.active),
+        pattern: Pattern::new(plan),
         delete: Items::from_vec(delete),
         insert: Items::from_vec(insert),
     }))

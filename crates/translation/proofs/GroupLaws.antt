@@ -5,6 +5,11 @@ use Rattle.syntax_trees.specs.declared.group.Element.{Element, fold-roll-Element
 use Rattle.syntax_trees.specs.declared.group.Element.TheOpen.{Element-F}
 use Rattle.syntax_trees.specs.declared.group.Element.TheVariants as element
 use Rattle.syntax_trees.specs.declared.group.Element.TheVariants.{rolls-Union}
+use Rattle.terms.specs.declared.term.Term.{Term}
+use Rattle.algebra.specs.declared.plan.Link.{Link}
+use Rattle.algebra.specs.declared.plan.Plan.{Plan as Kept}
+use Rattle.algebra.specs.Plans.{Plan, linked, linked_all, plan_of, parts_of as linked_parts}
+use Rattle.algebra.proofs.Folds.{group_is, union_is as united_is, chain_is}
 use Rattle.syntax_trees.specs.Groups.{Part, Union, group, groups, part_of, part_step, parts_of, lists_of}
 
 map_twice : {A B C : Type 0} (f : A → B) (g : B → C) (xs : List A) → map g (map f xs) ≡ map (λ x. g (f x)) xs
@@ -20,4 +25,11 @@ pub map_push : {A B : Type 0} (f : A → B) (xs : List A) (x : A) → map f (xs 
 map_push f [] x = refl
 map_push f (y ∷ xs) x = ap (λ (ys : List _). f y ∷ ys) (map_push f xs x)
 
+-- one pattern more at the end of a group's
+pub linked_push : (before : Plan Term) (parts : List (Link Term × Kept Term)) (part : Link Term × Kept Term) → linked_all before (linked_parts (parts ++ part ∷ [])) ≡ linked (linked_all before (linked_parts parts)) part.0 (plan_of part.1)
+linked_push before [] part = refl
+linked_push before (p ∷ parts) part = linked_push (linked before p.0 (plan_of p.1)) parts part
+
 pub ruleset union_lists = (union_is)
+
+pub ruleset folded = (group_is, united_is, chain_is)

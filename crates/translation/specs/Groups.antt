@@ -8,7 +8,7 @@ use Rattle.algebra.specs.declared.expression.TwoOperator.TheVariants as two_made
 use Rattle.algebra.specs.Expressions as made
 use Rattle.algebra.specs.Expressions.{Expression}
 use Rattle.algebra.specs.Plans as plan
-use Rattle.algebra.specs.Plans.{Plan}
+use Rattle.algebra.specs.Plans.{Plan, nothing, filtered, united}
 use Rattle.syntax_trees.specs.declared.tree.Node.{Node}
 use Rattle.syntax_trees.specs.declared.tree.Node.TheVariants as node
 use Rattle.syntax_trees.specs.declared.tree.Block.{Block}
@@ -56,22 +56,6 @@ function_of_two two.StrStarts = two_made.StrStarts
 function_of_two two.StrEnds = two_made.StrEnds
 function_of_two two.Contains = two_made.Contains
 
--- a group's own filters apply to the whole group
-abbrev pub filtered : List (Expression Term) → Plan Term → Plan Term
-filtered [] p = p
-filtered (e ∷ es) p = plan.Filter (e ∷ es) p
-
-abbrev pub empty_group : Plan Term
-empty_group = plan.Basic []
-
-abbrev pub or_empty : Option (Plan Term) → Plan Term
-or_empty None = empty_group
-or_empty (Some p) = p
-
-abbrev pub united_with : Option (Plan Term) → Plan Term → Plan Term
-united_with None p = p
-united_with (Some q) p = plan.Union q p
-
 module _ (ds : Prefixes) (vs : List (List ℕ)) where
   abbrev pub value_of : Node → Expression Term
   value_of (node.Variable v) = made.Variable (number_of vs v)
@@ -107,10 +91,10 @@ module _ (ds : Prefixes) (vs : List (List ℕ)) where
     -- what stands before, and then this part: OPTIONAL has the filters of its group as condition, and filters come last
     pub with_part : Plan Term → Part → Plan Term
     with_part before (part.Triples xs) = plan.Join before (plan.Basic (patterns_of ds vs xs))
-    with_part before (part.Union gs) = plan.Join before (or_empty (united None gs))
-    with_part before (part.Optional g) = plan.LeftJoin before (with_parts empty_group g) (filters_of g)
-    with_part before (part.Minus g) = plan.Minus before (filtered (filters_of g) (with_parts empty_group g))
-    with_part before (part.InGraph n g) = plan.Join before (plan.InGraph (place_of ds vs n) (filtered (filters_of g) (with_parts empty_group g)))
+    with_part before (part.Union gs) = plan.Join before (united (translated_groups gs))
+    with_part before (part.Optional g) = plan.LeftJoin before (with_parts nothing g) (filters_of g)
+    with_part before (part.Minus g) = plan.Minus before (filtered (filters_of g) (with_parts nothing g))
+    with_part before (part.InGraph n g) = plan.Join before (plan.InGraph (place_of ds vs n) (filtered (filters_of g) (with_parts nothing g)))
     with_part before (part.Filter e) = before
 
     -- what stands before, and then a group's parts in order
@@ -118,14 +102,14 @@ module _ (ds : Prefixes) (vs : List (List ℕ)) where
     with_parts before part.End = before
     with_parts before (part.Next p g) = with_parts (with_part before p) g
 
-    -- a group alone, or the union of groups from left to right
-    pub united : Option (Plan Term) → Groups → Option (Plan Term)
-    united before part.Last = before
-    united before (part.Or g gs) = united (Some (united_with before (filtered (filters_of g) (with_parts empty_group g)))) gs
+    -- the groups of a union
+    pub translated_groups : Groups → List (Plan Term)
+    translated_groups part.Last = []
+    translated_groups (part.Or g gs) = filtered (filters_of g) (with_parts nothing g) ∷ translated_groups gs
 
   -- a group starts from the empty group, and its own filters come last
   abbrev pub translated_group : Parts → Plan Term
-  translated_group g = filtered (filters_of g) (with_parts empty_group g)
+  translated_group g = filtered (filters_of g) (with_parts nothing g)
 
   -- ---- quads as a pattern: their triples, and their GRAPH blocks, joined in order
 
@@ -141,4 +125,4 @@ module _ (ds : Prefixes) (vs : List (List ℕ)) where
   with_blocks before (b ∷ bs) = with_blocks (with_block before b) bs
 
   abbrev pub quads_pattern : List Block → Plan Term
-  quads_pattern bs = with_blocks empty_group bs
+  quads_pattern bs = with_blocks nothing bs

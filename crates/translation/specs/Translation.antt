@@ -10,7 +10,7 @@ use Rattle.algebra.specs.declared.update.Target.{Target as MadeTarget}
 use Rattle.algebra.specs.declared.update.Target.TheVariants as made_target
 use Rattle.algebra.specs.declared.update.Transfer.{Transfer as MadeTransfer}
 use Rattle.algebra.specs.declared.update.Transfer.TheVariants as made_transfer
-use Rattle.algebra.specs.Plans.{Plan}
+use Rattle.algebra.specs.Plans.{Plan, nothing}
 use Rattle.syntax_trees.specs.declared.tree.Name.{Name}
 use Rattle.syntax_trees.specs.declared.tree.Block.{Block}
 use Rattle.syntax_trees.specs.declared.tree.Target.{Target}
@@ -28,7 +28,7 @@ use Rattle.names.specs.Names.{Prefixes, declare, name_term}
 use Rattle.translation.specs.Nodes.{nodes_of_where, nodes_of_operation}
 use Rattle.names.specs.Numbers.{Labels, variables_of, labels_of, with_labels}
 use Rattle.translation.specs.Triples.{template_of}
-use Rattle.translation.specs.Groups.{empty_group, translated_group, quads_pattern}
+use Rattle.translation.specs.Groups.{translated_group, quads_pattern}
 
 abbrev pub target_of : Prefixes → Target → MadeTarget Term
 target_of ds (target.Graph n) = made_target.Graph (name_term ds n)
@@ -63,8 +63,8 @@ module _ (ds : Prefixes) (vs : List (List ℕ)) (ls : Labels) where
   operation_with (operation.Drop silent t) = made.Graphs silent (graphs.Drop (target_of ds t))
   operation_with (operation.Clear silent t) = made.Graphs silent (graphs.Clear (target_of ds t))
   operation_with (operation.Transfer how silent from to) = made.Graphs silent (graphs.Transfer (transfer_of how) (graph_at ds from) (graph_at ds to))
-  operation_with (operation.InsertData qs) = modify_with None [] qs empty_group
-  operation_with (operation.DeleteData qs) = modify_with None qs [] empty_group
+  operation_with (operation.InsertData qs) = modify_with None [] qs nothing
+  operation_with (operation.DeleteData qs) = modify_with None qs [] nothing
   operation_with (operation.DeleteWhere qs) = modify_with None qs [] (quads_pattern ds vs qs)
   operation_with (operation.Modify graph xs ys g) = modify_with graph xs ys (translated_group ds vs (group g))
 

@@ -2,18 +2,18 @@
 ghost use Rattle.std.specs.Prelude.{◌≡◌, ◌++◌, map, IfOk, OnOk};
 ghost use Rattle.std.specs.Option.{option_map};
 ghost use Rattle.algebra.specs.Expressions as made;
-ghost use Rattle.algebra.specs.Expressions.{expression_of};
+ghost use Rattle.algebra.specs.Expressions.{chained, expression_of, steps_of};
 ghost use Rattle.algebra.specs.Plans as plans;
-ghost use Rattle.algebra.specs.Plans.{plan_of};
+ghost use Rattle.algebra.specs.Plans.{linked_all, nothing, parts_of as linked_parts, plan_of};
 ghost use Rattle.translation.specs.Triples.{place_of, patterns_of};
 ghost use Rattle.syntax_trees.specs.Expressions.{tree_of};
-ghost use Rattle.syntax_trees.specs.Groups.{part_of, parts_of, group};
-ghost use Rattle.translation.specs.Chains.{chained, step_of};
-ghost use Rattle.translation.specs.Groups.{operator_of, function_of, function_of_two, value_of, translated_tree, filter_of, filters_of, filtered, empty_group, or_empty, united_with, with_part, with_parts, translated_group, block_in, with_block, with_blocks, quads_pattern};
+ghost use Rattle.syntax_trees.specs.Groups.{part_of, parts_of, lists_of, group, groups};
+ghost use Rattle.translation.specs.Groups.{operator_of, function_of, function_of_two, value_of, translated_tree, filter_of, filters_of, with_part, with_parts, translated_group, translated_groups, block_in, with_block, with_blocks, quads_pattern};
+ghost use Rattle.translation.specs.Chains.{stacked};
 
 use crate::scope::Scope;
 use crate::triples::patterns_of;
-use algebra::{Expression as Made, OneOperator, Plan, TwoOperator};
+use algebra::{Expression as Made, Link, OneOperator, Plan, TwoOperator};
 use sets::Items;
 use std::alloc::{AllocError, Global};
 use syntax_trees::{Block, Element, Expression, Node, One, Operator, SameSubject, Two};
@@ -97,24 +97,24 @@ fn two_of(
     Ok(Made::Two(operator, left, Box::new(alloc, right)?))
 }
 
-/// An expression, and operators over it with their right operands, the outermost first.
-#[tactic(auto, using(crate::proofs::GroupLaws::map_push, crate::proofs::TreeLaws::chained_push))]
+/// An expression under operators with their right operands, the outermost first.
+#[tactic(auto, using(crate::proofs::TreeLaws::reversed_chain, crate::proofs::GroupLaws::folded))]
 fn chained(
     alloc: Global,
     first: Made<Term>,
     mut steps: Vec<(TwoOperator, Made<Term>)>,
 ) -> Result<Made<Term>, AllocError>
-    ensures { IfOk result (λ m. expression_of m ≡ chained (expression_of first) (map step_of steps.items)) }
+    ensures { IfOk result (λ m. expression_of m ≡ stacked (expression_of first) (steps_of steps.items)) }
 {
-    let mut made = first;
-    while let Some((operator, right)) = steps.pop() {
-        made = two_of(alloc, operator, made, right)?;
+    if steps.is_empty() {
+        return Ok(first);
     }
-    Ok(made)
+    steps.reverse();
+    Ok(Made::Chain(Box::new(alloc, first)?, steps))
 }
 
 /// The translation of an expression. Left operands lie as deep as a text is long: it goes down them by a loop.
-#[tactic(auto, using(crate::proofs::GroupLaws::map_push, crate::proofs::TreeLaws::chained_push))]
+#[tactic(auto, using(crate::proofs::GroupLaws::map_push, crate::proofs::TreeLaws::stacked_push))]
 fn translated_tree<'a>(
     alloc: Global,
     scope: &Scope<'_, 'a>,
@@ -191,74 +191,9 @@ fn filters_of<'a>(
 
 // ---- plans of plans
 
-fn join(alloc: Global, left: Plan<Term>, right: Plan<Term>) -> Result<Plan<Term>, AllocError>
-    ensures { IfOk result (λ plan. plan_of plan ≡ plans.Join (plan_of left) (plan_of right)) }
-{
-    let left = Box::new(alloc, left)?;
-    Ok(Plan::Join(left, Box::new(alloc, right)?))
-}
-
-fn left_join(
-    alloc: Global,
-    left: Plan<Term>,
-    right: Plan<Term>,
-    condition: Vec<Made<Term>>,
-) -> Result<Plan<Term>, AllocError>
-    ensures { IfOk result (λ plan. plan_of plan ≡ plans.LeftJoin (plan_of left) (plan_of right) (map expression_of condition.items)) }
-{
-    let left = Box::new(alloc, left)?;
-    Ok(Plan::LeftJoin(left, Box::new(alloc, right)?, condition))
-}
-
-/// A plan alone, or its union with what stands before it.
-fn united_with(
-    alloc: Global,
-    before: Option<Plan<Term>>,
-    plan: Plan<Term>,
-) -> Result<Plan<Term>, AllocError>
-    ensures { IfOk result (λ made. plan_of made ≡ united_with (option_map plan_of before) (plan_of plan)) }
-{
-    let Some(before) = before else {
-        return Ok(plan);
-    };
-    let before = Box::new(alloc, before)?;
-    Ok(Plan::Union(before, Box::new(alloc, plan)?))
-}
-
-/// A plan, or the empty group.
-fn or_empty(alloc: Global, plan: Option<Plan<Term>>) -> Plan<Term>
-    ensures { plan_of result ≡ or_empty (option_map plan_of plan) }
-{
-    match plan {
-        Some(plan) => plan,
-        None => empty_group(alloc),
-    }
-}
-
-fn minus(alloc: Global, left: Plan<Term>, right: Plan<Term>) -> Result<Plan<Term>, AllocError>
-    ensures { IfOk result (λ plan. plan_of plan ≡ plans.Minus (plan_of left) (plan_of right)) }
-{
-    let left = Box::new(alloc, left)?;
-    Ok(Plan::Minus(left, Box::new(alloc, right)?))
-}
-
-/// A plan with filters over all of it, where there are any.
-fn filtered(
-    alloc: Global,
-    filters: Vec<Made<Term>>,
-    plan: Plan<Term>,
-) -> Result<Plan<Term>, AllocError>
-    ensures { IfOk result (λ made. plan_of made ≡ filtered (map expression_of filters.items) (plan_of plan)) }
-{
-    if filters.is_empty() {
-        return Ok(plan);
-    }
-    Ok(Plan::Filter(filters, Box::new(alloc, plan)?))
-}
-
 /// The empty group.
 pub fn empty_group(alloc: Global) -> Plan<Term>
-    ensures { plan_of result ≡ empty_group }
+    ensures { plan_of result ≡ nothing }
 {
     Plan::Basic(Items::new(alloc))
 }
@@ -275,81 +210,82 @@ fn in_graph<'a>(
     Ok(Plan::InGraph(place, Box::new(alloc, plan)?))
 }
 
-/// A plan joined with triple patterns.
-fn join_triples<'a>(
-    alloc: Global,
-    scope: &Scope<'_, 'a>,
-    before: Plan<Term>,
-    triples: &[SameSubject<'a>],
-) -> Result<Plan<Term>, AllocError>
-    ensures { IfOk result (λ plan. plan_of plan ≡ plans.Join (plan_of before) (plans.Basic (patterns_of scope.now.prefixes.now scope.now.variables.now triples.now))) }
-{
-    join(
-        alloc,
-        before,
-        Plan::Basic(patterns_of(alloc, scope, triples)?),
-    )
-}
-
 // ---- groups
 
-/// What stands before, and then the parts of a group in order.
+/// What a group is joined with where an element is so joined.
+type Part = (Link<Term>, Plan<Term>);
+
+/// Goes on with a pattern.
+#[tactic(auto, using(crate::proofs::GroupLaws::linked_push))]
+fn link(parts: &mut Vec<Part>, link: Link<Term>, plan: Plan<Term>) -> Result<(), AllocError>
+    ensures { OnOk result (linked_all nothing (linked_parts parts.new.items) ≡ plans.linked (linked_all nothing (linked_parts parts.old.items)) link (plan_of plan)) }
+{
+    parts.push((link, plan))?;
+    Ok(())
+}
+
+/// The patterns of a group's parts in order.
 #[cycle(groups)]
-fn with_parts<'a>(
+fn parts_of<'a>(
     alloc: Global,
     scope: &Scope<'_, 'a>,
     elements: &[Element<'a>],
-    before: Plan<Term>,
-) -> Result<Plan<Term>, AllocError>
-    ensures { IfOk result (λ plan. plan_of plan ≡ with_parts scope.now.prefixes.now scope.now.variables.now (plan_of before) (group (parts_of elements.now))) }
+) -> Result<Vec<Part>, AllocError>
+    ensures { IfOk result (λ parts. linked_all nothing (linked_parts parts.items) ≡ with_parts scope.now.prefixes.now scope.now.variables.now nothing (group (parts_of elements.now))) }
 {
-    let mut plan = before;
+    let mut parts = Vec::new(alloc);
     for element in elements {
-        plan = with_part(alloc, scope, element, plan)?;
+        add_part(alloc, scope, element, &mut parts)?;
     }
-    Ok(plan)
+    Ok(parts)
 }
 
-/// What stands before, and then a part.
+/// Goes on with an element of a group.
 #[cycle(groups)]
-#[tactic(auto, using(crate::proofs::GroupLaws::union_lists))]
-fn with_part<'a>(
+#[tactic(auto, using(crate::proofs::GroupLaws::union_lists, crate::proofs::GroupLaws::folded, crate::proofs::GroupLaws::map_push))]
+fn add_part<'a>(
     alloc: Global,
     scope: &Scope<'_, 'a>,
     element: &Element<'a>,
-    before: Plan<Term>,
-) -> Result<Plan<Term>, AllocError>
-    ensures { IfOk result (λ plan. plan_of plan ≡ with_part scope.now.prefixes.now scope.now.variables.now (plan_of before) (part_of element.now)) }
+    parts: &mut Vec<Part>,
+) -> Result<(), AllocError>
+    ensures { OnOk result (linked_all nothing (linked_parts parts.new.items) ≡ with_part scope.now.prefixes.now scope.now.variables.now (linked_all nothing (linked_parts parts.old.items)) (part_of element.now)) }
 {
     match element {
-        Element::Triples(triples) => join_triples(alloc, scope, before, triples.as_slice()),
+        Element::Triples(triples) => {
+            let patterns = patterns_of(alloc, scope, triples.as_slice())?;
+            link(parts, Link::Join, Plan::Basic(patterns))
+        }
         Element::Union(members) => {
-            let mut union = None;
+            let mut plans = Vec::new(alloc);
             for elements in members {
-                let right = translated_group(alloc, scope, elements.as_slice())?;
-                union = Some(united_with(alloc, union, right)?);
+                plans.push(translated_group(alloc, scope, elements.as_slice())?)?;
             }
-            join(alloc, before, or_empty(alloc, union))
+            link(parts, Link::Join, Plan::Union(plans))
         }
         Element::Optional(elements) => {
-            let right = with_parts(alloc, scope, elements.as_slice(), empty_group(alloc))?;
+            let right = Plan::Group(
+                parts_of(alloc, scope, elements.as_slice())?,
+                Vec::new(alloc),
+            );
             let condition = filters_of(alloc, scope, elements.as_slice())?;
-            left_join(alloc, before, right, condition)
+            link(parts, Link::LeftJoin(condition), right)
         }
         Element::Minus(elements) => {
             let right = translated_group(alloc, scope, elements.as_slice())?;
-            minus(alloc, before, right)
+            link(parts, Link::Minus, right)
         }
         Element::Graph(graph, elements) => {
             let right = translated_group(alloc, scope, elements.as_slice())?;
-            join(alloc, before, in_graph(alloc, scope, graph, right)?)
+            link(parts, Link::Join, in_graph(alloc, scope, graph, right)?)
         }
-        Element::Filter(_) => Ok(before),
+        Element::Filter(_) => Ok(()),
     }
 }
 
 /// A group: its parts from the empty group on, and then its own filters over all of it.
 #[cycle(groups)]
+#[tactic(auto, using(crate::proofs::GroupLaws::folded))]
 pub fn translated_group<'a>(
     alloc: Global,
     scope: &Scope<'_, 'a>,
@@ -357,9 +293,9 @@ pub fn translated_group<'a>(
 ) -> Result<Plan<Term>, AllocError>
     ensures { IfOk result (λ plan. plan_of plan ≡ translated_group scope.now.prefixes.now scope.now.variables.now (group (parts_of elements.now))) }
 {
-    let plan = with_parts(alloc, scope, elements, empty_group(alloc))?;
+    let parts = parts_of(alloc, scope, elements)?;
     let filters = filters_of(alloc, scope, elements)?;
-    filtered(alloc, filters, plan)
+    Ok(Plan::Group(parts, filters))
 }
 
 // ---- quads as a pattern
@@ -380,6 +316,7 @@ fn block_pattern<'a>(
 }
 
 /// The pattern of quads: their blocks, joined in order.
+#[tactic(auto, using(crate::proofs::GroupLaws::folded))]
 pub fn quads_pattern<'a>(
     alloc: Global,
     scope: &Scope<'_, 'a>,
@@ -387,10 +324,10 @@ pub fn quads_pattern<'a>(
 ) -> Result<Plan<Term>, AllocError>
     ensures { IfOk result (λ plan. plan_of plan ≡ quads_pattern scope.now.prefixes.now scope.now.variables.now blocks.now) }
 {
-    let mut plan = empty_group(alloc);
+    let mut parts = Vec::new(alloc);
     for block in blocks {
         let right = block_pattern(alloc, scope, block)?;
-        plan = join(alloc, plan, right)?;
+        link(&mut parts, Link::Join, right)?;
     }
-    Ok(plan)
+    Ok(Plan::Group(parts, Vec::new(alloc)))
 }

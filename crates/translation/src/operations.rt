@@ -1,11 +1,11 @@
 //! Requests as updates over terms.
 ghost use Rattle.std.specs.Prelude.{◌≡◌, IfOk, map};
 ghost use Rattle.std.specs.Option.{option_map};
-ghost use Rattle.algebra.specs.Plans.{plan_of};
+ghost use Rattle.algebra.specs.Plans.{nothing, plan_of};
 ghost use Rattle.std.specs.Prelude.{[], None};
 ghost use Rattle.algebra.specs.declared.update.Operation.TheVariants as made;
 ghost use Rattle.algebra.specs.declared.update.GraphOperation.TheVariants as graphs;
-ghost use Rattle.translation.specs.Groups.{empty_group, quads_pattern};
+ghost use Rattle.translation.specs.Groups.{quads_pattern};
 ghost use Rattle.names.specs.Names.{name_term};
 ghost use Rattle.names.specs.Numbers.{variables_of, labels_of, with_labels};
 ghost use Rattle.translation.specs.Nodes.{nodes_of_where, nodes_of_operation};
@@ -166,7 +166,7 @@ fn data_with<'a>(
     delete: &[Block<'a>],
     insert: &[Block<'a>],
 ) -> Result<Operation<Term>, AllocError>
-    ensures { IfOk result (λ operation. operation ≡ modify_with scope.now.prefixes.now scope.now.variables.now scope.now.labels.now None delete.now insert.now empty_group) }
+    ensures { IfOk result (λ operation. operation ≡ modify_with scope.now.prefixes.now scope.now.variables.now scope.now.labels.now None delete.now insert.now nothing) }
 {
     modify_with(alloc, scope, &None, delete, insert, empty_group(alloc))
 }

@@ -2,7 +2,7 @@
 ghost use Rattle.std.specs.Prelude.{◌≡◌, IfOk};
 ghost use Rattle.translation.specs.Triples.{place_of, slot_of, graph_of};
 
-use meaning::{Place, Slot};
+use algebra::{Place, Slot};
 use names::{Labels, Prefixes, Variables};
 use std::alloc::{AllocError, Global};
 use syntax_trees::{Name, Node};

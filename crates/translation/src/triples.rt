@@ -3,7 +3,7 @@ ghost use Rattle.std.specs.Prelude.{◌≡◌, ◌++◌, IfOk, OnOk};
 ghost use Rattle.translation.specs.Triples.{of_property, of_subject, of_triples, graph_of, pattern_of, patterns_of, quad_of, quads_of_block, template_of};
 
 use crate::scope::Scope;
-use meaning::{QuadTemplate, TriplePattern};
+use algebra::{QuadTemplate, TriplePattern};
 use sets::Items;
 use std::alloc::{AllocError, Global};
 use syntax_trees::{Block, Name, Node, Property, SameSubject};

@@ -11,7 +11,7 @@ use Rattle.meaning.specs.Run.{Failure, then_next, performed}
 use Rattle.meaning.specs.declared.reply.Cause.{Cause}
 use Rattle.meaning.specs.declared.reply.Cause.TheVariants.{TooManySolutions}
 use Rattle.meaning.specs.declared.update.Operation.{Operation}
-use Rattle.meaning.specs.declared.update.QuadTemplate.{QuadTemplate}
+use Rattle.algebra.specs.declared.template.QuadTemplate.{QuadTemplate}
 
 not_above : (n m : ℕ) (b : Bool) → nat_lt m n ≡ b → n ≤ m → b ≡ false
 not_above n m true e h = absurd (let lt : m < n = ltb-true m n e in omega arith)

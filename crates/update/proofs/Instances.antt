@@ -5,7 +5,7 @@ use Rattle.datasets.specs.declared.quad.Quad.{Quad}
 use Rattle.meaning.specs.Vocabulary.{Vocabulary}
 use Rattle.meaning.specs.Mapping.{Mapping}
 use Rattle.meaning.specs.Template.{instance_of, instances_from}
-use Rattle.meaning.specs.declared.update.QuadTemplate.{QuadTemplate}
+use Rattle.algebra.specs.declared.template.QuadTemplate.{QuadTemplate}
 
 module _ {K : Type 0} (V : Vocabulary K) (request op : ℕ) where
   pub instances_more : (ts : List (QuadTemplate K)) (ms : List (Mapping K)) (i rank : ℕ) (m : Mapping K) (now next all : List (Quad K)) → i < length ms → m ≡ get_or ms i m

@@ -1,6 +1,7 @@
 -- The instances of an operation's templates are near it.
 use Rattle.std.specs.Prelude.{◌&&◌, if◌then◌else◌, is_none, filter_map}
 use Rattle.std.specs.List.{AllByRecursion, list_any}
+use Rattle.std.specs.Option.{option_map}
 use Rattle.std.specs.Ordering.{is_eq}
 use Rattle.std.specs.Cmp.{tied_itself}
 use Rattle.std.proofs.Common.{◌≡◌, ℕ, zero, suc, ◌+◌, ◌<◌, Bool, true, false, List, [], ◌∷◌, length, get_or, Option, Some, None, refl, sym, ap, ◌∙◌, arith}
@@ -8,22 +9,21 @@ use Rattle.std.proofs.lemmas.Bool.{or_left, or_right}
 use Rattle.datasets.specs.declared.id.Id.{Id}
 use Rattle.datasets.specs.declared.quad.Quad.{Quad}
 use Rattle.datasets.specs.declared.read.GraphPlace.TheVariants.{Only}
-use Rattle.datasets.specs.declared.read.Read.TheVariants.{Scan, GraphIs, Graphs}
+use Rattle.datasets.specs.declared.read.Read.TheVariants.{GraphIs}
 use Rattle.datasets.specs.Dataset.{quad_order}
 use Rattle.datasets.specs.Id.{id_order, id_total}
 use Rattle.dict.specs.Dictionary.{numbers}
 use Rattle.terms.specs.declared.term.Term.{Term}
 use Rattle.meaning.specs.Mapping.{Mapping}
-use Rattle.meaning.specs.Near.{is_written, is_graph_written, is_near_quad, is_near, is_near_request}
+use Rattle.meaning.specs.Near.{is_written, is_graph_written, is_near_quad, is_for_plan, is_near, is_near_request}
 use Rattle.meaning.specs.Template.{term_at, graph_at, is_legal, legal_quad, instance_of, instances_from, instances}
-use Rattle.meaning.specs.declared.update.Modify.{Modify}
+use Rattle.algebra.specs.declared.update.Modify.{Modify}
 use Rattle.meaning.specs.declared.update.Operation.{Operation}
 use Rattle.meaning.specs.declared.update.Operation.TheVariants as operation
-use Rattle.meaning.specs.declared.update.QuadTemplate.{QuadTemplate}
-use Rattle.meaning.specs.declared.update.Slot.{Slot}
-use Rattle.meaning.specs.declared.update.Slot.TheVariants as slot
+use Rattle.algebra.specs.declared.template.QuadTemplate.{QuadTemplate}
+use Rattle.algebra.specs.declared.template.Slot.{Slot}
+use Rattle.algebra.specs.declared.template.Slot.TheVariants as slot
 use Rattle.eval.specs.Changes.{replaced_change}
-use Rattle.eval.specs.Scans.{is_for_plan}
 use Rattle.reads.specs.Reads.{Read, Delta, no_change}
 use Rattle.sets.specs.Sets.{set_of}
 use Rattle.update.specs.Asked.{scan_for, AskedQuads, IsWithin}
@@ -118,10 +118,13 @@ module _ (terms : List Term) (request op : ℕ) (m : Modify Id) (allowed : Read 
       }
 
 -- what is for the pattern is near the operation
-pub plan_near : (m : Modify Id) (r : Read) → is_for_plan m.pattern r ≡ true → is_near id_order (operation.Modify m) r ≡ true
-plan_near m (Scan p) e = or_right _ _ (or_right _ _ e)
-plan_near m (GraphIs g) e = refl
-plan_near m Graphs e = absurd (cc)
+pub plan_near : (m : Modify Id) (r : Read) → is_for_plan id_order (option_map slot.Term m.active) m.pattern r ≡ true → is_near id_order (operation.Modify m) r ≡ true
+plan_near m r e = or_right _ _ (or_right _ _ e)
+
+-- the graph that a pattern begins in is written
+pub active_written : (active : Option Id) → is_graph_written id_order (option_map slot.Term active) (Only active) ≡ true
+active_written None = refl
+active_written (Some g) = ap is_eq (tied_itself id_total g)
 
 any_at : {A : Type 0} (p : A → Bool) (xs : List A) (i : ℕ) (d : A) → i < length xs → p (get_or xs i d) ≡ true → list_any p xs ≡ true
 any_at p [] i d h e = absurd (omega (arith, h))

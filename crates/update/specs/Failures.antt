@@ -2,7 +2,7 @@
 use Rattle.std.specs.Prelude.{Result, Ok, Err}
 use Rattle.meaning.specs.Run.{Failure}
 use Rattle.datasets.specs.declared.id.Id.{Id}
-use Rattle.meaning.specs.declared.update.Modify.{Modify}
+use Rattle.algebra.specs.declared.update.Modify.{Modify}
 use Rattle.meaning.specs.declared.update.Operation.{Operation}
 use Rattle.meaning.specs.declared.update.Operation.TheVariants as operation
 use Rattle.reads.specs.Reads.{View, Delta, applied}

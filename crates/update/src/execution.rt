@@ -31,9 +31,14 @@ pub struct Execution<'a> {
 }
 
 impl<'a> Model for Execution<'a> {
+    ghost use Rattle.std.specs.Coded.{codes};
+    ghost use Rattle.algebra.specs.Codes.{plan_code};
+    ghost use Rattle.datasets.specs.declared.id.Id.{Id as Number};
     ghost use Rattle.update.specs.Executed.{Executed, IsExecuted};
 
     ghost Value = { Executed };
+
+    ghost coded = { Prim.hlevel (codes, plan_code {K = Number} (Prim.hlevel codes)) };
 
     ghost view = { λ e. record { terms = e.dict.now; place = e.place; request = e.request.now; finished = e.finished } };
 

@@ -1,5 +1,5 @@
 //! DELETE and INSERT over the solutions of WHERE (SPARQL 1.1 Update, 3.1.3).
-ghost use Rattle.std.specs.Prelude.{◌≡◌, Bool, true, None, IfOk};
+ghost use Rattle.std.specs.Prelude.{◌≡◌, Bool, true, IfOk};
 ghost use Rattle.datasets.specs.Id.{id_order};
 ghost use Rattle.dict.specs.Dictionary.{numbers};
 ghost use Rattle.meaning.specs.Effect.{effect_of};
@@ -13,11 +13,13 @@ ghost use Rattle.update.specs.Asked.{IsWithin};
 ghost use Rattle.update.specs.Changed.{changed};
 
 use crate::template::instances;
+use algebra::Modify;
 use dict::{Dict, Id};
-use eval::{replaced, solve};
-use meaning::{Cause, Modify};
+use eval::{Query, replaced, solve};
+use expr::Filtering;
+use meaning::Cause;
 use reads::{Delta, Note, Source, Stop};
-use solution::Mapping;
+use solution::Solutions;
 use std::alloc::Global;
 
 /// More solutions than this are too many.
@@ -26,16 +28,23 @@ const MOST_SOLUTIONS: usize = 1_000_000;
 // The solutions of WHERE, where the operations before it led.
 fn solutions_of<S: Source>(
     alloc: Global,
+    dict: &Dict,
     modify: &Modify<Id>,
     changes: &Delta,
     source: &mut S,
     notes: &mut Vec<Note>,
-) -> Result<Vec<Mapping>, Stop>
+) -> Result<Solutions, Stop>
     ensures about { S.subject source.new ≡ S.subject source.old }
     ensures goes { Goes (is_near id_order (operation.Modify modify.now)) (S.may source.old) (S.may source.new) notes.old.items notes.new.items }
-    ensures solved { IfOk result (λ found. (d : View) → Agrees notes.new.items d → found.items ≡ solutions id_order modify.now.width modify.now.pattern (applied changes.now d) None) }
+    ensures solved { IfOk result (λ found. (d : View) → Agrees notes.new.items d → found ≡ solutions id_order (numbers dict.now).passes modify.now.width modify.now.pattern (applied changes.now d) modify.now.active) }
 {
-    solve(alloc, modify.width, &modify.pattern, changes, source, notes)
+    let query = Query {
+        alloc,
+        width: modify.width,
+        filters: &Filtering::new(dict),
+        changes,
+    };
+    solve(&query, modify.pattern.plan(), modify.active, source, notes)
 }
 
 /// The change that goes on with an operation, or why the operation fails, from a change to which the operations before it led. WHERE is
@@ -55,12 +64,26 @@ pub fn modify<S: Source>(
     ensures effect { IfOk result (λ outcome. (d : View) → Agrees notes.new.items d → changed d outcome ≡ effect_of (numbers dict.now) request op (operation.Modify modify.now) (applied changes.now d)) }
     ensures within { (allowed : Reading → Bool) → ((r : Reading) → is_near id_order (operation.Modify modify.now) r ≡ true → allowed r ≡ true) → IsWithin allowed changes.now → IfOk result (λ outcome. IfOk outcome (λ change. IsWithin allowed change)) }
 {
-    let found = solutions_of(alloc, modify, changes, source, notes)?;
+    let found = solutions_of(alloc, dict, modify, changes, source, notes)?;
     if found.len() > MOST_SOLUTIONS {
         return Ok(Err(Cause::TooManySolutions));
     }
-    let deleted = instances(alloc, dict, request, op, modify.delete.as_slice(), &found)?;
-    let inserted = instances(alloc, dict, request, op, modify.insert.as_slice(), &found)?;
+    let deleted = instances(
+        alloc,
+        dict,
+        request,
+        op,
+        modify.delete.as_slice(),
+        found.as_slice(),
+    )?;
+    let inserted = instances(
+        alloc,
+        dict,
+        request,
+        op,
+        modify.insert.as_slice(),
+        found.as_slice(),
+    )?;
     let change = replaced(alloc, changes, deleted, inserted)?;
     Ok(Ok(change))
 }

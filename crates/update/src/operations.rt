@@ -13,8 +13,9 @@ ghost use Rattle.update.specs.Changed.{changed};
 ghost use Rattle.update.specs.Failures.{performed_so, modification_of as the_modification_of};
 
 use crate::modify::modify;
+use algebra::Modify;
 use dict::{Dict, Id};
-use meaning::{Cause, Modify, Operation};
+use meaning::{Cause, Operation};
 use reads::{Delta, Note, Source, Stop};
 use std::alloc::Global;
 

@@ -4,9 +4,9 @@ ghost use Rattle.datasets.specs.declared.id.Id.TheVariants as id;
 ghost use Rattle.dict.specs.Dictionary.{numbers};
 ghost use Rattle.meaning.specs.Template.{term_at as the_term_at, graph_at as the_graph_at, is_legal as the_is_legal, legal_quad as the_legal_quad, instance_of as the_instance_of, instances as the_instances};
 
+use algebra::{QuadTemplate, Slot};
 use datasets::Quad;
 use dict::{Dict, Id};
-use meaning::{QuadTemplate, Slot};
 use solution::Mapping;
 use std::alloc::{AllocError, Global};
 

@@ -4,10 +4,11 @@ ghost use Rattle.std.specs.Prelude.{IsTrue};
 ghost use Rattle.update.specs.Asked.{IsShort};
 
 use crate::{Request, execute};
+use algebra::{Modify, Pattern, Place, Plan, QuadTemplate, Slot, TriplePattern};
 use datasets::{Answer, Id, Quad, Read};
 use dict::Dict;
 use iris::Iri;
-use meaning::{Modify, Operation, Place, Plan, QuadTemplate, Refusal, Reply, Slot, TriplePattern};
+use meaning::{Operation, Refusal, Reply};
 use reads::{Answered, Finished, Source, Stop, View};
 use sets::Items;
 use std::alloc::{AllocError, Global};
@@ -115,20 +116,13 @@ fn one(
     is_insertion: bool,
     quad: QuadTemplate<Id>,
 ) -> Result<Operation<Id>, AllocError> {
-    let mut some = Items::new(alloc);
-    some.push(quad)?;
-    let none = Items::new(alloc);
-    let (delete, insert) = if is_insertion {
-        (none, some)
+    let mut quads = Items::new(alloc);
+    quads.push(quad)?;
+    if is_insertion {
+        Ok(Operation::insert_data(alloc, quads))
     } else {
-        (some, none)
-    };
-    Ok(Operation::Modify(Modify {
-        width: 0,
-        pattern: Plan::Empty,
-        delete,
-        insert,
-    }))
+        Ok(Operation::delete_data(alloc, quads))
+    }
 }
 
 fn request(
@@ -172,13 +166,16 @@ fn renaming(alloc: Global) -> Result<Operation<Id>, AllocError> {
     let mut insert = Items::new(alloc);
     insert.push(template(Slot::Variable(1), 4, Slot::Variable(0)))?;
     insert.push(template(Slot::Variable(1), 4, Slot::Label(0)))?;
+    let mut patterns = Items::new(alloc);
+    patterns.push(TriplePattern {
+        subject: Place::Variable(1),
+        predicate: Place::Term(Id::Known(3)),
+        object: Place::Variable(0),
+    })?;
     Ok(Operation::Modify(Modify {
         width: 2,
-        pattern: Plan::Triple(TriplePattern {
-            subject: Place::Variable(1),
-            predicate: Place::Term(Id::Known(3)),
-            object: Place::Variable(0),
-        }),
+        active: None,
+        pattern: Pattern::new(Plan::Basic(patterns)),
         delete,
         insert,
     }))

@@ -1,12 +1,13 @@
 //! An insertion, and a request with a pattern that reads what is inserted: `INSERT DATA { ex:a ex:p ex:b }` and
 //! `INSERT { ?x ex:q ex:c } WHERE { ?x ex:p ?y }`.
 use crate::run::{Turn, begin, check, commit, run, take};
+use algebra::{Modify, Pattern, Place, Plan, QuadTemplate, Slot, TriplePattern};
 use block_machine::Reply;
 use book::{Book, Request};
 use datasets::{Id, Quad};
 use dict::Dict;
 use iris::Iri;
-use meaning::{Modify, Operation, Place, Plan, QuadTemplate, Slot, TriplePattern};
+use meaning::Operation;
 use reads::View;
 use sets::Items;
 use std::alloc::{AllocError, Global};
@@ -64,14 +65,16 @@ fn by_pattern(alloc: Global) -> Result<Request, AllocError> {
         object: Slot::Term(C),
         graph: None,
     })?;
-    let pattern = TriplePattern {
+    let mut patterns = Items::new(alloc);
+    patterns.push(TriplePattern {
         subject: Place::Variable(0),
         predicate: Place::Term(P),
         object: Place::Variable(1),
-    };
+    })?;
     let modify = Modify {
         width: 2,
-        pattern: Plan::Triple(pattern),
+        active: None,
+        pattern: Pattern::new(Plan::Basic(patterns)),
         delete: Items::new(alloc),
         insert,
     };

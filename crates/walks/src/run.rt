@@ -28,9 +28,14 @@ struct Asking<'a> {
 }
 
 impl<'a> Model for Asking<'a> {
+    ghost use Rattle.std.specs.Coded.{codes};
+    ghost use Rattle.algebra.specs.Codes.{plan_code};
+    ghost use Rattle.datasets.specs.declared.id.Id.{Id as Number};
     ghost use Rattle.book.specs.Run.{Run};
 
     ghost Value = { Run };
+
+    ghost coded = { Prim.hlevel (codes, plan_code {K = Number} (Prim.hlevel codes)) };
 
     ghost view = { λ a. a.book };
 }

@@ -1,11 +1,12 @@
 //! Two insertions, the second request of what the first one inserts and of one quad more.
 use crate::run::{Turn, begin, check, commit, run, take};
+use algebra::{QuadTemplate, Slot};
 use block_machine::Reply;
 use book::{Book, Request};
 use datasets::Id;
 use dict::Dict;
 use iris::Iri;
-use meaning::{Operation, QuadTemplate, Slot};
+use meaning::Operation;
 use reads::View;
 use sets::Items;
 use std::alloc::{AllocError, Global};

@@ -1,4 +1,4 @@
-use Rattle.std.proofs.Common.{List, ap, sym, ◌∙◌, map}
+use Rattle.std.proofs.Common.{List, ap, ◌∙◌, map}
 use Rattle.std.specs.List.{list_all}
 use Rattle.datasets.specs.Dataset.{Dataset}
 use Rattle.datasets.specs.declared.id.Id.{Id}

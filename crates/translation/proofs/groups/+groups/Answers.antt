@@ -1,9 +1,30 @@
-use Rattle.std.proofs.Common.{ap, sym}
-use Rattle.algebra.specs.Plans.{plan_of}
-use Rattle.translation.specs.Groups.{with_part}
+use Rattle.std.proofs.Common.{◌++◌, map, sym, ap, ◌∙◌}
+use Rattle.std.proofs.lemmas.List.{append-nil, at_drop_all}
+use Rattle.std.proofs.lemmas.Result.{on_ok_weaker}
+use Rattle.algebra.specs.Plans.{nothing, linked_all, plan_of}
+use Rattle.algebra.specs.Plans.{parts_of as linked_parts}
+use Rattle.algebra.specs.Plans as plans
+use Rattle.algebra.proofs.Folds.{union_is as united_is}
+use Rattle.syntax_trees.specs.Groups.{part_of, lists_of, group, groups}
+use Rattle.translation.specs.Groups.{with_part, translated_groups}
 use Rattle.translation.proofs.GroupLaws.{union_is}
 use Rattle.translation.proofs.groups.+groups.Goals as goal
 
-pub with_part-loop-elements-init : goal.with_part-loop-elements-init
-with_part-loop-elements-init t c =
-    rw (c.in-Union.is, c.deref-elements-items.ensures.value) (ap (λ p. with_part c.args.scope.now.prefixes.now c.args.scope.now.variables.now (plan_of c.args.before) p) (sym (union_is c.in-Union.members)))
+pub add_part-returns-after-loop-elements : goal.add_part-returns-after-loop-elements
+add_part-returns-after-loop-elements t c =
+    let prefixes = c.args.scope.now.prefixes.now in
+    let variables = c.args.scope.now.variables.now in
+    let before = linked_all nothing (linked_parts c.args.parts.now.items) in
+    let members = c.deref-elements-items.result.now in
+    let made = map plan_of c.loop-elements.plans.items in
+    let all =
+    sym (append-nil made)
+    ∙ ap (λ rest. made ++ rest) (sym (at_drop_all (λ gs. translated_groups prefixes variables (groups (map group (lists_of gs)))) members c.loop-elements.elements-index c.loop-elements-test.false))
+    ∙ c.loop-elements.invariant
+    ∙ ap (λ gs. translated_groups prefixes variables (groups (map group (lists_of gs)))) c.deref-elements-items.ensures.value in
+    on_ok_weaker c.link-in-Union.result
+    (λ linked.
+    linked
+    ∙ ap (λ p. plans.Join before p) (united_is c.loop-elements.plans ∙ ap plans.united all)
+    ∙ ap (with_part prefixes variables before) (sym (ap part_of c.in-Union.is ∙ union_is c.in-Union.members)))
+    c.link-in-Union.ensures

@@ -1,6 +1,7 @@
-use Rattle.std.proofs.Common.{◌≡◌, ◌≤◌, map}
+use Rattle.std.proofs.Common.{◌≡◌, ◌≤◌}
 use Rattle.syntax_trees.specs.Expressions.{tree_of}
-use Rattle.translation.specs.Chains.{chained, step_of}
+use Rattle.algebra.specs.Expressions.{steps_of}
+use Rattle.translation.specs.Chains.{stacked}
 use Rattle.translation.specs.Groups.{translated_tree}
 use Rattle.translation.proofs.TreeLaws.{weight}
 use Rattle.translation.proofs.groups.+translated_tree.Given as goal
@@ -10,7 +11,7 @@ decreases-translated_tree l = weight (tree_of l.expression.now)
 
 abbrev pub invariant-loop-rest : goal.invariant-loop-rest
 invariant-loop-rest l = record {
-  told : chained (translated_tree l.scope.prefixes.now l.scope.variables.now (tree_of l.rest)) (map step_of l.steps.items) ≡ translated_tree l.scope.prefixes.now l.scope.variables.now (tree_of l.fn.expression);
+  told : stacked (translated_tree l.scope.prefixes.now l.scope.variables.now (tree_of l.rest)) (steps_of l.steps.items) ≡ translated_tree l.scope.prefixes.now l.scope.variables.now (tree_of l.fn.expression);
   no_deeper : weight (tree_of l.rest) ≤ weight (tree_of l.fn.expression);
 }
 

@@ -1,5 +1,4 @@
-use Rattle.std.proofs.Common.{arith, sym, ◌∙◌, ◌≤◌, length, subst, None}
-use Rattle.datasets.specs.Id.{id_order}
+use Rattle.std.proofs.Common.{arith, sym, ◌∙◌, ◌≤◌, length, subst}
 use Rattle.dict.specs.Dictionary.{numbers}
 use Rattle.meaning.specs.Effect.{replaced}
 use Rattle.meaning.specs.Template.{instances}
@@ -18,20 +17,20 @@ returns-clause-effect g c d a =
     let r = c.args.request in
     let o = c.args.op in
     let D = applied c.args.changes.now d in
-    let found = c.in_ok-found.found.items in
+    let found = c.in_ok-found.found in
     let solved = c.in_ok-found.ensures.solved d a in
-    let deleted = c.in_ok-deleted.ensures ∙ (λ i. instances V r o (c.as_slice.ensures i) (c.deref.ensures.value i)) in
-    let inserted = c.in_ok-inserted.ensures ∙ (λ i. instances V r o (c.as_slice-2.ensures i) (c.deref-2.ensures.value i)) in
+    let deleted = c.in_ok-deleted.ensures ∙ (λ i. instances V r o (c.as_slice.ensures i) (c.as_slice-2.ensures i)) in
+    let inserted = c.in_ok-inserted.ensures ∙ (λ i. instances V r o (c.as_slice-3.ensures i) (c.as_slice-4.ensures i)) in
     let few : length found ≤ 1000000 = omega (arith, c.if-len-gt-MOST_SOLUTIONS.false, c.len.ensures) in
-    modified_is V r o m.delete m.insert found (solutions id_order m.width m.pattern D None) D (applied c.in_ok-change.change d) solved few
+    modified_is V r o m.delete m.insert found (solutions V.order V.passes m.width m.pattern D m.active) D (applied c.in_ok-change.change d) solved few
     (c.in_ok-change.ensures.effect d ∙ (λ k. replaced V D (deleted k) (inserted k)))
 
 pub returns-clause-within : goal.returns-clause-within
 returns-clause-within g c allowed near h =
     let V = numbers c.args.dict.now in
     let m = c.args.modify.now in
-    let found = c.in_ok-found.found.items in
-    let deleted = c.in_ok-deleted.ensures ∙ (λ i. instances V c.args.request c.args.op (c.as_slice.ensures i) (c.deref.ensures.value i)) in
-    let inserted = c.in_ok-inserted.ensures ∙ (λ i. instances V c.args.request c.args.op (c.as_slice-2.ensures i) (c.deref-2.ensures.value i)) in
+    let found = c.in_ok-found.found in
+    let deleted = c.in_ok-deleted.ensures ∙ (λ i. instances V c.args.request c.args.op (c.as_slice.ensures i) (c.as_slice-2.ensures i)) in
+    let inserted = c.in_ok-inserted.ensures ∙ (λ i. instances V c.args.request c.args.op (c.as_slice-3.ensures i) (c.as_slice-4.ensures i)) in
     let is = c.in_ok-change.ensures.change ∙ (λ k. replaced_change c.args.changes.now (deleted k) (inserted k)) in
     subst (IsWithin allowed) (sym is) (replaced_within c.args.dict.now c.args.request c.args.op m allowed near c.args.changes.now found h)

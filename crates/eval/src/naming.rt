@@ -1,0 +1,71 @@
+//! Graph names through changes.
+ghost use Rattle.std.specs.Prelude.{◌≡◌, Bool, true, List, Some, IfOk};
+ghost use Rattle.sets.specs.Sets.{has};
+ghost use Rattle.datasets.specs.Id.{id_order};
+ghost use Rattle.datasets.specs.declared.id.Id.{Id as Name};
+ghost use Rattle.datasets.specs.declared.read.Read.TheVariants as reading;
+ghost use Rattle.reads.specs.Reads.{View, Read as Reading, applied, told_is, told_names};
+ghost use Rattle.reads.specs.Runs.{Agrees};
+ghost use Rattle.asking.specs.Goes.{Goes};
+
+use crate::changes::{is_named_after, names_after};
+use crate::scanning::note;
+use datasets::{Id, Read};
+use reads::{Answered, Delta, Note, Source, Stop};
+use std::alloc::Global;
+
+// Whether an answer tells that a name is there. An answer of another kind counts as no.
+fn tells_name(answer: &Answered) -> bool
+    ensures { (so : Bool) → told_is answer.now ≡ Some so → result ≡ so }
+{
+    match answer.is() {
+        Some(so) => so,
+        None => false,
+    }
+}
+
+// The names of an answer. An answer of another kind counts as none.
+fn names_of(answer: &Answered) -> &[Id]
+    ensures { (names : List Name) → told_names answer.now ≡ Some names → result.now ≡ names }
+{
+    match answer.names() {
+        Some(names) => names,
+        None => &[],
+    }
+}
+
+/// Whether there is a graph of this name, in each changed dataset that agrees with the notes. It asks for the name and nothing else.
+pub fn is_graph<S: Source>(
+    name: Id,
+    changes: &Delta,
+    source: &mut S,
+    notes: &mut Vec<Note>,
+) -> Result<bool, Stop>
+    ensures about { S.subject source.new ≡ S.subject source.old }
+    ensures goes { (allowed : Reading → Bool) → allowed (reading.GraphIs name) ≡ true → Goes allowed (S.may source.old) (S.may source.new) notes.old.items notes.new.items }
+    ensures seen { IfOk result (λ so. (d : View) → Agrees notes.new.items d → so ≡ has id_order (applied changes.now d).names name) }
+{
+    let read = Read::GraphIs(name);
+    let answer = source.ask(&read)?;
+    let was_there = tells_name(&answer);
+    note(notes, read, answer)?;
+    Ok(is_named_after(changes, name, was_there))
+}
+
+/// The names of the graphs, in each changed dataset that agrees with the notes. It asks for the names and nothing else.
+pub fn graphs<S: Source>(
+    alloc: Global,
+    changes: &Delta,
+    source: &mut S,
+    notes: &mut Vec<Note>,
+) -> Result<Vec<Id>, Stop>
+    ensures about { S.subject source.new ≡ S.subject source.old }
+    ensures goes { (allowed : Reading → Bool) → allowed reading.Graphs ≡ true → Goes allowed (S.may source.old) (S.may source.new) notes.old.items notes.new.items }
+    ensures seen { IfOk result (λ names. (d : View) → Agrees notes.new.items d → names.items ≡ (applied changes.now d).names) }
+{
+    let read = Read::Graphs;
+    let answer = source.ask(&read)?;
+    let names = names_after(alloc, changes, names_of(&answer))?;
+    note(notes, read, answer)?;
+    Ok(names)
+}

@@ -1,0 +1,4 @@
+pub mod Numerals
+pub mod Outcomes
+pub mod Parts
+pub mod Texts

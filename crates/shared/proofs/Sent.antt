@@ -1,0 +1,211 @@
+-- What workers share, and what each takes with it, may go to other threads.
+use mathlib.Core.List.{[], ◌∷◌}
+use denote.RattleType.{RattleType}
+use denote.Struct.Tuple.{Tuple}
+use Rattle.std.proofs.Crossing.{crosses, Box-sync, Vec-sync}
+use Rattle.std.specs.contracts.vec.Vec as Vec
+use Rattle.std.specs.contracts.alloc.Global as Global
+use Rattle.std.specs.contracts.impls.GlobalAllocator.TheImpl.{ghosts}
+use Rattle.sets.specs.contracts.items.Items as Items
+use Rattle.algebra.specs.contracts.expression.Expression as Expression
+use Rattle.algebra.specs.contracts.expression.TwoOperator as TwoOperator
+use Rattle.algebra.specs.contracts.pattern.TriplePattern as TriplePattern
+use Rattle.algebra.specs.contracts.plan.Link as Link
+use Rattle.algebra.specs.contracts.plan.Plan as Plan
+use Rattle.algebra.specs.contracts.plan.Pattern as Pattern
+use Rattle.algebra.specs.contracts.template.QuadTemplate as QuadTemplate
+use Rattle.algebra.specs.contracts.update.Modify as Modify
+use Rattle.algebra.proofs.expression.OneOperator.TheSendSync as one
+use Rattle.algebra.proofs.expression.TwoOperator.TheSendSync as two
+use Rattle.algebra.proofs.expression.Expression.TheLaws.TheKnot.{sync-Expression}
+use Rattle.algebra.proofs.pattern.Place.TheSendSync as place
+use Rattle.algebra.proofs.pattern.TriplePattern.TheSendSync as triple
+use Rattle.algebra.proofs.template.QuadTemplate.TheSendSync as template
+use Rattle.algebra.proofs.plan.Plan.TheLaws.TheKnot.{sync-Plan}
+use Rattle.std.proofs.Crossing.{crosses}
+use Rattle.std.specs.contracts.result.Result as Result
+use Rattle.meaning.specs.contracts.reply.Refusal as Refusal
+use Rattle.meaning.specs.contracts.update.Operation as Operation
+use Rattle.meaning.proofs.reply.Refusal.TheSendSync as refusal
+use denote.Param.Send.{IsSend, IsSync, sendable}
+use denote.Ref.{NamedLft}
+use Rattle.datasets.specs.contracts.id.Id as Id
+use Rattle.datasets.proofs.id.Id.TheSendSync as id
+use Rattle.datasets.specs.contracts.quad.Quad as Quad
+use Rattle.datasets.specs.contracts.read.Read as Read
+use Rattle.datasets.specs.contracts.read.QuadPattern as QuadPattern
+use Rattle.terms.specs.contracts.term.Term as Term
+use Rattle.dict.specs.contracts.dictionary.Dict as Dict
+use Rattle.reads.specs.contracts.view.View as View
+use Rattle.reads.specs.contracts.answered.Answered as Answered
+use Rattle.reads.specs.contracts.delta.Delta as Delta
+use Rattle.reads.specs.contracts.finished.Finished as Finished
+use Rattle.reads.specs.contracts.note.Note as Note
+use Rattle.quad_index.specs.contracts.hints.Hints as Hints
+use Rattle.quad_index.specs.contracts.sorted_hints.SortedHints as SortedHints
+use Rattle.quad_index.proofs.key.Arrangement.TheSendSync as arrangement
+use Rattle.quad_index.specs.contracts.run.Run as Run
+use Rattle.quad_index.specs.contracts.run.Hint as Hint
+use Rattle.block_machine.specs.contracts.state.Noted as Noted
+use Rattle.block_machine.specs.contracts.state.Slot as Slot
+use Rattle.block_machine.specs.contracts.state.Pass as MachinePass
+use Rattle.block_machine.proofs.state.Pass.TheSendSync as a_pass
+use Rattle.block_machine.proofs.state.Status.TheSendSync as a_status
+use Rattle.meaning.specs.contracts.reply.Reply as Replied
+use Rattle.meaning.proofs.reply.Reply.TheSendSync as a_reply
+use Rattle.std.specs.contracts.option.Option as Option
+use Rattle.std.proofs.option.Option.TheSendSync as option
+use Rattle.block_machine.specs.contracts.state.Event as Event
+use Rattle.block_machine.specs.contracts.state.Reply as MachineReply
+use Rattle.block_machine.specs.contracts.state.Entry as Entry
+use Rattle.block_machine.specs.contracts.machine.Machine as Machine
+use Rattle.book.specs.contracts.book.Book as Book
+use Rattle.blocklock.proofs.Sent.{lock, pass}
+use Rattle.blocklock.specs.contracts.pass.Pass as Pass
+use Rattle.shared.specs.contracts.kept.Kept as Kept
+use Rattle.shared.specs.contracts.kept.Subject as Subject
+use Rattle.shared.specs.contracts.kept.KeptJournaled.TheImpl as journaled
+use Rattle.shared.specs.contracts.shared_block.SharedBlock as SharedBlock
+
+module _ (T : RattleType) (s : IsSync T) where
+  step : (h : RattleType) → IsSync h → IsSync (Tuple (TwoOperator.the_row ∷ h ∷ []))
+  step h y = let o = two.the_sync in search sendable depth 20
+
+  pub expression : IsSync (Expression.the_field T).row
+  expression = sync-Expression T (search sendable) (search sendable) one.the_field_sync Box-sync two.the_field_sync (λ h y. Vec-sync (Tuple (TwoOperator.the_row ∷ h ∷ [])) (step h y))
+
+  pub the_expression : IsSync (Expression.the_row T)
+  the_expression = let e = expression in search sendable
+
+  expressions : IsSync (Vec.the_field (Expression.the_row T) Global.the_row ghosts).row
+  expressions = let e = the_expression in search (sendable, crosses) depth 20
+
+  link : IsSync (Link.the_row T)
+  link = let e = expressions in search sendable depth 20
+
+  linked : (h : RattleType) → IsSync h → IsSync (Tuple (Link.the_row T ∷ h ∷ []))
+  linked h y = let l = link in search sendable depth 20
+
+  patterns : IsSync (Items.the_field (TriplePattern.the_row T)).row
+  patterns = let t = triple.the_sync T s in search (sendable, crosses) depth 20
+
+  pub plan : IsSync (Plan.the_field T).row
+  plan = sync-Plan T patterns (λ h y. Vec-sync (Tuple (Link.the_row T ∷ h ∷ [])) (linked h y)) expressions Vec-sync (place.the_field_sync T s) Box-sync
+
+  pub pattern : IsSync (Pattern.the_row T)
+  pattern = let p = plan in search sendable depth 20
+
+  templates : IsSync (Items.the_field (QuadTemplate.the_row T)).row
+  templates = let t = template.the_sync T s in search (sendable, crosses) depth 20
+
+  pub modify : IsSync (Modify.the_field T).row
+  modify = let p = pattern in let t = templates in search sendable depth 20
+
+  pub the_modify : IsSync (Modify.the_row T)
+  the_modify = let m = modify in search sendable
+
+  operation : IsSync (Operation.the_row T)
+  operation = let m = modify in search sendable depth 20
+
+  operations : IsSync (Items.the_row (Operation.the_row T))
+  operations = let o = operation in search (sendable, crosses) depth 20
+
+  pub request : IsSync (Result.the_row (Items.the_row (Operation.the_row T)) Refusal.the_row)
+  request = let o = operations in let r = refusal.the_field_sync in search sendable depth 20
+
+-- ---- what is read and written
+
+pub requests : IsSync (Result.the_row (Items.the_row (Operation.the_row Id.the_row)) Refusal.the_row)
+requests = request Id.the_row id.the_sync
+
+term : IsSync (Term.the_field).row
+term = search (sendable, crosses) depth 20
+
+pub dict : IsSync (Dict.the_row)
+dict = let t = term in search (sendable, crosses) depth 20
+
+quad_sync : IsSync (Quad.the_row Id.the_row)
+quad_sync = let i = id.the_field_sync in search (sendable, crosses) depth 20
+
+quad_field : IsSend (Quad.the_field Id.the_row).row
+quad_field = let i = id.the_field_send in search (sendable, crosses) depth 20
+
+scan_pattern : IsSend (QuadPattern.the_field Id.the_row).row
+scan_pattern = let i = id.the_field_send in let j = id.the_send in search (sendable, crosses) depth 20
+
+read : IsSend (Read.the_field Id.the_row).row
+read = let p = scan_pattern in let i = id.the_field_send in let j = id.the_send in search (sendable, crosses) depth 20
+
+quad : IsSend (Quad.the_row Id.the_row)
+quad = let i = id.the_field_send in search (sendable, crosses) depth 20
+
+pub view : IsSync (View.the_row)
+view = let q = quad_sync in let i = id.the_sync in search (sendable, crosses) depth 20
+
+answered : IsSend (Answered.the_row)
+answered = let q = quad in let i = id.the_send in search (sendable, crosses) depth 20
+
+delta : IsSend (Delta.the_row)
+delta = let q = quad in let i = id.the_send in search (sendable, crosses) depth 20
+
+note : IsSend (Note.the_row)
+note = let a = answered in let r = read in search (sendable, crosses) depth 20
+
+finished : IsSend (Finished.the_field).row
+finished = let n = note in let d = delta in search (sendable, crosses) depth 20
+
+-- ---- the machine
+
+noted : IsSend (Noted.the_row)
+noted = let a = answered in let r = read in search (sendable, crosses) depth 20
+
+notes : IsSend (Items.the_row Noted.the_row)
+notes = let n = noted in search (sendable, crosses) depth 20
+
+replied : IsSend (Option.the_field Replied.the_row).row
+replied = option.the_field_send Replied.the_row a_reply.the_send
+
+passed : IsSend (Option.the_field MachinePass.the_row).row
+passed = option.the_field_send MachinePass.the_row a_pass.the_send
+
+slot : IsSend (Slot.the_row)
+slot = let n = notes in let d = delta in let s = a_status.the_field_send in let r = replied in let p = passed in search (sendable, crosses) depth 20
+
+hint : IsSend (Hint.the_row)
+hint = let q = quad_field in search (sendable, crosses) depth 20
+
+run : IsSend (Run.the_row)
+run = let h = hint in search (sendable, crosses) depth 20
+
+sorted_hints : IsSend (SortedHints.the_field).row
+sorted_hints = let r = run in let h = hint in let a = arrangement.the_field_send in search (sendable, crosses) depth 20
+
+hints : IsSend (Hints.the_row)
+hints = let s = sorted_hints in search (sendable, crosses) depth 20
+
+machine : IsSend (Machine.the_row)
+machine = let s = slot in let h = hints in search (sendable, crosses) depth 20
+
+event : IsSend (Event.the_field).row
+event = let f = finished in let r = read in search (sendable, crosses) depth 20
+
+reply : IsSend (MachineReply.the_field).row
+reply = let a = answered in search (sendable, crosses) depth 20
+
+entry : IsSend (Entry.the_row)
+entry = let e = event in let r = reply in search (sendable, crosses) depth 20
+
+-- ---- the book, shared
+
+module _ (a : NamedLft) where
+  book : IsSend (Book.the_row a)
+  book = let r = requests in let d = dict in let v = view in let m = machine in let e = entry in search (sendable, crosses) depth 20
+
+  kept : IsSend (Kept.the_row a)
+  kept = let b = book in search (sendable, crosses) depth 20
+
+  pub shared : IsSync (SharedBlock.the_row a)
+  shared = let l = lock (Kept.the_row a) Subject.the_row Entry.the_row journaled.ghosts kept in search sendable depth 20
+
+  pub passes : IsSend (Pass.the_row (Kept.the_row a) Subject.the_row Entry.the_row journaled.ghosts)
+  passes = pass (Kept.the_row a) Subject.the_row Entry.the_row journaled.ghosts kept
