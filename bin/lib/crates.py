@@ -1,0 +1,161 @@
+"""The repository's crates as the toolchain's `rt` knows them, and work on many of them side by side."""
+import importlib.machinery
+import importlib.util
+import os
+import shutil
+import sys
+import threading
+import time
+
+sys.dont_write_bytecode = True
+ROOT = os.path.dirname(os.path.dirname(os.path.dirname(os.path.realpath(__file__))))
+
+
+def toolchain():
+    """The toolchain's command `rt`, as a module."""
+    command = shutil.which("rt") or sys.exit("the toolchain's command rt is not on this machine")
+    loader = importlib.machinery.SourceFileLoader("rt", os.path.realpath(command))
+    module = importlib.util.module_from_spec(importlib.util.spec_from_loader("rt", loader))
+    loader.exec_module(module)
+    return module
+
+
+rt = toolchain()
+rtlib = rt.rtlib
+sum_over_those_below = rtlib.Crate.stamp
+
+
+class Sums(threading.local):
+    """The sums of crates that one call of `stamp` has made so far."""
+
+    known = None
+
+
+SUMS = Sums()
+
+
+def stamp(crate):
+    """The toolchain's sum of all that a crate is made from. It asks for that of each library below, of which each is made once here in a call."""
+    if SUMS.known is None:
+        SUMS.known = {}
+        try:
+            return stamp(crate)
+        finally:
+            SUMS.known = None
+    if crate not in SUMS.known:
+        SUMS.known[crate] = sum_over_those_below(crate)
+    return SUMS.known[crate]
+
+
+rtlib.Crate.stamp = stamp
+
+
+def named(names=()):
+    """The crates of these names, or all where none is named, lowest first."""
+    # its first call sets a signal's handler, which only the main thread may
+    rtlib.guarded()
+    crates = sorted(rtlib.crates_below(ROOT), key=lambda crate: len(crate.below()))
+    unknown = sorted({*names} - {crate.name for crate in crates})
+    if unknown:
+        sys.exit(f"no crate is named {', '.join(unknown)}")
+    return [crate for crate in crates if not names or crate.name in names]
+
+
+def with_those_below(crates):
+    """These crates and the libraries that they stand on, lowest first."""
+    found = {it for crate in crates for it in [*crate.below(), crate]}
+    return sorted(found, key=lambda it: (len(it.below()), it.name))
+
+
+class Work:
+    """Tasks on crates, done side by side: as many as there are processors and memory for, the longest chain first. Says which ended, and how many are left."""
+
+    def __init__(self):
+        self.tasks, self.ended, self.started, self.lock = {}, 0, time.monotonic(), threading.Lock()
+
+    def add(self, crate, what, waits_for, lines, call):
+        """Adds a call on a crate, which gets the results of those that it waits for and how many jobs it may use, and says in a word what it did, if anything."""
+
+        def run(given, jobs):
+            started = time.monotonic()
+            result, told = call(given, jobs)
+            self.say(told, time.monotonic() - started)
+            return result
+
+        self.tasks[crate.name, what] = ([(it.name, kind) for it, kind in waits_for], lines, rt.need(crate), run)
+
+    def say(self, told, seconds):
+        with self.lock:
+            self.ended += 1
+            minutes, rest = divmod(int(time.monotonic() - self.started), 60)
+            if told:
+                print(f"[{minutes:2}:{rest:02}] {self.ended} of {len(self.tasks)}: {told} ({seconds:.0f} s)", file=sys.stderr, flush=True)
+
+    def results(self):
+        """Does the tasks, and returns what each came to, by the crate's name and the kind of task."""
+        return rt.in_lanes(self.tasks)
+
+
+def build_library(crate, flags, keeps):
+    """Proves and builds a library: over kept work, or where there is none and none is wanted from nothing, with its statements alone, which is faster."""
+    if keeps or crate.has_kept():
+        return crate.build_rlib(flags, anew=False)
+    # (another process may share neither the crate nor this mark of the class)
+    crate.cuts_libraries = True
+    status = crate.build_rlib(flags, anew=True)
+    if not status:
+        with open(f"{crate.folder}/out/rlib/stamp", "w", encoding="utf-8") as it:
+            it.write(crate.stamp())
+    return status
+
+
+def add_proofs(work, crates, failed, keeps):
+    """Adds the proofs of these crates, of which each waits for the libraries below it. What the prover said of one that is not proved goes into `failed`."""
+
+    def prove(crate, given, jobs):
+        if not all(given[it.name, "proof"] for it in crate.below()):
+            return False, ""
+        if crate.makes_rlib() and crate.is_built():
+            return True, ""
+        os.makedirs(f"{crate.folder}/out", exist_ok=True)
+        with open(f"{crate.folder}/out/log", "w+", errors="replace") as crate.out:
+            flags = ["--jobs", str(jobs)]
+            status = build_library(crate, flags, keeps) if crate.makes_rlib() else crate.check(flags)
+            crate.out.seek(0)
+            failed.update({crate.name: crate.out.read()} if status else {})
+        crate.out = sys.stdout
+        return not status, f"{crate.name} {'is not proved' if status else 'proved'}"
+
+    for crate in crates:
+        waits_for = [(it, "proof") for it in crate.below()]
+        work.add(crate, "proof", waits_for, crate.count(rb"\n"), lambda given, jobs, crate=crate: prove(crate, given, jobs))
+
+
+def prove(crates, keeps):
+    """Proves these crates and builds the libraries. Prints what was said of each that is not proved, and returns whether all are."""
+    work, failed = Work(), {}
+    add_proofs(work, crates, failed, keeps)
+    given = work.results()
+    for name, said in failed.items():
+        print(f"== {name}\n{said}")
+    lost = [it.name for it in crates if not given[it.name, "proof"]]
+    if lost:
+        print(f"not proved: {' '.join(lost)}")
+    return not lost
+
+
+def build_program(crate, to):
+    """Proves a program, over whose libraries all is built, and links it. Returns whether that went well; what was said is in the crate's out/log."""
+    mark, stamp = f"{crate.folder}/out/linked", crate.stamp()
+    if rtlib.text_of(mark) == stamp and os.path.isfile(to):
+        return True
+    made, tools = f"out/{crate.name}.o", ["--target", "x86_64-unknown-linux-gnu", "--toolchain", f"{rtlib.KIT}/toolchain"]
+    os.makedirs(f"{crate.folder}/out", exist_ok=True)
+    with open(f"{crate.folder}/out/log", "w", errors="replace") as crate.out:
+        jobs = ["--jobs", str(min(rt.processors(), 4))]
+        libraries = [f"{rtlib.KIT}/c/libos_c.a", f"{rtlib.KIT}/c/liblibc_c.a"]
+        status = crate.compile(jobs, made) or crate.call(f"{rtlib.KIT}/bin/rattle-link", *tools, "-o", to, made, *libraries)
+    if not status:
+        with open(mark, "w", encoding="utf-8") as it:
+            it.write(stamp)
+    return not status
