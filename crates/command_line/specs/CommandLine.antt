@@ -15,17 +15,19 @@ use Rattle.command_line.specs.declared.job.Job.TheVariants.{Run, Check}
 abbrev pub file_rule : Text → Rule
 file_rule id = record (new_rule id) { required = true }
 
+-- `--workers`, with a number
+abbrev pub workers_option_rule : Rule
+workers_option_rule = record (new_rule (codes "workers")) { long = Some (codes "workers"); parser = Some (Signed (pos 0) (pos 4294967295)) }
+
 -- `--workers N`, 4 where it is not there
 abbrev pub workers_rule : Rule
-workers_rule = record (new_rule (codes "workers")) {
-  long = Some (codes "workers");
-  value_names = 1;
-  defaults = codes "4" ∷ [];
-  parser = Some (Signed (pos 0) (pos 4294967295));
-}
+workers_rule = record workers_option_rule { value_names = 1; defaults = codes "4" ∷ [] }
+
+abbrev pub run_of_base_app : App
+run_of_base_app = with_rule (new_app (codes "run")) (file_rule (codes "BASE"))
 
 abbrev pub run_app : App
-run_app = with_rule (with_rule (with_rule (with_rule (new_app (codes "run")) (file_rule (codes "BASE"))) (file_rule (codes "BLOCK"))) (file_rule (codes "OUT"))) workers_rule
+run_app = with_rule (with_rule (with_rule run_of_base_app (file_rule (codes "BLOCK"))) (file_rule (codes "OUT"))) workers_rule
 
 abbrev pub check_app : App
 check_app = with_rule (new_app (codes "check")) (file_rule (codes "BLOCK"))
@@ -34,8 +36,11 @@ check_app = with_rule (new_app (codes "check")) (file_rule (codes "BLOCK"))
 abbrev pub program_shape : Shape
 program_shape = record (new_app (codes "sparql-block")).top { subcommand_required = true; disable_help_subcommand = true }
 
+abbrev pub bare_program : App
+bare_program = record { top = program_shape; subs = [] }
+
 abbrev pub program : App
-program = with_subcommand (with_subcommand (record { top = program_shape; subs = [] }) run_app.top) check_app.top
+program = with_subcommand (with_subcommand bare_program run_app.top) check_app.top
 
 -- the text is the number in decimal digits, where a plus may stand first
 abbrev pub IsNumber : Text → ℕ → Type 0

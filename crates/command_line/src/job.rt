@@ -2,7 +2,7 @@
 ghost use Rattle.std.specs.Prelude.{◌≡◌, codes, false, map, IfOk, string_bytes};
 ghost use Rattle.clap.specs.declared.builder.command.Command.TheViews.{out-Command as fields_of};
 ghost use Rattle.clap.specs.Words.{app_of, first_of, found_of, kind_of, one_of, rows_of, rule_of};
-ghost use Rattle.command_line.specs.CommandLine.{IsAnswer, IsCommandAnswer, IsFileAnswer, IsToldAs, IsWorkersAnswer, file_rule, workers_rule, check_app, run_app, program as the_program};
+ghost use Rattle.command_line.specs.CommandLine.{IsAnswer, IsCommandAnswer, IsFileAnswer, IsToldAs, IsWorkersAnswer, file_rule, workers_option_rule, workers_rule, check_app, run_app, run_of_base_app, bare_program, program as the_program};
 
 use crate::fault::{LineFault, Message};
 use clap::error::ErrorKind;
@@ -51,25 +51,41 @@ fn file_argument<'a>(alloc: Global, id: &'a str, help: &'a str) -> Arg<'a>
     Arg::new(alloc, id).required(true).help(help)
 }
 
-fn workers_argument<'a>(alloc: Global) -> Arg<'a>
-    ensures rule { rule_of result ≡ workers_rule }
+/// A number behind `--workers`.
+fn workers_option<'a>(alloc: Global) -> Arg<'a>
+    ensures rule { rule_of result ≡ workers_option_rule }
     ensures local { result.global ≡ false }
 {
     Arg::new(alloc, "workers")
         .long("workers")
-        .value_name("N")
         .value_parser(value_parser!(u32))
+}
+
+fn workers_argument<'a>(alloc: Global) -> Arg<'a>
+    ensures rule { rule_of result ≡ workers_rule }
+    ensures local { result.global ≡ false }
+{
+    workers_option(alloc)
+        .value_name("N")
         .default_value("4")
         .help("How many workers run the block, from 1 to 64")
+}
+
+/// `run` with its first file.
+fn run_of_base<'a>(alloc: Global) -> Result<Command<'a>, AllocError>
+    ensures app { IfOk result (λ c. app_of c ≡ run_of_base_app) }
+    ensures local { IfOk result (λ c. (fields_of c).has_globals ≡ false) }
+{
+    Command::new(alloc, "run")
+        .about("Runs a block of SPARQL updates on a base of N-Quads")
+        .arg(file_argument(alloc, "BASE", "The base, a file of N-Quads"))
 }
 
 fn run_command<'a>(alloc: Global) -> Result<Command<'a>, AllocError>
     ensures app { IfOk result (λ c. app_of c ≡ run_app) }
     ensures local { IfOk result (λ c. (fields_of c).has_globals ≡ false) }
 {
-    Command::new(alloc, "run")
-        .about("Runs a block of SPARQL updates on a base of N-Quads")
-        .arg(file_argument(alloc, "BASE", "The base, a file of N-Quads"))?
+    run_of_base(alloc)?
         .arg(file_argument(alloc, "BLOCK", "The block, requests that lines ---- part"))?
         .arg(file_argument(alloc, "OUT", "The file that the dataset is written to"))?
         .arg(workers_argument(alloc))
@@ -84,13 +100,21 @@ fn check_command<'a>(alloc: Global) -> Result<Command<'a>, AllocError>
         .arg(file_argument(alloc, "BLOCK", "The block, requests that lines ---- part"))
 }
 
-fn program<'a>(alloc: Global) -> Result<Command<'a>, AllocError>
-    ensures { IfOk result (λ c. app_of c ≡ the_program) }
+/// The program with no subcommand yet.
+fn bare_program<'a>(alloc: Global) -> Command<'a>
+    ensures app { app_of result ≡ bare_program }
+    ensures local { (fields_of result).has_globals ≡ false }
 {
     Command::new(alloc, "sparql-block")
         .about("Runs ordered blocks of SPARQL 1.1 updates")
         .subcommand_required(true)
         .disable_help_subcommand(true)
+}
+
+fn program<'a>(alloc: Global) -> Result<Command<'a>, AllocError>
+    ensures { IfOk result (λ c. app_of c ≡ the_program) }
+{
+    bare_program(alloc)
         .subcommand(run_command(alloc)?)?
         .subcommand(check_command(alloc)?)
 }
