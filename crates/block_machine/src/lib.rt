@@ -5,14 +5,14 @@
 //! `laws::front_is_serial`, after any history the front is that of the requests one after another.
 #![tactic(auto)]
 
-pub mod candidates;
-pub mod incarnations;
+mod candidates;
+mod incarnations;
 pub mod laws;
-pub mod machine;
-pub mod slot;
-pub mod state;
+mod machine;
+mod slot;
+mod state;
 pub mod validate;
-pub mod version_overlay;
+mod version_overlay;
 
 pub use machine::Machine;
 pub use state::{Entry, Event, Noted, Pass, Reply, Slot, Status};

@@ -118,7 +118,7 @@ impl Machine {
     }
 
     /// Takes a ready request, to execute its next incarnation. Else it is `Stale`.
-    pub fn take(&mut self, worker: u32, i: usize) -> Reply
+    fn take(&mut self, worker: u32, i: usize) -> Reply
         ensures plain { IsPlain result }
         ensures allowed { (base : Base) → IsAllowed base self.old worker (Event.Take i) result }
         ensures changed { self.new ≡ after self.old worker (Event.Take i) result }
@@ -133,7 +133,7 @@ impl Machine {
     }
 
     /// Leaves a request that the worker executes: its next incarnation is ready, and its delta stays.
-    pub fn give_up(&mut self, worker: u32, i: usize, n: u64) -> Reply
+    fn give_up(&mut self, worker: u32, i: usize, n: u64) -> Reply
         requires { status_of self.old.slots i ≡ Some (Status.Executing n worker) → n + 1 < 2 ^ 64 }
         ensures plain { IsPlain result }
         ensures allowed { (base : Base) → IsAllowed base self.old worker (Event.GiveUp i n) result }
@@ -148,7 +148,7 @@ impl Machine {
     }
 
     /// Answers a read from the view of request `i`, and notes it.
-    pub fn read(
+    fn read(
         &mut self,
         alloc: Global,
         base: &View,
@@ -179,7 +179,7 @@ impl Machine {
     }
 
     /// Publishes a finished run, if its transcript is the notes.
-    pub fn publish(
+    fn publish(
         &mut self,
         alloc: Global,
         worker: u32,
@@ -232,7 +232,7 @@ impl Machine {
     }
 
     /// Begins a pass of checks of an executed request. It can begin again at any time.
-    pub fn begin(&mut self, worker: u32, i: usize, n: u64) -> Reply
+    fn begin(&mut self, worker: u32, i: usize, n: u64) -> Reply
         ensures plain { IsPlain result }
         ensures allowed { (base : Base) → IsAllowed base self.old worker (Event.Begin i n) result }
         ensures changed { self.new ≡ after self.old worker (Event.Begin i n) result }
@@ -247,7 +247,7 @@ impl Machine {
     }
 
     /// Compares the next noted answer with what it would be now: `Passed` where it is the same, and `Aborted` where it is another, unless an estimate blocks. An `Err` is want of memory, and nothing else.
-    pub fn check(
+    fn check(
         &mut self,
         alloc: Global,
         base: &View,
@@ -305,7 +305,7 @@ impl Machine {
     }
 
     /// Commits the request at the front, where it is executed and stamped and no lower request has changed since.
-    pub fn commit(&mut self, worker: u32, i: usize) -> Reply
+    fn commit(&mut self, worker: u32, i: usize) -> Reply
         ensures plain { IsPlain result }
         ensures allowed { (base : Base) → IsAllowed base self.old worker (Event.Commit i) result }
         ensures changed { self.new ≡ after self.old worker (Event.Commit i) result }

@@ -23,7 +23,7 @@ pub enum Verdict {
 }
 
 /// Compares a note's answer with the answer now, at request `i`.
-pub fn check(
+pub(crate) fn check(
     alloc: Global,
     base: &View,
     hints: &Hints,

@@ -4,8 +4,8 @@
 //! the sequential run of that many first requests, whatever the workers did.
 #![tactic(auto)]
 
-pub mod book;
-pub mod copies;
+mod book;
+mod copies;
 
 pub use book::{Book, Outcome};
 

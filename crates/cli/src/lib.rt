@@ -5,14 +5,14 @@
 //! before they touch a writer, and refuse bad input with its name.
 #![tactic(auto)]
 
-pub mod check;
-pub mod engine;
-pub mod files;
-pub mod inputs;
-pub mod outputs;
+mod check;
+mod engine;
+mod files;
+mod inputs;
+mod outputs;
 
 pub use check::check_engine;
-pub use command_line::{Fault, File, Job, LineFault, Message, read_job, told};
+pub use command_line::{Fault, File, Job, LineFault, Message, read_job};
 pub use engine::run_engine;
 pub use files::{InFile, OutFile};
 pub use nquads::Watched;

@@ -4,9 +4,9 @@
 //! `verdicts_text` exactly `verdict_lines`, and a `Job` is what the words say.
 #![tactic(auto)]
 
-pub mod fault;
-pub mod job;
-pub mod replies;
+mod fault;
+mod job;
+mod replies;
 
 pub use fault::{Fault, File, LineFault, Message, told};
 pub use job::{Job, read_job};

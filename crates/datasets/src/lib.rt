@@ -3,9 +3,9 @@
 //! Definitions are read at terms and code is proved at numbers of terms, so everything here is generic in the term. Stands on `sets`.
 #![tactic(auto)]
 
-pub mod id;
-pub mod quad;
-pub mod read;
+mod id;
+mod quad;
+mod read;
 
 pub use id::Id;
 pub use quad::Quad;

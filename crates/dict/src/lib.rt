@@ -4,7 +4,7 @@
 //! proved of numbers is true of terms, by the law below. Stands on `terms`, `datasets`, `sets` and the definitions of `meaning`.
 #![tactic(auto)]
 
-pub mod dictionary;
+mod dictionary;
 pub mod laws;
 
 pub use datasets::Id;

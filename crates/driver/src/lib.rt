@@ -3,7 +3,7 @@
 //! Stands on `shared` and `update`. Used above: where it returns, all requests are committed and the book is of the same base and block.
 #![tactic(auto)]
 
-pub mod attempt;
-pub mod drive;
+mod attempt;
+mod drive;
 
 pub use drive::run_to_end;

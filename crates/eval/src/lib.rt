@@ -5,18 +5,15 @@
 //! each changed dataset that agrees with the notes.
 #![tactic(auto)]
 
-pub mod basic;
-pub mod changes;
-pub mod lacking;
-pub mod naming;
-pub mod query;
-pub mod scanning;
-pub mod solving;
+mod basic;
+mod changes;
+mod lacking;
+mod naming;
+mod query;
+mod scanning;
+mod solving;
 
-pub use basic::solve_basic;
-pub use changes::{quads_after, replaced};
+pub use changes::replaced;
 pub use lacking::quads_lacking;
-pub use naming::{graphs, is_graph};
 pub use query::Query;
-pub use scanning::scan;
 pub use solving::solve;

@@ -18,7 +18,4 @@ mod reading;
 mod tests;
 mod texts;
 
-pub use evaluate::value;
 pub use filtering::Filtering;
-pub use logic::effective;
-pub use outcome::Outcome;

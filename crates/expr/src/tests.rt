@@ -1,6 +1,8 @@
 //! Values of expressions with the answers that the standard and this profile give them.
 
-use crate::{Filtering, effective, value};
+use crate::Filtering;
+use crate::evaluate::value;
+use crate::logic::effective;
 use algebra::{Expression, OneOperator, Place, TwoOperator};
 use dict::{Dict, Id};
 use iris::Iri;

@@ -1,2 +1,2 @@
 pub mod RunLaws
-pub mod BracketLaws
+pub mod TextLaws

@@ -1,12 +1,12 @@
-//! IRIs, IRIs in angle brackets, and runs of bytes at the front of a text.
+//! IRIs, and runs of bytes at the front of a text.
 //!
 //! Both text formats are read with these: a text is the list of its UTF-8 bytes. Stands on std alone. Used above: an `Iri` is its bytes,
 //! and those are an IRI.
 #![tactic(auto)]
 
-pub mod bracketed;
-pub mod iri;
+mod iri;
 pub mod laws;
+mod utf8;
 
-pub use bracketed::{front_iri, is_utf8};
 pub use iri::{Iri, is_iri, is_iri_byte};
+pub use utf8::is_utf8;

@@ -2,8 +2,8 @@
 //! answer to a request and the run of a block, for any kind of term. Stands on `algebra`, `datasets` and `sets`.
 #![tactic(auto)]
 
-pub mod reply;
-pub mod update;
+mod reply;
+mod update;
 
 pub use reply::{Cause, Refusal, Reply};
 pub use update::Operation;

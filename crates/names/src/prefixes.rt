@@ -171,7 +171,7 @@ impl<'a> Prefixes<'a> {
     }
 
     /// The IRI of a name, if its prefix is declared.
-    pub fn iri_of(&self, alloc: Global, name: &Name<'a>) -> Result<Option<Iri>, AllocError>
+    fn iri_of(&self, alloc: Global, name: &Name<'a>) -> Result<Option<Iri>, AllocError>
         ensures { IfOk result (λ found. found ≡ iri_of self.now name.now) }
     {
         match name {

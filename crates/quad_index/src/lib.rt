@@ -4,13 +4,12 @@
 //! The contracts used above: `part_of_set` has all quads of a set that a pattern matches; what `Hints::put` put, `Hints::requests` finds.
 #![tactic(auto)]
 
-pub mod hints;
-pub mod key;
+mod hints;
+mod key;
 pub mod matching;
-pub mod run;
-pub mod search;
-pub mod sorted_hints;
+mod run;
+mod search;
+mod sorted_hints;
 
 pub use hints::Hints;
-pub use key::Arrangement;
-pub use search::part_of_set;
+pub use search::{part_at, part_of_set};

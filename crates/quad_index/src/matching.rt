@@ -28,7 +28,7 @@ fn is_in_place(place: GraphPlace<Id>, graph: Option<Id>) -> bool
 }
 
 /// Whether a quad matches a pattern: each place with a term has that term.
-pub fn matches(pattern: &QuadPattern<Id>, quad: &Quad<Id>) -> bool
+pub(crate) fn matches(pattern: &QuadPattern<Id>, quad: &Quad<Id>) -> bool
     ensures { result ≡ the_matches id_order pattern.now quad.now }
 {
     is_free_or(pattern.subject, quad.subject)
@@ -53,7 +53,7 @@ pub fn matching(
 }
 
 /// Whether any of the quads matches.
-pub fn is_any_matching(quads: &[Quad<Id>], pattern: &QuadPattern<Id>) -> bool
+pub(crate) fn is_any_matching(quads: &[Quad<Id>], pattern: &QuadPattern<Id>) -> bool
     ensures { result ≡ list_any (the_matches id_order pattern.now) quads.now }
 {
     quads.iter().any(|quad| matches(pattern, quad))

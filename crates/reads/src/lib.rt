@@ -5,15 +5,15 @@
 //! The contract used above: `View::answer` is `says`, `Delta::apply` is `applied`, `Delta::covers` is `covers` of specs/Reads.antt.
 #![tactic(auto)]
 
-pub mod answered;
-pub mod delta;
-pub mod finished;
+mod answered;
+mod delta;
+mod finished;
 pub mod laws;
 pub mod lists;
-pub mod note;
+mod note;
 pub mod same;
-pub mod source;
-pub mod view;
+mod source;
+mod view;
 
 pub use answered::Answered;
 pub use delta::Delta;

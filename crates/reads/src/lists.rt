@@ -7,19 +7,19 @@ ghost use Rattle.datasets.specs.Id.{id_order};
 ghost use Rattle.datasets.specs.Dataset.{quad_order};
 
 use datasets::{Id, Quad};
-use quad_index::search::part_at;
+use quad_index::part_at;
 use sets::set_of;
 use std::alloc::{AllocError, Global};
 
 /// Whether the quad is one of these.
-pub fn has_quad(quads: &[Quad<Id>], quad: &Quad<Id>) -> bool
+pub(crate) fn has_quad(quads: &[Quad<Id>], quad: &Quad<Id>) -> bool
     ensures { result ≡ has (quad_order id_order) quads.now quad.now }
 {
     quads.iter().any(|other| quad.cmp(other).is_eq())
 }
 
 /// Whether the quad is one of a set's.
-pub fn is_in_set(quads: &[Quad<Id>], quad: &Quad<Id>) -> bool
+pub(crate) fn is_in_set(quads: &[Quad<Id>], quad: &Quad<Id>) -> bool
     requires { IsStrictlySortedBy (quad_order id_order) quads.now }
     ensures { result ≡ has (quad_order id_order) quads.now quad.now }
 {
@@ -34,7 +34,7 @@ pub fn has_name(names: &[Id], name: &Id) -> bool
 }
 
 /// Whether there is any name.
-pub fn has_names(names: &[Id]) -> bool
+pub(crate) fn has_names(names: &[Id]) -> bool
     ensures { result ≡ list_any (λ name. true) names.now }
 {
     names.iter().any(|_name| true)
@@ -66,7 +66,7 @@ pub fn name_if(alloc: Global, so: bool, name: &Id) -> Result<Vec<Id>, AllocError
 }
 
 /// The quads that are none of a set's.
-pub fn quads_without(mut quads: Vec<Quad<Id>>, others: &[Quad<Id>]) -> Vec<Quad<Id>>
+pub(crate) fn quads_without(mut quads: Vec<Quad<Id>>, others: &[Quad<Id>]) -> Vec<Quad<Id>>
     requires { IsStrictlySortedBy (quad_order id_order) others.now }
     ensures { result.items ≡ without (quad_order id_order) quads.items others.now }
 {
@@ -75,7 +75,7 @@ pub fn quads_without(mut quads: Vec<Quad<Id>>, others: &[Quad<Id>]) -> Vec<Quad<
 }
 
 /// The names that are none of the others.
-pub fn names_without(mut names: Vec<Id>, others: &[Id]) -> Vec<Id>
+pub(crate) fn names_without(mut names: Vec<Id>, others: &[Id]) -> Vec<Id>
     ensures { result.items ≡ without id_order names.items others.now }
 {
     names.retain(|name| !has_name(others, name));

@@ -10,7 +10,7 @@ use crate::answered::Answered;
 use crate::lists::{copied_names, copied_quads, has_name, name_if};
 use datasets::{Answer, Id, Quad, QuadPattern, Read};
 use quad_index::matching::matching;
-use quad_index::search::part_of_set;
+use quad_index::part_of_set;
 use sets::set_of;
 use std::alloc::{AllocError, Global};
 use std::marker::Model;

@@ -1,7 +1,7 @@
 //! What requests are: updates, or why they are refused; what can be run of them; and how a block is cut into requests.
 //!
-//! Stands on `grammar`, `translation` and `meaning`. Used above: `checked` gives the one request that a text is, `split` the requests of a
-//! block, and `verdicts` whether each is refused.
+//! Stands on `grammar`, `translation` and `meaning`. Used above: `split` gives the requests of a block, each the one request that its text is,
+//! and `verdicts` whether each is refused.
 #![tactic(auto)]
 
 mod block;
@@ -15,8 +15,8 @@ mod splitting;
 
 pub use block::Block;
 pub use fault::BlockFault;
-pub use request::{Checked, Update, Verdict, check, checked, judged, taken};
-pub use running::{Taken, runnable};
+pub use request::Verdict;
+pub use running::Taken;
 pub use splitting::{split, verdicts};
 
 #[cfg(test)]

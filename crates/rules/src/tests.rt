@@ -1,6 +1,7 @@
 //! Texts and blocks with the answers that the standard and this program's limits give them.
 
-use crate::{BlockFault, Checked, checked, split, taken, verdicts};
+use crate::request::{Checked, checked, taken};
+use crate::{BlockFault, split, verdicts};
 use algebra::{Expression, GraphOperation, Link, Modify, Operation, Place, Plan, Slot};
 use meaning::Refusal;
 use std::alloc::{AllocError, Global};

@@ -7,8 +7,8 @@ ghost use Rattle.std.specs.Prelude.{◌≡◌};
 ghost use Rattle.std.specs.declared.cmp.Ordering.TheVariants.{Equal};
 ghost use Rattle.sets.specs.Sets.{set_of as the_set_of};
 
-pub mod items;
-pub mod search;
+mod items;
+mod search;
 
 pub use items::Items;
 pub use search::place_of;

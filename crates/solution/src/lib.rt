@@ -3,14 +3,13 @@
 //! The contract used above: `Mapping::fit` is `fitted`, and each operator of `Solutions` the set of that name, of `meaning`.
 #![tactic(auto)]
 
-pub mod among;
-pub mod filters;
+mod among;
+mod filters;
 mod lookup;
-pub mod mapping;
+mod mapping;
 mod operators;
-pub mod solutions;
+mod solutions;
 
-pub use among::solutions_among;
 pub use filters::Filters;
 pub use mapping::Mapping;
 pub use solutions::Solutions;

@@ -154,7 +154,7 @@ impl Mapping {
         }
     }
     /// Whether the two agree on each variable that is bound in both (SPARQL 1.1 Query, 18.3).
-    pub fn is_compatible(&self, other: &Mapping) -> bool
+    pub(crate) fn is_compatible(&self, other: &Mapping) -> bool
         ensures { result ≡ compatible id_order self.now other.now }
     {
         let left = self.places.as_slice();
@@ -163,7 +163,7 @@ impl Mapping {
     }
 
     /// Whether a variable is bound in both.
-    pub fn shares(&self, other: &Mapping) -> bool
+    pub(crate) fn shares(&self, other: &Mapping) -> bool
         ensures { result ≡ shares self.now other.now }
     {
         let left = self.places.as_slice();
@@ -174,7 +174,7 @@ impl Mapping {
     }
 
     /// The union of two mappings, where this one's term counts if both have one.
-    pub fn merge(&self, other: &Mapping) -> Result<Mapping, AllocError>
+    pub(crate) fn merge(&self, other: &Mapping) -> Result<Mapping, AllocError>
         ensures { IfOk result (λ mapping. mapping ≡ merge self.now other.now) }
     {
         let left = self.places.as_slice();

@@ -1,6 +1,6 @@
 //! Lists, sets and IRIs.
 use datasets::Id;
-use iris::{Iri, front_iri, is_iri, is_utf8};
+use iris::{Iri, is_iri, is_utf8};
 use sets::{Items, set_of};
 use std::test::Fail;
 
@@ -63,32 +63,8 @@ fn iris_alone(rt: HostRuntime) -> Result<(), Fail> {
     Ok(())
 }
 
-/// Texts, and the IRI in angle brackets at the front of each with what follows it.
-const FRONTS: [(&[u8], Option<(&[u8], &[u8])>); 7] = [
-    (b"<x:a> rest", Some((b"x:a", b" rest"))),
-    (b"<x:a><x:b>", Some((b"x:a", b"<x:b>"))),
-    (b" <x:a>", None),
-    (b"<x:a", None),
-    (b"<a>", None),
-    (b"<x:\xff>", None),
-    (b"", None),
-];
-
-/// The bytes of an IRI and what follows it, where there is one.
-fn as_bytes<'a>(found: &'a Option<(Iri, &[u8])>) -> Option<(&'a [u8], &'a [u8])> {
-    match found {
-        None => None,
-        Some((iri, after)) => Some((iri.as_str().as_bytes(), *after)),
-    }
-}
-
 #[test]
-fn iris_in_brackets(rt: HostRuntime) -> Result<(), Fail> {
-    for (text, front) in &FRONTS {
-        assert!(rt; front_iri(text) == *front, "{text:?}");
-        let found = Iri::at_front(rt.alloc(), text)?;
-        assert!(rt; as_bytes(&found) == *front, "{text:?}");
-    }
+fn utf8(rt: HostRuntime) -> Result<(), Fail> {
     assert!(rt; is_utf8("é日".as_bytes()));
     assert!(rt; !is_utf8(b"\xc3"));
     Ok(())

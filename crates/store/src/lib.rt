@@ -6,14 +6,13 @@
 #![tactic(auto)]
 
 pub mod laws;
-pub mod naming;
-pub mod numbering;
+mod naming;
+mod numbering;
 mod plans;
-pub mod requests;
+mod requests;
 
 pub use naming::named;
 pub use numbering::{Numbered, number};
-pub use requests::Request;
 
 #[cfg(test)]
 mod tests;

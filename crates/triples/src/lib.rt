@@ -13,4 +13,4 @@ mod subjects;
 
 pub use nodes::{begins_node, graph_name_at};
 pub use quads::quads_at;
-pub use subjects::{maybe_triples_at, triples_at};
+pub use subjects::triples_at;

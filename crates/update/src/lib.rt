@@ -16,7 +16,6 @@ mod template;
 mod tests;
 
 pub use execution::{Execution, execute};
-pub use presence::scan_for;
 
 /// A request at numbers of terms: its operations, or why it is refused.
 pub type Request = Result<sets::Items<meaning::Operation<datasets::Id>>, meaning::Refusal>;
