@@ -55,6 +55,10 @@ class Span:
     start: tuple
     end: tuple
 
+    def text(self, whole):
+        """The lines of the file's text in which the function stands."""
+        return "\n".join(whole.split("\n")[self.start[0] - 1 : self.end[0]])
+
 
 def tokens_of(folder, files):
     """The tokens of the files that are code, and the ends of clauses, for each file: the byte where each begins and ends, its kind and its text."""
@@ -165,19 +169,20 @@ def changed_places(text, folder):
     return found, None
 
 
-def functions_at(found, folder):
-    """The functions at these places of files, none where a place is in no function's body or clauses."""
-    texts = {}
-    for file, _ in found:
-        with open(f"{folder}/{file}", encoding="utf-8") as it:
-            texts[file] = it.read()
-    spans, functions = spans_in(folder, texts), set()
+def functions_at(found, crate):
+    """The functions at these places of files: where a constant stands, those that name it, and none where a place is in neither."""
+    files = [os.path.relpath(it, crate.folder) for it in rtlib.files_of(crate.folder) if it.endswith(".rt")]
+    texts = {it: rtlib.text_of(f"{crate.folder}/{it}") for it in files}
+    spans, functions = spans_in(crate.folder, texts), set()
     for file, byte in found:
-        at = places(texts[file])(byte)
-        within = [it.function for it in spans[file] if it.start <= at < it.end] if spans and file in spans else []
+        line, column = places(texts.get(file, ""))(byte)
+        within = [it.function for it in spans.get(file, []) if it.start <= (line, column) < it.end]
+        constant = re.match(r"(?:pub )?const (\w+):", texts.get(file, "").split("\n")[line - 1])
+        if not within and constant:
+            within = [it.function for of_file, own in spans.items() for it in own if re.search(rf"\b{constant[1]}\b", it.text(texts[of_file]))]
         if not within:
             return frozenset()
-        functions.add(within[0])
+        functions.update(within)
     return frozenset(functions)
 
 
@@ -195,7 +200,7 @@ def edits_of(crate):
         if why:
             bad.append((name, why))
         else:
-            good.append(Edit(name, text, functions_at(found, crate.folder)))
+            good.append(Edit(name, text, functions_at(found, crate)))
     return good, bad
 
 
