@@ -277,9 +277,9 @@ class Copy:
         if not answer or "was not admitted" in answer[2]:
             return None, None
         what = BY_NAME if re.search(r"has no field|is not in scope|has no `", answer[2]) else BY_TYPE
-        functions = [it.function for file in spans.values() for it in file]
-        own = [it for it in functions if is_proof_of(answer[1], it)]
-        return own[0] if own else None, what
+        # of two functions in a cycle of calls, whose proof is one, nothing tells which of them it is
+        own = [it for edit in self.edits for it in edit.functions if is_proof_of(answer[1], it)]
+        return own[0] if len(own) == 1 else None, what
 
 
 def is_proof_of(folder, function):
@@ -333,6 +333,7 @@ def add_wrong_bodies(work, crate, waits_for, is_due=lambda crate: True):
         with tempfile.TemporaryDirectory(prefix="wrong-bodies-") as room:
             results, seconds = tried(crate, good, room, jobs)
         results.update((name, (False, f"BAD EDIT: {why}")) for name, why in bad)
+        tell(crate, results)
         return results, f"{len(results)} wrong bodies of {crate.name}, {seconds:.0f} s of a processor"
 
     work.add(crate, "wrong bodies", waits_for, crate.count(rb"\n"), call)
@@ -342,9 +343,13 @@ def has_wrong_bodies(crate):
     return os.path.isdir(f"{crate.folder}/wrong-bodies")
 
 
-def tell(name, results):
-    """Prints what came of a crate's edits, and returns how many were refused, how many of those by no open goal, and how many were not."""
-    for edit, (is_refused, what) in sorted(results.items()):
-        print(f"wrong body {name}/{edit}: {'refused, by ' if is_refused else ''}{what}")
+def tell(crate, results):
+    """Prints what came of a crate's edits."""
+    rows = [f"wrong body {crate.name}/{edit}: {'refused, by ' if is_refused else ''}{what}\n" for edit, (is_refused, what) in sorted(results.items())]
+    print("".join(rows), end="", flush=True)
+
+
+def counts_of(results):
+    """How many edits of a crate were refused, how many of those by no open goal, and how many were not."""
     refused = [what for is_refused, what in results.values() if is_refused]
     return len(refused), sum(it != OPEN for it in refused), len(results) - len(refused)
