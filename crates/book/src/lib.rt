@@ -11,6 +11,3 @@ pub use book::{Book, Outcome};
 
 /// A request at numbers of terms: its operations, or why it is refused.
 pub type Request = Result<sets::Items<meaning::Operation<datasets::Id>>, meaning::Refusal>;
-
-#[cfg(test)]
-mod tests;

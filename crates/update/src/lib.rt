@@ -12,8 +12,6 @@ mod modify;
 mod operations;
 mod presence;
 mod template;
-#[cfg(test)]
-mod tests;
 
 pub use execution::{Execution, execute};
 

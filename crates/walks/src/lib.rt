@@ -1,12 +1,26 @@
-//! Walks: blocks run through a book entry by entry, in orders that workers side by side may take. It has tests alone, and stands on `book`
-//! and `update`.
+//! Walks: requests over plain sources, blocks run through a book event by event, in orders that workers side by side may take, and blocks
+//! run through a shared book, by one worker alone and by four on threads of their own. It has tests alone.
 #![tactic(auto)]
 
 #[cfg(test)]
+mod alone;
+#[cfg(test)]
+mod books;
+#[cfg(test)]
+mod lines;
+#[cfg(test)]
 mod lists;
 #[cfg(test)]
-mod patterns;
+mod numbers;
+#[cfg(test)]
+mod requests;
 #[cfg(test)]
 mod run;
 #[cfg(test)]
-mod tests;
+mod sharing;
+#[cfg(test)]
+mod together;
+#[cfg(test)]
+mod topic;
+#[cfg(test)]
+mod worker;

@@ -1,9 +1,8 @@
-//! The steps of one worker at one request.
-ghost use Rattle.std.specs.Prelude.{IsTrue};
-ghost use Rattle.update.specs.Asked.{IsShort};
-
+//! The steps of workers at a book.
+use crate::lines::Step;
+use crate::numbers::request_at;
 use block_machine::{Event, Reply};
-use book::{Book, Request};
+use book::Book;
 use datasets::Read;
 use dict::Id;
 use reads::{Answered, Source, Stop};
@@ -11,12 +10,12 @@ use std::alloc::{AllocError, Global};
 use std::marker::Model;
 use update::execute;
 
-/// Which incarnation of which request is run by whom.
+// Which incarnation of which request is run by whom.
 #[derive(Clone, Copy)]
-pub struct Turn {
-    pub worker: u32,
-    pub place: usize,
-    pub incarnation: u64,
+struct Turn {
+    worker: u32,
+    place: usize,
+    incarnation: u64,
 }
 
 // What answers the reads of a turn: a book, by its steps.
@@ -62,32 +61,15 @@ impl<'a> Source for Asking<'a> {
     }
 }
 
-fn is_short(request: &Request) -> bool
-    ensures { IsTrue result → IsShort request.now }
-{
-    match request {
-        Ok(operations) => operations.len() < 1000,
-        Err(_) => true,
-    }
-}
-
-/// Runs the request and publishes the run.
-pub fn run<'a>(
-    alloc: Global,
-    mut book: Book<'a>,
-    turn: Turn,
-) -> Result<(Book<'a>, Reply), AllocError> {
+// Runs the request of a turn and publishes the run.
+fn publish<'a>(alloc: Global, book: Book<'a>, turn: Turn) -> Result<(Book<'a>, Reply), AllocError> {
     let terms = book.terms();
-    let block = book.block();
-    let Some(request) = block.get(turn.place) else {
+    let Some(request) = request_at(book.block(), turn.place) else {
         return Ok((book, Reply::Stale));
     };
-    if turn.place >= 1000 || !is_short(request) {
-        return Ok((book, Reply::Stale));
-    }
     let mut asking = Asking { alloc, book, turn };
     let execution = execute(alloc, terms, turn.place as u32, request, &mut asking);
-    book = asking.book;
+    let mut book = asking.book;
     let Ok(execution) = execution else {
         return Ok((book, Reply::Stale));
     };
@@ -100,35 +82,29 @@ pub fn run<'a>(
     Ok((book, reply))
 }
 
-/// Takes a request.
-pub fn take(
+/// A worker's step.
+pub fn play<'a>(
     alloc: Global,
-    book: &mut Book<'_>,
+    mut book: Book<'a>,
     worker: u32,
-    place: usize,
-) -> Result<Reply, AllocError> {
-    book.step(alloc, worker, &Event::Take(place))
-}
-
-/// Begins a pass of checks.
-pub fn begin(alloc: Global, book: &mut Book<'_>, turn: Turn) -> Result<Reply, AllocError> {
-    book.step(
-        alloc,
-        turn.worker,
-        &Event::Begin(turn.place, turn.incarnation),
-    )
-}
-
-/// Checks the next note.
-pub fn check(alloc: Global, book: &mut Book<'_>, turn: Turn) -> Result<Reply, AllocError> {
-    book.step(
-        alloc,
-        turn.worker,
-        &Event::Check(turn.place, turn.incarnation),
-    )
-}
-
-/// Commits a request.
-pub fn commit(alloc: Global, book: &mut Book<'_>, turn: Turn) -> Result<Reply, AllocError> {
-    book.step(alloc, turn.worker, &Event::Commit(turn.place))
+    step: Step,
+) -> Result<(Book<'a>, Reply), AllocError> {
+    let told = match step {
+        Step::Publish(place, incarnation) => {
+            let turn = Turn {
+                worker,
+                place,
+                incarnation,
+            };
+            return publish(alloc, book, turn);
+        }
+        Step::Read(_, _) => return Ok((book, Reply::Stale)),
+        Step::Take(i) => book.step(alloc, worker, &Event::Take(i)),
+        Step::PublishNothing(i, n) => { book.step(alloc, worker, &Event::Publish(i, n, None)) }
+        Step::Begin(i, n) => book.step(alloc, worker, &Event::Begin(i, n)),
+        Step::Check(i, n) => book.step(alloc, worker, &Event::Check(i, n)),
+        Step::Commit(i) => book.step(alloc, worker, &Event::Commit(i)),
+        Step::GiveUp(i, n) => book.step(alloc, worker, &Event::GiveUp(i, n)),
+    };
+    Ok((book, told?))
 }

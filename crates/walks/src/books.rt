@@ -1,0 +1,187 @@
+//! Blocks run through a book, in orders that workers side by side may take.
+ghost use Rattle.reads.specs.Reads.{IsDataset};
+
+use crate::lines::Step::{Begin, Check, Commit, GiveUp, Publish, PublishNothing, Take};
+use crate::lines::Told::{
+    Aborted, Begun, Committed, Given, NotYet, NotYours, Passed, Published, Stale, Taken,
+};
+use crate::lines::{Step, Told, told_by};
+use crate::numbers::{numbered, tell_quads};
+use crate::run::play;
+use book::Book;
+use meaning::Reply;
+use reads::View;
+use std::alloc::{AllocError, Global};
+use std::process::Abort;
+use std::test::Fail;
+use store::Numbered;
+
+/// A walk through the book of a block over an empty base.
+struct Walk {
+    block: &'static str,
+    /// Who does what, and what it is told.
+    lines: &'static [(u32, Step, Told)],
+    /// How many events are reads of runs.
+    reads: usize,
+    /// How many requests are committed. Each adds a quad.
+    committed: usize,
+    quads: &'static str,
+}
+
+const WALKS: [Walk; 4] = [
+    // The second request runs before the first has published, and is checked after it. At last it waits for the first one's commit.
+    Walk {
+        block: "INSERT DATA { <x:a> <x:p> <x:b> }\n----\nINSERT DATA { <x:a> <x:p> <x:b> , <x:c> }",
+        lines: &[
+            (1, Take(1), Taken(0)),
+            (1, Publish(1, 0), Published),
+            (0, Take(0), Taken(0)),
+            (0, Publish(0, 0), Published),
+            (1, Begin(1, 0), Begun),
+            (1, Check(1, 0), Aborted),
+            (2, Take(1), Taken(1)),
+            (2, Publish(1, 1), Published),
+            (2, Begin(1, 1), Begun),
+            (2, Check(1, 1), Passed),
+            (2, Check(1, 1), Passed),
+            (2, Commit(1), NotYet),
+            (0, Begin(0, 0), Begun),
+            (0, Check(0, 0), Passed),
+            (0, Commit(0), Committed),
+            (2, Commit(1), Committed),
+        ],
+        reads: 5,
+        committed: 2,
+        quads: "+ <x:a> <x:p> <x:b>\n+ <x:a> <x:p> <x:c>\n",
+    },
+    // The second request, by a pattern, is published before the first, and checked after it.
+    Walk {
+        block: "INSERT DATA { <x:a> <x:p> <x:b> }\n----\nINSERT { ?x <x:q> <x:c> } WHERE { ?x <x:p> ?y }",
+        lines: &[
+            (1, Take(1), Taken(0)),
+            (1, Publish(1, 0), Published),
+            (0, Take(0), Taken(0)),
+            (0, Publish(0, 0), Published),
+            (1, Begin(1, 0), Begun),
+            (1, Check(1, 0), Aborted),
+            (0, Begin(0, 0), Begun),
+            (0, Check(0, 0), Passed),
+            (0, Commit(0), Committed),
+            (1, Take(1), Taken(1)),
+            (1, Publish(1, 1), Published),
+            (1, Begin(1, 1), Begun),
+            (1, Check(1, 1), Passed),
+            (1, Check(1, 1), Passed),
+            (1, Commit(1), Committed),
+        ],
+        reads: 4,
+        committed: 2,
+        quads: "+ <x:a> <x:p> <x:b>\n+ <x:a> <x:q> <x:c>\n",
+    },
+    // It is checked to its end before the first is published, so its stamp is too old to commit.
+    Walk {
+        block: "INSERT DATA { <x:a> <x:p> <x:b> }\n----\nINSERT { ?x <x:q> <x:c> } WHERE { ?x <x:p> ?y }",
+        lines: &[
+            (1, Take(1), Taken(0)),
+            (1, Publish(1, 0), Published),
+            (1, Begin(1, 0), Begun),
+            (1, Check(1, 0), Passed),
+            (0, Take(0), Taken(0)),
+            (0, Publish(0, 0), Published),
+            (0, Begin(0, 0), Begun),
+            (0, Check(0, 0), Passed),
+            (0, Commit(0), Committed),
+            (1, Commit(1), NotYet),
+            (1, Begin(1, 0), Begun),
+            (1, Check(1, 0), Aborted),
+            (1, Take(1), Taken(1)),
+            (1, Publish(1, 1), Published),
+            (1, Begin(1, 1), Begun),
+            (1, Check(1, 1), Passed),
+            (1, Check(1, 1), Passed),
+            (1, Commit(1), Committed),
+        ],
+        reads: 4,
+        committed: 2,
+        quads: "+ <x:a> <x:p> <x:b>\n+ <x:a> <x:q> <x:c>\n",
+    },
+    // A refused request reads nothing. Only who took it may publish it, and what is given up is not committed.
+    Walk {
+        block: "INSERT",
+        lines: &[
+            (0, Take(0), Taken(0)),
+            (0, Take(1), Stale),
+            (1, Publish(0, 0), NotYours),
+            (0, PublishNothing(0, 0), NotYet),
+            (0, Commit(0), NotYet),
+            (0, GiveUp(0, 0), Given),
+        ],
+        reads: 0,
+        committed: 0,
+        quads: "",
+    },
+];
+
+// The book after a walk, each of whose steps is told what it says.
+fn walked<'a>(
+    rt: &impl Abort,
+    alloc: Global,
+    numbered: &'a Numbered,
+    base: &'a View,
+    lines: &[(u32, Step, Told)],
+) -> Result<Book<'a>, AllocError>
+    requires { IsDataset base.now }
+{
+    let mut book = Book::new(alloc, &numbered.terms, base, numbered.block.as_slice())?;
+    for (worker, step, told) in lines {
+        let (after, reply) = play(alloc, book, *worker, *step)?;
+        book = after;
+        let entries = book.journal().len();
+        assert!(rt; told_by(&reply) == *told, "entry {entries}");
+    }
+    Ok(book)
+}
+
+// Whether each request that was to be committed has added its quad.
+fn is_come_to(
+    alloc: Global,
+    numbered: &Numbered,
+    book: &Book<'_>,
+    walk: &Walk,
+) -> Result<bool, AllocError> {
+    let outcome = book.outcome(alloc)?;
+    let one = Reply::Done {
+        added: 1,
+        removed: 0,
+    };
+    let mut quads = Vec::new(alloc);
+    tell_quads(
+        alloc,
+        &numbered.terms,
+        b'+',
+        outcome.dataset.quads(),
+        &mut quads,
+    )?;
+    Ok(
+        outcome.replies.len() == walk.committed
+            && outcome.replies.as_slice().iter().all(|reply| *reply == one)
+            && quads.as_slice() == walk.quads.as_bytes()
+            && book.journal().len().checked_sub(walk.lines.len()) == Some(walk.reads),
+    )
+}
+
+#[test]
+fn walks(rt: HostRuntime) -> Result<(), Fail> {
+    let alloc = rt.alloc();
+    let base = View::new(alloc);
+    for walk in &WALKS {
+        let numbered = numbered(alloc, "", walk.block)?;
+        let book = walked(&rt, alloc, &numbered, &base, walk.lines)?;
+        assert!(rt;
+            is_come_to(alloc, &numbered, &book, walk)?,
+            "{}",
+            walk.block
+        );
+    }
+    Ok(())
+}

@@ -1,0 +1,76 @@
+//! What workers do and are told, without terms.
+use block_machine::{Entry, Event, Reply};
+
+/// What a worker does: an event at the request of a place, where it matters with its incarnation.
+#[derive(Clone, Copy, PartialEq, Eq)]
+pub enum Step {
+    Take(usize),
+    Read(usize, u64),
+    /// Publish a run of the request.
+    Publish(usize, u64),
+    /// Publish what is not a run of the request.
+    PublishNothing(usize, u64),
+    Begin(usize, u64),
+    Check(usize, u64),
+    Commit(usize),
+    GiveUp(usize, u64),
+}
+
+/// The kinds of reply.
+#[derive(Clone, Copy, PartialEq, Eq)]
+pub enum Told {
+    Taken(u64),
+    Answered,
+    Blocked(usize),
+    Published,
+    Begun,
+    Passed,
+    Aborted,
+    Committed,
+    Given,
+    Stale,
+    NotYours,
+    NotYet,
+}
+
+/// What a worker did, and what it was told.
+#[derive(Clone, Copy, PartialEq, Eq)]
+pub struct Line {
+    pub step: Step,
+    pub told: Told,
+}
+
+/// The kind of a reply.
+pub fn told_by(reply: &Reply) -> Told {
+    match reply {
+        Reply::Taken(n) => Told::Taken(*n),
+        Reply::Answered(_) => Told::Answered,
+        Reply::Blocked(j) => Told::Blocked(*j),
+        Reply::Published => Told::Published,
+        Reply::Begun => Told::Begun,
+        Reply::Passed => Told::Passed,
+        Reply::Aborted => Told::Aborted,
+        Reply::Committed => Told::Committed,
+        Reply::Given => Told::Given,
+        Reply::Stale => Told::Stale,
+        Reply::NotYours => Told::NotYours,
+        Reply::NotYet => Told::NotYet,
+    }
+}
+
+/// An entry of a journal as a line.
+pub fn line_of(entry: &Entry) -> Line {
+    let step = match &entry.event {
+        Event::Take(i) => Step::Take(*i),
+        Event::Read(i, n, _) => Step::Read(*i, *n),
+        Event::Publish(i, n, _) => Step::Publish(*i, *n),
+        Event::Begin(i, n) => Step::Begin(*i, *n),
+        Event::Check(i, n) => Step::Check(*i, *n),
+        Event::Commit(i) => Step::Commit(*i),
+        Event::GiveUp(i, n) => Step::GiveUp(*i, *n),
+    };
+    Line {
+        step,
+        told: told_by(&entry.reply),
+    }
+}
