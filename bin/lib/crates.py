@@ -48,6 +48,9 @@ def stamp(crate):
 
 
 rtlib.Crate.stamp = stamp
+# crates as under the gate: what they may do is held to the file HANDLES
+rt.Crate.allowed = rt.handles_of(ROOT)
+rtlib.Crate = rt.Crate
 
 
 def named(names=()):
@@ -100,7 +103,7 @@ def build_library(crate, flags, keeps):
     """Proves and builds a library: over kept work, or where there is none and none is wanted from nothing, with its statements alone, which is faster."""
     if keeps or crate.has_kept():
         return crate.build_rlib(flags, anew=False)
-    # (another process may share neither the crate nor this mark of the class)
+    # (as under the gate; the toolchain then leaves no stamp itself)
     crate.cuts_libraries = True
     status = crate.build_rlib(flags, anew=True)
     if not status:
@@ -145,17 +148,16 @@ def prove(crates, keeps):
 
 
 def build_program(crate, to):
-    """Proves a program, over whose libraries all is built, and links it. Returns whether that went well; what was said is in the crate's out/log."""
-    mark, stamp = f"{crate.folder}/out/linked", crate.stamp()
+    """Proves a program whose libraries are built, and links it. Returns whether that went well; what was said is in the crate's out/log."""
+    mark, stamp, made = f"{crate.folder}/out/linked", crate.stamp(), f"out/{crate.name}"
     if rtlib.text_of(mark) == stamp and os.path.isfile(to):
         return True
-    made, tools = f"out/{crate.name}.o", ["--target", "x86_64-unknown-linux-gnu", "--toolchain", f"{rtlib.KIT}/toolchain"]
     os.makedirs(f"{crate.folder}/out", exist_ok=True)
     with open(f"{crate.folder}/out/log", "w", errors="replace") as crate.out:
         jobs = ["--jobs", str(min(rt.processors(), 4))]
-        libraries = [f"{rtlib.KIT}/c/libos_c.a", f"{rtlib.KIT}/c/liblibc_c.a"]
-        status = crate.compile(jobs, made) or crate.call(f"{rtlib.KIT}/bin/rattle-link", *tools, "-o", to, made, *libraries)
-    if not status:
-        with open(mark, "w", encoding="utf-8") as it:
-            it.write(stamp)
-    return not status
+        if crate.compile(jobs, f"{made}.o") or crate.link(f"{made}.o", made):
+            return False
+    shutil.copy(f"{crate.folder}/{made}", to)
+    with open(mark, "w", encoding="utf-8") as it:
+        it.write(stamp)
+    return True

@@ -37,14 +37,12 @@ class Function:
     number: int
 
     def path(self):
-        """Its path for `rattle check --only`: a method of a trait's impl is asked for with its whole module."""
+        """Its path for `rattle check --only`. A method has its type's path, which may stand in another module; one of a trait's impl is asked for with its module."""
         place = module_of(self.file).split("/") if module_of(self.file) else []
         if not self.block:
             return "::".join([*place, self.name])
         of_type = re.fullmatch(r"impl(<.*?>)? ?(\w+)( ?<.*>)?", self.block)
-        if not of_type:
-            return "::".join(place)
-        return "::".join([*place, of_type[2], self.name])
+        return f"{of_type[2]}::{self.name}" if of_type else "::".join(place)
 
 
 @dataclass
@@ -213,6 +211,15 @@ class Check:
     seconds: float
 
 
+def check_of(folder, words):
+    how = {"cwd": folder, "stdin": subprocess.DEVNULL, "stdout": subprocess.PIPE, "stderr": subprocess.STDOUT, "errors": "replace"}
+    with subprocess.Popen([*rtlib.guarded(), *words], **how, text=True) as ran:
+        said = ran.stdout.read()
+        _, status, used = os.wait4(ran.pid, 0)
+        ran.returncode = os.waitstatus_to_exitcode(status)
+    return Check(ran.returncode, said, used.ru_utime + used.ru_stime)
+
+
 class Copy:
     """A copy of a crate with edits of different functions in it."""
 
@@ -242,13 +249,10 @@ class Copy:
         only = sorted({it.path() for edit in self.edits for it in edit.functions})
         is_whole = any(not it.functions for it in self.edits) or "" in only
         asked = [] if is_whole else [word for path in only for word in ("--only", path)]
-        words = [rtlib.RATTLE, "check", *self.crate.words(["--jobs", str(jobs)], keeps=False), "--incremental", kept, *asked]
-        how = {"cwd": self.folder, "stdin": subprocess.DEVNULL, "stdout": subprocess.PIPE, "stderr": subprocess.STDOUT, "errors": "replace"}
-        with subprocess.Popen([*rtlib.guarded(), *words], **how, text=True) as ran:
-            said = ran.stdout.read()
-            _, status, used = os.wait4(ran.pid, 0)
-            ran.returncode = os.waitstatus_to_exitcode(status)
-        return Check(ran.returncode, said, used.ru_utime + used.ru_stime)
+        words = [rtlib.RATTLE, "check", *self.crate.words(["--jobs", str(jobs)], keeps=False), "--incremental", kept]
+        ran = check_of(self.folder, [*words, *asked])
+        # where a path fits no function or several, nothing was looked at
+        return check_of(self.folder, words) if ran.status == 2 and asked else ran
 
     def told(self, ran):
         """What a check says of each edit, by its name, or None where it did not come to the proofs."""
@@ -283,16 +287,15 @@ class Copy:
 
 
 def is_proof_of(folder, function):
-    """Whether a folder of proofs/ holds the proof of a function, or of the cycle of calls that the function is in."""
-    inside = module_of(function.file)
-    if folder.startswith(f"{inside}/+"):
-        return True
+    """Whether a folder of proofs/ holds the proof of a function, or of a cycle of calls that the function may be in."""
+    inside, parts = module_of(function.file), folder.split("/")
+    if parts[-1].startswith("+"):
+        return "/".join(parts[:-1]) == inside
     block = re.sub(r"^impl(<.*?>)? ?", "", function.block)
     of_type = (block.partition(" for ")[2] or block).partition("<")[0].strip()
-    rest = folder.removeprefix(f"{inside}/" if inside else "").split("/")
     if not of_type:
-        return function.name in rest[:1]
-    return len(rest) > 1 and rest[0].startswith(of_type) and rest[1] == function.name
+        return folder == (f"{inside}/" if inside else "") + function.name
+    return len(parts) > 1 and parts[-1] == function.name and parts[-2].startswith(of_type)
 
 
 def tried(crate, edits, room, jobs):

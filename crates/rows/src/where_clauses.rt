@@ -176,7 +176,7 @@ const ROWS: [Row; 21] = [
 #[test]
 fn where_clauses(rt: HostRuntime) {
     for (base, block, status, dataset, replies) in &ROWS {
-        for workers in [1, 2, 8] {
+        for workers in [1, 8] {
             let answer = answer_to(&rt, rt.alloc(), base.as_bytes(), block.as_bytes(), workers);
             assert!(rt;
                 is_as_expected(&answer, *status, dataset, replies),
