@@ -14,8 +14,6 @@ mod operators;
 mod outcome;
 mod parts;
 mod reading;
-#[cfg(test)]
-mod tests;
 mod texts;
 
 pub use evaluate::value;

@@ -1,36 +1,55 @@
 //! Blocks through the engine of the command `check`.
-use crate::tests::{Narrow, Slow, line_count, separators, status_of};
+use crate::devices::{Narrow, Slow};
+use crate::engine::{line_count, separators, status_of};
 use cli::{Watched, check_engine};
 use std::alloc::{AllocError, Global};
 use std::test::Fail;
 
 /// What the engine wrote, and its status.
 #[derive(Drop)]
-struct Told {
+struct Output {
     status: u8,
     lines: Vec<u8>,
 }
 
-impl Told {
+impl Output {
     fn is(&self, status: u8, lines: &str) -> bool {
         self.status == status && self.lines.as_slice() == lines.as_bytes()
     }
 }
 
-fn told_of(alloc: Global, block: &[u8]) -> Told {
-    let mut block = Watched::new(block);
-    let mut replies = Watched::new(Vec::new(alloc));
+/// What the engine writes over a reader and a writer that take so many calls.
+fn told(alloc: Global, block: &[u8], good_reads: usize, good_calls: usize) -> Output {
+    let mut block = Watched::new(Slow {
+        rest: block,
+        good_reads,
+    });
+    let mut replies = Watched::new(Narrow {
+        text: Vec::new(alloc),
+        good_calls,
+    });
     let outcome = check_engine(alloc, &mut block, &mut replies);
-    Told {
+    Output {
+        status: status_of(&outcome),
+        lines: replies.inner.text,
+    }
+}
+
+const ALL: usize = usize::MAX;
+
+/// What a writer that held these bytes has after the engine was given the whole block at once.
+fn at_once(alloc: Global, block: &[u8], held: Vec<u8>) -> Output {
+    let mut block = Watched::new(block);
+    let mut replies = Watched::new(held);
+    let outcome = check_engine(alloc, &mut block, &mut replies);
+    Output {
         status: status_of(&outcome),
         lines: replies.inner,
     }
 }
 
-/// A block, and the lines of its verdicts.
-type Row = (&'static str, &'static str);
-
-const ROWS: [Row; 15] = [
+/// Blocks, and the lines of their verdicts.
+const ROWS: [(&str, &str); 15] = [
     ("", ""),
     ("\n", "0 accepted\n"),
     (" \t\r\n# nothing", "0 accepted\n"),
@@ -48,11 +67,14 @@ const ROWS: [Row; 15] = [
     ),
     // Each request has its own prefixes.
     (
-        "PREFIX ex: <http://e/> INSERT DATA { ex:a ex:p ex:b }\n----\nINSERT DATA { ex:a ex:p ex:b }\n----\nPREFIX ex: <http://e/>",
+        "PREFIX ex: <x:> INSERT DATA { ex:a ex:p ex:b }\n----\n\
+            INSERT DATA { ex:a ex:p ex:b }\n----\n\
+            PREFIX ex: <x:>",
         "0 accepted\n1 refused prefix\n2 accepted\n",
     ),
     (
-        "INSERT DATA { ?x <http://e/p> <http://e/b> }\n----\nDELETE DATA { ?x nope:p <http://e/b> }",
+        "INSERT DATA { ?x <x:p> <x:b> }\n----\n\
+            DELETE DATA { ?x nope:p <x:b> }",
         "0 refused variable-in-data\n1 refused prefix\n",
     ),
     // A request that changes nothing is accepted, and so is one of many operations.
@@ -60,83 +82,90 @@ const ROWS: [Row; 15] = [
         "INSERT DATA { }\n----\nDELETE DATA { } ; INSERT DATA { } ;",
         "0 accepted\n1 accepted\n",
     ),
+    // Refusals that are looked for after the prefixes and the variables.
     (
-        "PREFIX ex: <http://e/> INSERT DATA { ?x nope:p 1 }\n----\nPREFIX ex: <http://e/> INSERT DATA { GRAPH ?g { ex:a ex:p 1 } }\n----\nPREFIX ex: <http://e/> DELETE WHERE { _:x ex:p ?o }\n----\nPREFIX ex: <http://e/> INSERT DATA { _:x ex:p 1 } ; INSERT DATA { _:x ex:p 2 }\n----\nPREFIX ex: <http://e/> INSERT DATA { ex:a ex:p -1 }\n----\nPREFIX ex: <http://e/> INSERT DATA { ex:a ex:p 1.5 }\n----\nPREFIX ex: <http://e/> INSERT DATA { ex:a ex:p 1. }\n----\nPREFIX ex: <http://e/> INSERT DATA { ex:a a ex:C }\n----\nPREFIX ex: <http://e/> INSERT DATA { ex:a A ex:C }\n----\nPREFIX ex: <http://e/> insert data { } ;\n----\nPREFIX ex: <http://e/> ;\n----\nPREFIX ex: <http://e/> INSERT { ?x ex:p 1 } WHERE { _:b ex:p ?x }",
-        "0 refused prefix\n1 refused variable-in-data\n2 refused blank-in-delete\n3 refused label-reused\n4 refused syntax\n5 refused syntax\n6 accepted\n7 accepted\n8 refused syntax\n9 accepted\n10 refused syntax\n11 refused syntax\n",
+        "DELETE WHERE { _:x <x:p> ?o }\n----\n\
+            INSERT DATA { _:x <x:p> 1 } ; INSERT DATA { _:x <x:p> 2 }",
+        "0 refused blank-in-delete\n1 refused label-reused\n",
     ),
 ];
 
 #[test]
 fn verdicts_of_blocks(rt: HostRuntime) {
     for (block, lines) in &ROWS {
-        assert!(rt;
-            told_of(rt.alloc(), block.as_bytes()).is(0, lines),
-            "{block:?}"
-        );
+        let output = told(rt.alloc(), block.as_bytes(), ALL, ALL);
+        assert!(rt; output.is(0, lines), "{block:?}");
     }
 }
 
-/// This many times the bytes.
-fn repeated(alloc: Global, bytes: &[u8], times: u32) -> Result<Vec<u8>, AllocError> {
-    let mut text = Vec::new(alloc);
+/// This many times the text.
+fn add(block: &mut Vec<u8>, text: &str, times: u32) -> Result<(), AllocError> {
     for _time in 0..times {
-        text.extend_from_slice(bytes)?;
+        block.extend_from_slice(text.as_bytes())?;
     }
-    Ok(text)
-}
-
-#[test]
-fn limits_of_a_request(rt: HostRuntime) -> Result<(), Fail> {
-    let alloc = rt.alloc();
-    let mut block = repeated(alloc, b" ", 1 << 20)?;
-    assert!(rt; told_of(alloc, &block).is(0, "0 accepted\n"));
-    block.push(b' ')?;
-    assert!(rt; told_of(alloc, &block).is(0, "0 refused limit\n"));
-    block.extend_from_slice(b"\n----\n")?;
-    assert!(rt; told_of(alloc, &block).is(0, "0 refused limit\n1 accepted\n"));
-    let operations = repeated(alloc, b"INSERT DATA { };", 256)?;
-    assert!(rt; told_of(alloc, &operations).is(0, "0 accepted\n"));
-    let operations = repeated(alloc, b"INSERT DATA { };", 257)?;
-    assert!(rt; told_of(alloc, &operations).is(0, "0 refused limit\n"));
     Ok(())
 }
 
-/// The front of a request, what follows it again and again, how often, and the back.
-type Chain = (&'static str, &'static str, u32, &'static str);
+/// The front of a block, what follows it again and again, how often, the back, and the lines.
+type Chain = (&'static str, &'static str, u32, &'static str, &'static str);
 
-// Each has nearly 2^20 bytes. What they are read as is as deep to the left as they are long.
-const CHAINS: [Chain; 3] = [
-    ("INSERT { } WHERE { FILTER(1", "+1", 524_000, ") }"),
-    ("INSERT { } WHERE { ", "{}", 524_000, " }"),
-    ("INSERT { } WHERE { {}", "UNION{}", 149_700, " }"),
+// What the first three are read as is as deep to the left as they are long. The last has a request that is a byte too long.
+const CHAINS: [Chain; 4] = [
+    (
+        "INSERT { } WHERE { FILTER(1",
+        "+1",
+        524_000,
+        ") }",
+        "0 accepted\n",
+    ),
+    ("INSERT { } WHERE { ", "{}", 524_000, " }", "0 accepted\n"),
+    (
+        "INSERT { } WHERE { {}",
+        "UNION{}",
+        149_700,
+        " }",
+        "0 accepted\n",
+    ),
+    (
+        " ",
+        " ",
+        1 << 20,
+        "\n----\n",
+        "0 refused limit\n1 accepted\n",
+    ),
 ];
 
 #[test]
-fn long_chains(rt: HostRuntime) -> Result<(), Fail> {
-    let alloc = rt.alloc();
-    for (front, link, times, back) in &CHAINS {
-        let mut block = repeated(alloc, front.as_bytes(), 1)?;
-        let links = repeated(alloc, link.as_bytes(), *times)?;
-        block.extend_from_slice(links.as_slice())?;
-        block.extend_from_slice(back.as_bytes())?;
-        assert!(rt; told_of(alloc, &block).is(0, "0 accepted\n"), "{front:?}");
+fn long_blocks(rt: HostRuntime) -> Result<(), Fail> {
+    for (front, link, times, back, lines) in CHAINS {
+        let mut block = Vec::new(rt.alloc());
+        add(&mut block, front, 1)?;
+        add(&mut block, link, times)?;
+        add(&mut block, back, 1)?;
+        assert!(rt;
+            told(rt.alloc(), &block, ALL, ALL).is(0, lines),
+            "{front:?}"
+        );
     }
     Ok(())
 }
+
+/// Blocks that are refused as a whole: their bytes are no text.
+const NO_TEXTS: [&[u8]; 2] = [b"\xff", b"\n----\n# \xc3"];
 
 #[test]
 fn faults_of_blocks(rt: HostRuntime) -> Result<(), Fail> {
     let alloc = rt.alloc();
-    let most = told_of(alloc, &separators(alloc, 4095)?);
+    for block in NO_TEXTS {
+        assert!(rt; told(alloc, block, ALL, ALL).is(4, ""));
+    }
+    let most = told(alloc, &separators(alloc, 4095)?, ALL, ALL);
     assert!(rt; most.status == 0 && line_count(&most.lines) == 4096);
     assert!(rt; most.lines.ends_with(b"\n4094 accepted\n4095 accepted\n"));
     let mut block = separators(alloc, 4096)?;
-    assert!(rt; told_of(alloc, &block).is(4, ""));
     // Too many requests are told before bytes that are no text.
     block.push(0xff)?;
-    assert!(rt; told_of(alloc, &block).is(4, ""));
-    assert!(rt; told_of(alloc, b"\xff").is(4, ""));
-    assert!(rt; told_of(alloc, b"\n----\n# \xc3").is(4, ""));
+    assert!(rt; told(alloc, &block, ALL, ALL).is(4, ""));
     Ok(())
 }
 
@@ -144,50 +173,30 @@ const BLOCK: &str = "\n----\nINSERT";
 
 const LINES: &str = "0 accepted\n1 refused syntax\n";
 
-/// What the engine writes over a slow reader and a narrow writer, which take so many calls.
-fn narrow(alloc: Global, block: &str, good_reads: usize, good_calls: usize) -> Told {
-    let mut block = Watched::new(Slow {
-        rest: block.as_bytes(),
-        good_reads,
-    });
-    let mut replies = Watched::new(Narrow {
-        text: Vec::new(alloc),
-        good_calls,
-    });
-    let outcome = check_engine(alloc, &mut block, &mut replies);
-    Told {
-        status: status_of(&outcome),
-        lines: replies.inner.text,
-    }
-}
-
 #[test]
-fn verdicts_over_slow_devices(rt: HostRuntime) {
-    let alloc = rt.alloc();
-    assert!(rt; narrow(alloc, BLOCK, 1000, 1000).is(0, LINES));
+fn each_call_fails_once(rt: HostRuntime) {
     for reads in 0..=BLOCK.len() {
-        assert!(rt; narrow(alloc, BLOCK, reads, 1000).is(6, ""), "{reads}");
+        assert!(rt;
+            told(rt.alloc(), BLOCK.as_bytes(), reads, ALL).is(6, ""),
+            "{reads}"
+        );
     }
     for writes in 0..=LINES.len() {
-        let told = narrow(alloc, BLOCK, 1000, writes);
-        assert_eq!(rt; told.status, 6);
-        assert_eq!(rt; told.lines.len(), writes);
-        assert!(rt; LINES.as_bytes().starts_with(&told.lines));
+        let output = told(rt.alloc(), BLOCK.as_bytes(), ALL, writes);
+        assert!(rt;
+            output.status == 6 && output.lines.len() == writes,
+            "{writes}"
+        );
+        assert!(rt; LINES.as_bytes().starts_with(&output.lines), "{writes}");
     }
     // An empty answer is flushed.
-    assert!(rt; narrow(alloc, "", 1000, 0).is(6, ""));
-    assert!(rt; narrow(alloc, "", 1000, 1).is(0, ""));
+    assert!(rt; told(rt.alloc(), b"", ALL, 0).is(6, ""));
 }
 
 #[test]
 fn what_the_writer_held_stays(rt: HostRuntime) -> Result<(), Fail> {
-    let alloc = rt.alloc();
-    let mut held = Vec::new(alloc);
+    let mut held = Vec::new(rt.alloc());
     held.extend_from_slice(b"held\n")?;
-    let mut block = Watched::new("\n".as_bytes());
-    let mut replies = Watched::new(held);
-    let outcome = check_engine(alloc, &mut block, &mut replies);
-    assert_eq!(rt; status_of(&outcome), 0);
-    assert!(rt; replies.inner.as_slice() == b"held\n0 accepted\n".as_slice());
+    assert!(rt; at_once(rt.alloc(), b"\n", held).is(0, "held\n0 accepted\n"));
     Ok(())
 }

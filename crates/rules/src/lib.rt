@@ -18,6 +18,3 @@ pub use fault::BlockFault;
 pub use request::{Checked, Update, Verdict, check, checked, judged, taken};
 pub use running::{Taken, runnable};
 pub use splitting::{split, verdicts};
-
-#[cfg(test)]
-mod tests;

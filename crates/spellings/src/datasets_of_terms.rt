@@ -1,54 +1,176 @@
 //! Terms and datasets of terms.
-use crate::made::{iri, is_iri, is_quad, two_graphs};
+use crate::made::{is_iri, is_quad, two_graphs};
 use iris::Iri;
 use std::alloc::Global;
 use std::test::Fail;
 use terms::{Blank, DataSet, Literal, Term, TermTable, canonical, term_text};
 
-const MADE: Term = Term::Made {
-    request: 1,
-    op: 20,
-    label: 0,
-    rank: 4_294_967_295,
-};
+/// What a term is made of.
+#[derive(Clone, Copy)]
+enum Parts {
+    Iri(&'static str),
+    /// The lexical form, the datatype and the tag.
+    Literal(&'static str, &'static str, Option<&'static str>),
+    Blank(&'static str),
+    /// The rank of a node of request 1, operation 20.
+    Made(u32),
+}
 
-const MADE_TEXT: &[u8] = b"_:m7r1o20l0s4294967295";
+use Parts::{Blank as Label, Iri as Text, Literal as Value, Made};
+
+const LANG_STRING: &str = "http://www.w3.org/1999/02/22-rdf-syntax-ns#langString";
+
+const STRING: &str = "http://www.w3.org/2001/XMLSchema#string";
+
+/// Terms in falling order, and how each is written where the tag is 7.
+const TERMS: [(Parts, &str); 17] = [
+    (Made(4_294_967_295), "_:m7r1o20l0s4294967295"),
+    (Made(1), "_:m7r1o20l0s1"),
+    (Made(0), "_:m7r1o20l0s0"),
+    (Label("a"), "_:a"),
+    (Label("_9Z"), "_:_9Z"),
+    (Label("A"), "_:A"),
+    (Label("0"), "_:0"),
+    (Value("é\n", STRING, None), "\"é\\n\""),
+    (Value("b", LANG_STRING, Some("en-gb-1a")), "\"b\"@en-gb-1a"),
+    (Value("b", LANG_STRING, Some("en")), "\"b\"@en"),
+    (Value("b", LANG_STRING, Some("e")), "\"b\"@e"),
+    (Value("b", LANG_STRING, Some("a-1")), "\"b\"@a-1"),
+    (Value("a", "x:e", None), "\"a\"^^<x:e>"),
+    (Value("a", "x:d", None), "\"a\"^^<x:d>"),
+    (Value("", "x:d", None), "\"\"^^<x:d>"),
+    (Text("x:b"), "<x:b>"),
+    (Text("x:a"), "<x:a>"),
+];
+
+/// What is no term.
+const NO_TERMS: [Parts; 17] = [
+    Text("a"),
+    Value("a", "x:d", Some("en")),
+    Value("a", LANG_STRING, None),
+    Value("a", LANG_STRING, Some("")),
+    Value("a", LANG_STRING, Some("EN")),
+    Value("a", LANG_STRING, Some("en-GB")),
+    Value("a", LANG_STRING, Some("1")),
+    Value("a", LANG_STRING, Some("e1")),
+    Value("a", LANG_STRING, Some("en-")),
+    Value("a", LANG_STRING, Some("-en")),
+    Value("a", LANG_STRING, Some("en--a")),
+    Value("a", LANG_STRING, Some("en_a")),
+    Label(""),
+    Label("a-b"),
+    Label("a."),
+    Label("a b"),
+    Label("é"),
+];
+
+fn literal(
+    alloc: Global,
+    lexical: &str,
+    datatype: &str,
+    tag: Option<&str>,
+) -> Result<Option<Literal>, Fail> {
+    let lexical = String::from_str(alloc, lexical)?;
+    let datatype = Iri::check(alloc, datatype)?.ok_or("no IRI")?;
+    let tag = match tag {
+        None => None,
+        Some(tag) => Some(String::from_str(alloc, tag)?),
+    };
+    Ok(Literal::new(lexical, datatype, tag))
+}
+
+fn iri_term(alloc: Global, text: &str) -> Result<Option<Term>, Fail> {
+    match Iri::check(alloc, text)? {
+        Some(iri) => Ok(Some(Term::Iri(iri))),
+        None => Ok(None),
+    }
+}
+
+fn literal_term(
+    alloc: Global,
+    lexical: &str,
+    datatype: &str,
+    tag: Option<&str>,
+) -> Result<Option<Term>, Fail> {
+    match literal(alloc, lexical, datatype, tag)? {
+        Some(literal) => Ok(Some(Term::Literal(literal))),
+        None => Ok(None),
+    }
+}
+
+fn blank_term(alloc: Global, label: &str) -> Result<Option<Term>, Fail> {
+    match Blank::check(alloc, label)? {
+        Some(blank) => Ok(Some(Term::Blank(blank))),
+        None => Ok(None),
+    }
+}
+
+fn made(rank: u32) -> Term {
+    Term::Made {
+        request: 1,
+        op: 20,
+        label: 0,
+        rank,
+    }
+}
+
+fn term(alloc: Global, parts: Parts) -> Result<Option<Term>, Fail> {
+    match parts {
+        Text(text) => iri_term(alloc, text),
+        Value(lexical, datatype, tag) => literal_term(alloc, lexical, datatype, tag),
+        Label(label) => blank_term(alloc, label),
+        Made(rank) => Ok(Some(made(rank))),
+    }
+}
 
 #[test]
-fn iris_copied(rt: HostRuntime) -> Result<(), Fail> {
-    let term = iri(rt.alloc(), "x:a")?;
-    let copy = term.copied(rt.alloc())?;
-    assert!(rt; is_iri(&copy, "x:a"));
-    assert!(rt; copy == term);
+fn no_terms(rt: HostRuntime) -> Result<(), Fail> {
+    for parts in NO_TERMS {
+        assert!(rt; term(rt.alloc(), parts)?.is_none());
+    }
     Ok(())
 }
 
 #[test]
-fn made_nodes_copied(rt: HostRuntime) -> Result<(), Fail> {
-    let copy = MADE.copied(rt.alloc())?;
-    assert!(rt;
-        matches!(
-            copy,
-            Term::Made {
-                request: 1,
-                op: 20,
-                label: 0,
-                rank: 4_294_967_295
-            }
-        )
-    );
+fn terms_and_copies(rt: HostRuntime) -> Result<(), Fail> {
+    for (parts, want) in TERMS {
+        let term = term(rt.alloc(), parts)?.ok_or("no term")?;
+        let copy = term.copied(rt.alloc())?;
+        assert!(rt; copy == term, "{want}");
+        let text = term_text(rt.alloc(), &copy, 7)?;
+        assert!(rt; text.as_slice() == want.as_bytes(), "{want}");
+    }
     Ok(())
 }
 
 #[test]
-fn texts_of_terms(rt: HostRuntime) -> Result<(), Fail> {
-    let term = iri(rt.alloc(), "x:a")?;
-    assert!(rt; term_text(rt.alloc(), &term, 7)?.as_slice() == b"<x:a>".as_slice());
-    assert!(rt; term_text(rt.alloc(), &MADE, 7)?.as_slice() == MADE_TEXT);
-    let mut text = Vec::new(rt.alloc());
-    canonical(rt.alloc(), &term, 7, &mut text)?;
-    canonical(rt.alloc(), &MADE, 7, &mut text)?;
-    assert!(rt; text.as_slice() == b"<x:a>_:m7r1o20l0s4294967295".as_slice());
+fn order(rt: HostRuntime) -> Result<(), Fail> {
+    let alloc = rt.alloc();
+    let mut terms = Vec::new(alloc);
+    for (parts, _) in TERMS {
+        terms.push(term(alloc, parts)?.ok_or("no term")?)?;
+    }
+    terms.sort()?;
+    let mut text = Vec::new(alloc);
+    for term in &terms {
+        canonical(alloc, term, 7, &mut text)?;
+    }
+    let mut rest = text.as_slice();
+    for (_, want) in TERMS {
+        rest = rest.strip_suffix(want.as_bytes()).ok_or("another term")?;
+    }
+    assert!(rt; rest.is_empty());
+    Ok(())
+}
+
+#[test]
+fn parts_of_terms(rt: HostRuntime) -> Result<(), Fail> {
+    let found = literal(rt.alloc(), "é", LANG_STRING, Some("en"))?.ok_or("no literal")?;
+    let copy = found.copied(rt.alloc())?;
+    assert!(rt; copy.lexical() == "é" && copy.tag() == Some("en"));
+    assert!(rt; copy.datatype().as_str() == LANG_STRING);
+    let label = Blank::check(rt.alloc(), "a")?.ok_or("no label")?;
+    assert!(rt; label.copied()?.as_str() == "a");
     Ok(())
 }
 
@@ -74,136 +196,15 @@ fn quads_and_names(rt: HostRuntime) -> Result<(), Fail> {
 #[test]
 fn terms_have_one_place(rt: HostRuntime) -> Result<(), Fail> {
     let mut table = TermTable::new(rt.alloc());
-    assert_eq!(rt; table.place_of(iri(rt.alloc(), "x:a")?)?, 0);
-    assert_eq!(rt; table.place_of(MADE)?, 1);
-    assert_eq!(rt; table.place_of(iri(rt.alloc(), "x:a")?)?, 0);
-    assert_eq!(rt; table.place_of(MADE)?, 1);
+    for (parts, place) in [
+        (Text("x:a"), 0),
+        (Made(5), 1),
+        (Text("x:a"), 0),
+        (Made(5), 1),
+    ] {
+        let term = term(rt.alloc(), parts)?.ok_or("no term")?;
+        assert_eq!(rt; table.place_of(term)?, place);
+    }
     assert!(rt; matches!(table.as_slice(), [first, _] if is_iri(first, "x:a")));
-    Ok(())
-}
-
-const LANG_STRING: &str = "http://www.w3.org/1999/02/22-rdf-syntax-ns#langString";
-
-/// Datatypes, tags, and whether there is a literal with these.
-const LITERALS: [(&str, Option<&str>, bool); 16] = [
-    ("http://www.w3.org/2001/XMLSchema#string", None, true),
-    ("x:d", None, true),
-    ("x:d", Some("en"), false),
-    (LANG_STRING, None, false),
-    (LANG_STRING, Some("en"), true),
-    (LANG_STRING, Some("en-gb-1a"), true),
-    (LANG_STRING, Some("a-1"), true),
-    (LANG_STRING, Some(""), false),
-    (LANG_STRING, Some("EN"), false),
-    (LANG_STRING, Some("en-GB"), false),
-    (LANG_STRING, Some("1"), false),
-    (LANG_STRING, Some("e1"), false),
-    (LANG_STRING, Some("en-"), false),
-    (LANG_STRING, Some("-en"), false),
-    (LANG_STRING, Some("en--a"), false),
-    (LANG_STRING, Some("en_a"), false),
-];
-
-/// The literal of a line end with this datatype and this tag.
-fn literal(alloc: Global, datatype: &str, tag: Option<&str>) -> Result<Option<Literal>, Fail> {
-    let datatype = Iri::check(alloc, datatype)?.ok_or("no IRI")?;
-    let tag = match tag {
-        None => None,
-        Some(tag) => Some(String::from_str(alloc, tag)?),
-    };
-    Ok(Literal::new(String::from_str(alloc, "é\n")?, datatype, tag))
-}
-
-#[test]
-fn literals_of_parts(rt: HostRuntime) -> Result<(), Fail> {
-    for (datatype, tag, is_one) in &LITERALS {
-        let found = literal(rt.alloc(), datatype, *tag)?;
-        assert_eq!(rt; found.is_some(), *is_one, "{datatype:?} {tag:?}");
-        if let Some(found) = found {
-            let copy = found.copied(rt.alloc())?;
-            assert!(rt; copy.lexical() == "é\n");
-            assert!(rt; copy.datatype().as_str() == *datatype);
-            assert!(rt; copy.tag() == *tag);
-            assert!(rt; Term::Literal(copy) == Term::Literal(found));
-        }
-    }
-    Ok(())
-}
-
-/// Texts, and whether each is a label.
-const LABELS: [(&str, bool); 8] = [
-    ("a", true),
-    ("_9Z", true),
-    ("0", true),
-    ("", false),
-    ("a-b", false),
-    ("a.", false),
-    ("a b", false),
-    ("é", false),
-];
-
-#[test]
-fn labels(rt: HostRuntime) -> Result<(), Fail> {
-    for (text, is_one) in &LABELS {
-        let found = Blank::check(rt.alloc(), text)?;
-        assert_eq!(rt; found.is_some(), *is_one, "{text:?}");
-        if let Some(blank) = found {
-            assert!(rt; blank.copied()?.as_str() == *text, "{text:?}");
-        }
-    }
-    Ok(())
-}
-
-/// Terms in rising order, as they are written.
-const RISING: &[u8] =
-    b"<x:a><x:b>\"\"^^<x:d>\"a\"^^<x:d>\"a\"^^<x:e>\"b\"@e\"b\"@en_:A_:a_:m7r0o0l0s0_:m7r0o0l0s1";
-
-fn labelled(alloc: Global, label: &str) -> Result<Term, Fail> {
-    Ok(Term::Blank(Blank::check(alloc, label)?.ok_or("no label")?))
-}
-
-/// A literal with a tag, or with the datatype that is given in its place.
-fn valued(alloc: Global, lexical: &str, datatype: &str, tag: Option<&str>) -> Result<Term, Fail> {
-    let datatype = Iri::check(alloc, datatype)?.ok_or("no IRI")?;
-    let tag = match tag {
-        None => None,
-        Some(tag) => Some(String::from_str(alloc, tag)?),
-    };
-    let literal = Literal::new(String::from_str(alloc, lexical)?, datatype, tag);
-    Ok(Term::Literal(literal.ok_or("no literal")?))
-}
-
-#[test]
-fn order(rt: HostRuntime) -> Result<(), Fail> {
-    let alloc = rt.alloc();
-    let mut terms = vec![in alloc;
-        Term::Made {
-            request: 0,
-            op: 0,
-            label: 0,
-            rank: 1
-        },
-        labelled(alloc, "a")?,
-        valued(alloc, "b", LANG_STRING, Some("en"))?,
-        valued(alloc, "a", "x:e", None)?,
-        iri(alloc, "x:b")?,
-        Term::Made {
-            request: 0,
-            op: 0,
-            label: 0,
-            rank: 0
-        },
-        labelled(alloc, "A")?,
-        valued(alloc, "b", LANG_STRING, Some("e"))?,
-        valued(alloc, "a", "x:d", None)?,
-        valued(alloc, "", "x:d", None)?,
-        iri(alloc, "x:a")?,
-    ]?;
-    terms.sort()?;
-    let mut text = Vec::new(alloc);
-    for term in &terms {
-        canonical(alloc, term, 7, &mut text)?;
-    }
-    assert!(rt; text.as_slice() == RISING);
     Ok(())
 }

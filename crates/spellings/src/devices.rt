@@ -1,8 +1,8 @@
 //! Readers and writers that are slow, or fail.
-ghost use Rattle.std.specs.Prelude.{◌≡◌, IfOk};
+ghost use Rattle.std.specs.Prelude.{◌≡◌, ◌<◌, ◌-◌, ◌^◌, IfOk};
 
 use crate::made::two_graphs;
-use nquads::{BaseFault, Failed, Watched, WriteFault, canonical_text, read, read_bytes, write};
+use nquads::{BaseFault, Watched, WriteFault, canonical_text, read, write};
 use std::alloc::{AllocError, Global};
 use std::io;
 use std::io::{Read, Write};
@@ -75,28 +75,12 @@ fn with_room(alloc: Global, good_calls: usize) -> Result<Watched<Narrow>, AllocE
 
 const TEXT: &[u8] = b"<x:b> <x:p> <x:c> .\r\n# no more\r<x:a> <x:p> <x:c> .";
 
-#[test]
-fn slow_or_at_once(rt: HostRuntime) -> Result<(), Fail> {
-    let whole = read_bytes(rt.alloc(), TEXT)?;
-    let wanted = canonical_text(rt.alloc(), &whole, 1)?;
-    let at_once = read(rt.alloc(), &mut Watched::new(TEXT))?;
-    assert!(rt; canonical_text(rt.alloc(), &at_once, 1)?.as_slice() == wanted.as_slice());
-    let mut slow = Watched::new(Slow {
-        rest: TEXT,
-        good_reads: 1000,
-    });
-    let slowly = read(rt.alloc(), &mut slow)?;
-    assert_eq!(rt; slow.failures, 0);
-    assert!(rt; canonical_text(rt.alloc(), &slowly, 1)?.as_slice() == wanted.as_slice());
-    Ok(())
-}
-
-/// Whether the reader failed. An `Err` where memory ran out.
+/// Whether the reader failed. An `Err` where memory ran out, or the text is bad.
 fn read_failed(outcome: Result<DataSet, BaseFault>) -> Result<bool, BaseFault> {
     match outcome {
-        Err(BaseFault::OutOfMemory) => Err(BaseFault::OutOfMemory),
         Err(BaseFault::Device) => Ok(true),
-        _ => Ok(false),
+        Err(fault) => Err(fault),
+        Ok(_) => Ok(false),
     }
 }
 
@@ -108,8 +92,10 @@ fn each_read_fails_once(rt: HostRuntime) -> Result<(), Fail> {
             good_reads,
         });
         let outcome = read(rt.alloc(), &mut reader);
-        assert!(rt; read_failed(outcome)?, "{good_reads}");
-        assert_eq!(rt; reader.failures, 1);
+        assert!(rt;
+            read_failed(outcome)? && reader.failures == 1,
+            "{good_reads}"
+        );
     }
     Ok(())
 }
@@ -130,55 +116,90 @@ fn each_write_fails_once(rt: HostRuntime) -> Result<(), Fail> {
     for good_calls in 0..text.len() {
         let mut writer = with_room(rt.alloc(), good_calls)?;
         let outcome = write(rt.alloc(), &mut writer, &dataset, 1);
-        assert!(rt; write_failed(outcome)?, "{good_calls}");
-        assert_eq!(rt; writer.failures, 1);
-        assert_eq!(rt; writer.inner.text.len(), good_calls);
-        assert!(rt; text.starts_with(&writer.inner.text), "{good_calls}");
+        assert!(rt;
+            write_failed(outcome)? && writer.failures == 1,
+            "{good_calls}"
+        );
+        let written = &writer.inner.text;
+        assert!(rt;
+            written.len() == good_calls && text.starts_with(written),
+            "{good_calls}"
+        );
     }
     Ok(())
 }
 
 #[test]
+fn slowly(rt: HostRuntime) -> Result<(), Fail> {
+    let mut reader = Watched::new(Slow {
+        rest: TEXT,
+        good_reads: 1000,
+    });
+    let dataset = read(rt.alloc(), &mut reader)?;
+    let text = canonical_text(rt.alloc(), &dataset, 1)?;
+    assert!(rt; text.as_slice() == b"<x:a> <x:p> <x:c> .\n<x:b> <x:p> <x:c> .\n".as_slice());
+    assert_eq!(rt; reader.failures, 0);
+    Ok(())
+}
+
+/// What each read of a device gives, and how many have failed then.
+const READS: [(Option<u8>, u64); 4] = [(Some(b'a'), 0), (Some(b'b'), 0), (None, 1), (None, 2)];
+
+#[test]
 fn single_reads(rt: HostRuntime) {
     let mut reader = Watched::new(Slow {
-        rest: b"ab",
+        rest: b"abc",
         good_reads: 2,
     });
-    let mut buffer = [0u8; 4];
-    assert!(rt; matches!(reader.read(&mut buffer), Ok(1)));
-    assert_eq!(rt; reader.failures, 0);
-    assert_eq!(rt; buffer[0], b'a');
-    assert!(rt; matches!(reader.read(&mut buffer), Ok(1)));
-    assert_eq!(rt; reader.failures, 0);
-    assert_eq!(rt; buffer[0], b'b');
-    assert!(rt; matches!(reader.read(&mut buffer), Err(Failed)));
-    assert_eq!(rt; reader.failures, 1);
+    for (want, failures) in READS {
+        let mut buffer = [0u8; 4];
+        assert!(rt; reader.failures < 10);
+        let found = match reader.read(&mut buffer) {
+            Ok(1) => Some(buffer[0]),
+            _ => None,
+        };
+        assert!(rt; found == want && reader.failures == failures);
+    }
+}
+
+/// Calls of a writer.
+#[derive(Clone, Copy)]
+enum Call {
+    Write(&'static [u8]),
+    WriteAll(&'static [u8]),
+    Flush,
+}
+
+/// Calls, how many bytes each takes, and how many have failed then.
+const CALLS: [(Call, Option<usize>, u64); 7] = [
+    (Call::Write(b"ab"), Some(1), 0),
+    (Call::Write(b""), Some(0), 0),
+    (Call::WriteAll(b"bc"), Some(2), 0),
+    (Call::Flush, Some(0), 0),
+    (Call::Write(b"d"), None, 1),
+    (Call::WriteAll(b"d"), None, 2),
+    (Call::Flush, None, 3),
+];
+
+/// How many bytes a call takes, or nothing where it fails.
+fn taken(writer: &mut Watched<Narrow>, call: Call) -> Option<usize>
+    requires { writer.old.failures < 2 ^ 64 - 1 }
+{
+    match call {
+        Call::Write(text) => writer.write(text).ok(),
+        Call::WriteAll(text) => writer.write_all(text).ok().map(|_| text.len()),
+        Call::Flush => writer.flush().ok().map(|_| 0),
+    }
 }
 
 #[test]
 fn single_writes(rt: HostRuntime) -> Result<(), Fail> {
-    let mut writer = with_room(rt.alloc(), 2)?;
-    assert!(rt; matches!(writer.write(b"ab"), Ok(1)));
-    assert_eq!(rt; writer.failures, 0);
-    assert!(rt; matches!(writer.write(b""), Ok(0)));
-    assert_eq!(rt; writer.failures, 0);
-    assert!(rt; writer.write(b"b").is_err());
-    assert_eq!(rt; writer.failures, 1);
-    assert!(rt; writer.inner.text.as_slice() == b"a".as_slice());
-    Ok(())
-}
-
-#[test]
-fn whole_writes(rt: HostRuntime) -> Result<(), Fail> {
-    let mut writer = with_room(rt.alloc(), 3)?;
-    assert!(rt; writer.write_all(b"bc").is_ok());
-    assert_eq!(rt; writer.failures, 0);
-    assert!(rt; writer.flush().is_ok());
-    assert_eq!(rt; writer.failures, 0);
-    assert!(rt; writer.write_all(b"d").is_err());
-    assert_eq!(rt; writer.failures, 1);
-    assert!(rt; writer.flush().is_err());
-    assert_eq!(rt; writer.failures, 2);
-    assert!(rt; writer.inner.text.as_slice() == b"bc".as_slice());
+    let mut writer = with_room(rt.alloc(), 5)?;
+    for (call, want, failures) in CALLS {
+        assert!(rt; writer.failures < 10);
+        let found = taken(&mut writer, call);
+        assert!(rt; found == want && writer.failures == failures, "{failures}");
+    }
+    assert!(rt; writer.inner.text.as_slice() == b"abc".as_slice());
     Ok(())
 }

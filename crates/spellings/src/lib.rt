@@ -1,5 +1,5 @@
-//! Worked examples of lists, IRIs, terms and datasets, of N-Quads texts and the datasets that they spell, and of readers and writers that are
-//! slow or fail.
+//! Worked examples of lists, IRIs, terms and datasets, of N-Quads texts and the datasets that they spell, and of readers and writers that
+//! are slow or fail.
 #![tactic(auto)]
 
 #[cfg(test)]
@@ -10,7 +10,5 @@ mod devices;
 mod lists;
 #[cfg(test)]
 mod made;
-#[cfg(test)]
-mod objects;
 #[cfg(test)]
 mod texts;

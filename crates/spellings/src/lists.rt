@@ -11,12 +11,9 @@ fn items(rt: HostRuntime) -> Result<(), Fail> {
     for number in [3u8, 1, 3] {
         list.push(number)?;
     }
-    assert_eq!(rt; list.as_slice(), [3, 1, 3].as_slice());
     let copy = list.copied(rt.alloc())?;
     list.clear();
-    assert_eq!(rt; list.len(), 0);
-    assert_eq!(rt; copy.len(), 3);
-    assert!(rt; !copy.is_empty());
+    assert!(rt; list.len() == 0 && copy.len() == 3);
     let again = Items::from_vec(copy.into_vec());
     assert_eq!(rt; again.as_slice(), [3, 1, 3].as_slice());
     Ok(())
@@ -24,12 +21,9 @@ fn items(rt: HostRuntime) -> Result<(), Fail> {
 
 #[test]
 fn sets_of_numbers(rt: HostRuntime) -> Result<(), Fail> {
-    let mut members = Vec::new(rt.alloc());
-    for number in [5, 2, 9, 2, 5] {
-        members.push(Id::Known(number))?;
-    }
-    let set = set_of(members);
-    assert!(rt; matches!(set.as_slice(), [Id::Known(2), Id::Known(5), Id::Known(9)]));
+    let [two, five, nine] = [Id::Known(2), Id::Known(5), Id::Known(9)];
+    let set = set_of(vec![in rt.alloc(); five, two, nine, two, five]?);
+    assert!(rt; set.as_slice() == [two, five, nine].as_slice());
     Ok(())
 }
 
@@ -56,8 +50,8 @@ fn iris_alone(rt: HostRuntime) -> Result<(), Fail> {
         let found = Iri::check(rt.alloc(), text)?;
         assert_eq!(rt; found.is_some(), *is_one, "{text:?}");
         if let Some(iri) = found {
-            assert!(rt; iri.as_str() == *text, "{text:?}");
-            assert!(rt; iri.copied(rt.alloc())?.as_str() == *text, "{text:?}");
+            let copy = iri.copied(rt.alloc())?;
+            assert!(rt; iri.as_str() == *text && copy.as_str() == *text, "{text:?}");
         }
     }
     Ok(())
@@ -89,7 +83,6 @@ fn iris_in_brackets(rt: HostRuntime) -> Result<(), Fail> {
         let found = Iri::at_front(rt.alloc(), text)?;
         assert!(rt; as_bytes(&found) == *front, "{text:?}");
     }
-    assert!(rt; is_utf8("é日".as_bytes()));
-    assert!(rt; !is_utf8(b"\xc3"));
+    assert!(rt; is_utf8("é日".as_bytes()) && !is_utf8(b"\xc3"));
     Ok(())
 }

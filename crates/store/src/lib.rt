@@ -14,6 +14,3 @@ pub mod requests;
 pub use naming::named;
 pub use numbering::{Numbered, number};
 pub use requests::Request;
-
-#[cfg(test)]
-mod tests;

@@ -1,8 +1,8 @@
 //! Texts and blocks with the answers that the standard and this program's limits give them.
 
-use crate::{BlockFault, Checked, checked, split, taken, verdicts};
 use algebra::{Expression, GraphOperation, Link, Modify, Operation, Place, Plan, Slot};
 use meaning::Refusal;
+use rules::{BlockFault, checked, split, taken, verdicts};
 use std::alloc::{AllocError, Global};
 use terms::Term;
 
@@ -197,83 +197,98 @@ const TEXTS: [(&str, Result<usize, Refusal>); 75] = [
 
 /// How many operations a text has, or why it is refused.
 fn answer(alloc: Global, text: &str) -> Result<Result<usize, Refusal>, AllocError> {
-    let request: Checked = checked(alloc, text)?;
-    match request {
-        Ok(operations) => Ok(Ok(operations.len())),
-        Err(refusal) => Ok(Err(refusal)),
-    }
-}
-
-/// A text that is `count` times this part.
-fn repeated(alloc: Global, part: &str, count: usize) -> Result<String, AllocError> {
-    let mut text = String::new(alloc);
-    for _ in 0..count {
-        text.push_str(part)?;
-    }
-    Ok(text)
+    Ok(checked(alloc, text)?.map(|operations| operations.len()))
 }
 
 #[test]
 fn texts(rt: HostRuntime) -> Result<(), AllocError> {
-    let alloc = rt.alloc();
     for (text, want) in TEXTS {
-        let mut whole = String::from_str(alloc, "PREFIX ex: <http://e/> ")?;
-        whole.push_str(text)?;
-        assert!(rt; answer(alloc, whole.as_str())? == want, "{text}");
+        let whole = format!(in rt.alloc(); "PREFIX ex: <http://e/> {text}")?;
+        assert!(rt; answer(rt.alloc(), whole.as_str())? == want, "{text}");
     }
     Ok(())
 }
 
-/// A WHERE whose braces nest so deep.
-fn nested(alloc: Global, depth: usize) -> Result<String, AllocError> {
-    let mut text = String::from_str(alloc, "INSERT { } WHERE ")?;
-    text.push_str(repeated(alloc, "{", depth)?.as_str())?;
-    text.push_str(repeated(alloc, "}", depth)?.as_str())?;
-    Ok(text)
+/// Two parts, how often each stands in turn, what follows, and the answer.
+const LIMITS: [(&str, &str, usize, &str, Result<usize, Refusal>); 7] = [
+    ("{", "}", 64, "", Ok(1)),
+    ("{", "}", 65, "", Err(Refusal::Syntax)),
+    ("INSERT DATA { } ;", "", 256, "", Ok(256)),
+    ("INSERT DATA { } ;", "", 257, "", Err(Refusal::Limit)),
+    (" ", "", 1 << 20, "", Ok(0)),
+    (" ", "", 1 << 20, " ", Err(Refusal::Limit)),
+    (" ", "", 1 << 20, " ;", Err(Refusal::Syntax)),
+];
+
+/// A part so many times.
+fn add(text: &mut String, part: &str, count: usize) -> Result<(), AllocError> {
+    for _ in 0..count {
+        text.push_str(part)?;
+    }
+    Ok(())
 }
 
 #[test]
 fn limits(rt: HostRuntime) -> Result<(), AllocError> {
-    let alloc = rt.alloc();
-    assert!(rt; answer(alloc, nested(alloc, 64)?.as_str())? == Ok(1));
-    assert!(rt; answer(alloc, nested(alloc, 65)?.as_str())? == Err(Refusal::Syntax));
-    let most = repeated(alloc, "INSERT DATA { } ;", 256)?;
-    assert!(rt; answer(alloc, most.as_str())? == Ok(256));
-    let more = repeated(alloc, "INSERT DATA { } ;", 257)?;
-    assert!(rt; answer(alloc, more.as_str())? == Err(Refusal::Limit));
-    let mut spaces = repeated(alloc, " ", 1 << 20)?;
-    assert!(rt; answer(alloc, spaces.as_str())? == Ok(0));
-    spaces.push_str(" ")?;
-    assert!(rt; answer(alloc, spaces.as_str())? == Err(Refusal::Limit));
-    spaces.push_str(";")?;
-    assert!(rt; answer(alloc, spaces.as_str())? == Err(Refusal::Syntax));
+    for (open, close, count, end, want) in LIMITS {
+        let front = if close.is_empty() {
+            ""
+        } else {
+            "INSERT { } WHERE "
+        };
+        let mut text = String::from_str(rt.alloc(), front)?;
+        add(&mut text, open, count)?;
+        add(&mut text, close, count)?;
+        add(&mut text, end, 1)?;
+        assert!(rt;
+            answer(rt.alloc(), text.as_str())? == want,
+            "{count} of {open:?}"
+        );
+    }
+    Ok(())
+}
+
+/// Blocks, and how many requests each has.
+const BLOCKS: [(&str, usize); 6] = [
+    ("", 0),
+    ("\n", 1),
+    ("----\n", 2),
+    ("----", 1),
+    ("----\r\n ----\n", 1),
+    ("a\n----\n----\nb", 3),
+];
+
+#[test]
+fn blocks(rt: HostRuntime) -> Result<(), BlockFault> {
+    for (block, want) in BLOCKS {
+        let requests = split(rt.alloc(), block.as_bytes())?;
+        let verdicts = verdicts(rt.alloc(), block.as_bytes())?;
+        assert!(rt;
+            requests.len() == want && verdicts.len() == want,
+            "{block:?}"
+        );
+    }
+    let no_text = (split(rt.alloc(), &[255]), verdicts(rt.alloc(), &[255]));
+    assert!(rt;
+        matches!(
+            no_text,
+            (Err(BlockFault::BadUtf8), Err(BlockFault::BadUtf8))
+        )
+    );
     Ok(())
 }
 
 #[test]
-fn blocks(rt: HostRuntime) -> Result<(), BlockFault> {
-    let alloc = rt.alloc();
-    for (block, want) in [
-        ("", 0),
-        ("\n", 1),
-        ("----\n", 2),
-        ("----", 1),
-        ("----\r\n ----\n", 1),
-        ("a\n----\n----\nb", 3),
-    ] {
-        assert!(rt; split(alloc, block.as_bytes())?.len() == want);
-        assert!(rt; verdicts(alloc, block.as_bytes())?.len() == want);
-    }
+fn terms_of_blocks(rt: HostRuntime) -> Result<(), BlockFault> {
     let block = split(
-        alloc,
+        rt.alloc(),
         b"PREFIX e: <http://e/> INSERT DATA { e:b a <a:c> }\n----\nINSERT DATA { ",
     )?;
-    let terms = block.terms(alloc)?;
-    assert!(rt; terms.len() == 3);
-    assert!(rt; matches!(&terms[0], Term::Iri(iri) if iri.as_str() == "http://e/b"));
-    assert!(rt; matches!(&terms[1], Term::Iri(iri) if iri.as_str() == RDF_TYPE));
-    assert!(rt; matches!(split(alloc, &[255]), Err(BlockFault::BadUtf8)));
-    assert!(rt; matches!(verdicts(alloc, &[255]), Err(BlockFault::BadUtf8)));
+    let terms = block.terms(rt.alloc())?;
+    assert!(rt;
+        matches!(terms.as_slice(), [Term::Iri(subject), Term::Iri(predicate), _]
+            if subject.as_str() == "http://e/b" && predicate.as_str() == RDF_TYPE)
+    );
     Ok(())
 }
 
@@ -308,90 +323,61 @@ fn runs(rt: HostRuntime) -> Result<(), AllocError> {
     Ok(())
 }
 
-/// Whether a slot is this variable.
 fn is_variable(slot: &Slot<Term>, number: u32) -> bool {
     matches!(slot, Slot::Variable(found) if *found == number)
 }
 
-/// The first operation of a text, which is a DELETE or INSERT.
-fn only_modify(alloc: Global, text: &str) -> Result<Modify<Term>, AllocError> {
-    let Ok(operations) = checked(alloc, text)? else {
-        return Err(AllocError);
-    };
-    for operation in operations.into_vec() {
-        if let Operation::Modify(modify) = operation {
-            return Ok(modify);
+fn is_label(slot: &Slot<Term>, number: u32) -> bool {
+    matches!(slot, Slot::Label(found) if *found == number)
+}
+
+const NUMBERED: &str =
+    "DELETE { ?b <a:p> ?a } INSERT { $a a ?c . _:y a _:x . _:x a _:y } WHERE { $b <a:p> ?a }";
+
+// Variables are numbered by their first place in the WHERE, then in the templates, and labels by theirs in the templates.
+fn is_numbered(modify: &Modify<Term>) -> bool {
+    let delete = matches!(modify.delete.as_slice(), [quad]
+        if is_variable(&quad.subject, 1) && is_variable(&quad.object, 0));
+    let insert = matches!(modify.insert.as_slice(), [first, second, third]
+        if is_variable(&first.subject, 0) && is_variable(&first.object, 2)
+            && is_label(&second.subject, 0) && is_label(&second.object, 1)
+            && is_label(&third.subject, 1) && is_label(&third.object, 0));
+    modify.width == 2 && modify.active.is_none() && delete && insert
+}
+
+const OPTIONAL: &str =
+    "INSERT { } WHERE { ?s <a:p> ?o OPTIONAL { ?s <a:q> ?v FILTER(?o = 1) } FILTER BOUND(?v) }";
+
+fn is_optional(modify: &Modify<Term>) -> bool {
+    let is_group = match modify.pattern.plan() {
+        Plan::Group(parts, filters) => {
+            matches!(filters.as_slice(), [Expression::Bound(2)])
+                && matches!(parts.as_slice(), [(Link::Join, Plan::Basic(_)), (Link::LeftJoin(condition), _)]
+                    if condition.len() == 1)
         }
-    }
-    Err(AllocError)
+        _ => false,
+    };
+    modify.width == 3 && is_group
 }
 
-#[test]
-fn variables(rt: HostRuntime) -> Result<(), AllocError> {
-    let alloc = rt.alloc();
-    let text =
-        "DELETE { ?b <a:p> ?a } INSERT { $a a ?c . _:y a _:x . _:x a _:y } WHERE { $b <a:p> ?a }";
-    let modify = only_modify(alloc, text)?;
-    assert!(rt; modify.width == 2 && modify.active.is_none());
-    assert!(rt; modify.delete.len() == 1 && modify.insert.len() == 3);
-    let delete = &modify.delete.as_slice()[0];
-    assert!(rt; is_variable(&delete.subject, 1) && is_variable(&delete.object, 0));
-    let insert = modify.insert.as_slice();
-    assert!(rt; is_variable(&insert[0].subject, 0) && is_variable(&insert[0].object, 2));
-    assert!(rt;
-        matches!(
-            (&insert[1].subject, &insert[1].object),
-            (Slot::Label(0), Slot::Label(1))
-        )
-    );
-    assert!(rt;
-        matches!(
-            (&insert[2].subject, &insert[2].object),
-            (Slot::Label(1), Slot::Label(0))
-        )
-    );
-    Ok(())
+const IN_GRAPH: &str = "DELETE WHERE { ?s <a:p> ?o GRAPH ?g { } }";
+
+// Behind a GRAPH block more of the default graph may stand, here nothing.
+fn is_in_graph(modify: &Modify<Term>) -> bool {
+    let is_group = match modify.pattern.plan() {
+        Plan::Group(parts, filters) => {
+            filters.is_empty()
+                && matches!(parts.as_slice(), [_, (_, Plan::InGraph(Place::Variable(0), _)), (_, Plan::Basic(triples))]
+                    if triples.is_empty())
+        }
+        _ => false,
+    };
+    modify.width == 3 && modify.delete.len() == 1 && modify.insert.is_empty() && is_group
 }
 
-#[test]
-fn groups(rt: HostRuntime) -> Result<(), AllocError> {
-    let alloc = rt.alloc();
-    let text =
-        "INSERT { } WHERE { ?s <a:p> ?o OPTIONAL { ?s <a:q> ?v FILTER(?o = 1) } FILTER BOUND(?v) }";
-    let modify = only_modify(alloc, text)?;
-    assert!(rt; modify.width == 3);
-    let Plan::Group(parts, filters) = modify.pattern.plan() else {
-        return Err(AllocError);
-    };
-    assert!(rt; filters.len() == 1 && matches!(&filters[0], Expression::Bound(2)));
-    assert!(rt; parts.len() == 2 && matches!(&parts[0], (Link::Join, Plan::Basic(_))));
-    assert!(rt; matches!(&parts[1].0, Link::LeftJoin(condition) if condition.len() == 1));
-    let text = "DELETE WHERE { ?s <a:p> ?o GRAPH ?g { } }";
-    let modify = only_modify(alloc, text)?;
-    assert!(rt; modify.width == 3 && modify.delete.len() == 1 && modify.insert.is_empty());
-    // Behind a GRAPH block more of the default graph may stand, here nothing.
-    let Plan::Group(parts, filters) = modify.pattern.plan() else {
-        return Err(AllocError);
-    };
-    assert!(rt; filters.is_empty() && parts.len() == 3);
-    assert!(rt; matches!(&parts[2].1, Plan::Basic(triples) if triples.is_empty()));
-    assert!(rt; matches!(&parts[1].1, Plan::InGraph(Place::Variable(0), _)));
-    Ok(())
-}
-
-#[test]
-fn graphs(rt: HostRuntime) -> Result<(), AllocError> {
-    let alloc = rt.alloc();
-    let Ok(operations) = checked(alloc, "MOVE SILENT DEFAULT TO <a:g>")? else {
-        return Err(AllocError);
-    };
-    assert!(rt; operations.len() == 1);
-    let Operation::Graphs { silent, operation } = &operations.as_slice()[0] else {
-        return Err(AllocError);
-    };
-    assert!(rt; *silent);
-    assert!(rt;
-        matches!(
+fn is_move(silent: bool, operation: &GraphOperation<Term>) -> bool {
+    silent
+        && matches!(
             operation,
             GraphOperation::Transfer {
                 from: None,
@@ -399,6 +385,46 @@ fn graphs(rt: HostRuntime) -> Result<(), AllocError> {
                 ..
             }
         )
-    );
+}
+
+/// What is looked for in the only operation of a text.
+#[derive(Clone, Copy)]
+enum Sought {
+    Numbers,
+    Optional,
+    InGraph,
+    Move,
+}
+
+/// Texts, and what the only operation of each has.
+const SOUGHT: [(&str, Sought); 4] = [
+    (NUMBERED, Sought::Numbers),
+    (OPTIONAL, Sought::Optional),
+    (IN_GRAPH, Sought::InGraph),
+    ("MOVE SILENT DEFAULT TO <a:g>", Sought::Move),
+];
+
+fn has(operation: &Operation<Term>, sought: Sought) -> bool {
+    match (operation, sought) {
+        (Operation::Modify(modify), Sought::Numbers) => is_numbered(modify),
+        (Operation::Modify(modify), Sought::Optional) => is_optional(modify),
+        (Operation::Modify(modify), Sought::InGraph) => is_in_graph(modify),
+        (Operation::Graphs { silent, operation }, Sought::Move) => is_move(*silent, operation),
+        _ => false,
+    }
+}
+
+fn is_found(alloc: Global, text: &str, sought: Sought) -> Result<bool, AllocError> {
+    match checked(alloc, text)? {
+        Ok(operations) => Ok(matches!(operations.as_slice(), [only] if has(only, sought))),
+        Err(_) => Ok(false),
+    }
+}
+
+#[test]
+fn operations(rt: HostRuntime) -> Result<(), AllocError> {
+    for (text, sought) in SOUGHT {
+        assert!(rt; is_found(rt.alloc(), text, sought)?, "{text}");
+    }
     Ok(())
 }

@@ -2,7 +2,7 @@ use Rattle.std.proofs.Common.{sym, subst}
 use Rattle.datasets.specs.Dataset.{Dataset, IsDataset}
 use Rattle.terms.specs.Term.{term_order}
 use Rattle.terms.specs.declared.term.Term.{Term}
-use Rattle.store.proofs.tests.back.Goals as goal
+use Rattle.request_tests.proofs.numbers.back.Goals as goal
 
 pub named-requires-clause-known : goal.named-requires-clause-known
 named-requires-clause-known c = c.in_ok-numbered.ensures.base_known

@@ -1,11 +1,12 @@
 //! Values of expressions with the answers that the standard and this profile give them.
 
-use crate::{Filtering, effective, value};
 use algebra::{Expression, OneOperator, Place, TwoOperator};
 use dict::{Dict, Id};
+use expr::{Filtering, effective, value};
 use iris::Iri;
 use solution::{Filters, Mapping};
 use std::alloc::{AllocError, Global};
+use std::test::Fail;
 use terms::{Literal, Term};
 
 #[derive(Clone, Copy)]
@@ -235,6 +236,31 @@ fn constant(alloc: Global, dict: &Dict, written: Written) -> Result<Expression<I
     Ok(Expression::Constant(found.unwrap_or(Id::Known(usize::MAX))))
 }
 
+/// What an operator says of an expression and a constant, where no variable is bound: the effective value.
+fn compared(
+    alloc: Global,
+    dict: &Dict,
+    operator: TwoOperator,
+    left: Expression<Id>,
+    right: Written,
+) -> Result<Option<bool>, AllocError> {
+    let right = Box::new(alloc, constant(alloc, dict, right)?)?;
+    let whole = Expression::Two(operator, Box::new(alloc, left)?, right);
+    let mapping = Mapping::empty(alloc, 1)?;
+    Ok(effective(&value(alloc, dict, &whole, &mapping)?))
+}
+
+#[test]
+fn operators(rt: HostRuntime) -> Result<(), AllocError> {
+    let alloc = rt.alloc();
+    for (operator, left, right, want) in TWO {
+        let dict = dictionary(alloc, &[left, right])?;
+        let left = constant(alloc, &dict, left)?;
+        assert!(rt; compared(alloc, &dict, operator, left, right)? == want);
+    }
+    Ok(())
+}
+
 fn one(
     alloc: Global,
     operator: OneOperator,
@@ -243,74 +269,35 @@ fn one(
     Ok(Expression::One(operator, Box::new(alloc, inner)?))
 }
 
-fn two(
-    alloc: Global,
-    operator: TwoOperator,
-    left: Expression<Id>,
-    right: Expression<Id>,
-) -> Result<Expression<Id>, AllocError> {
-    let left = Box::new(alloc, left)?;
-    Ok(Expression::Two(operator, left, Box::new(alloc, right)?))
-}
-
-/// The effective value of an expression where no variable is bound.
-fn holds(
-    alloc: Global,
-    dict: &Dict,
-    expression: &Expression<Id>,
-) -> Result<Option<bool>, AllocError> {
-    let mapping = Mapping::empty(alloc, 1)?;
-    Ok(effective(&value(alloc, dict, expression, &mapping)?))
-}
-
-fn of_two(
-    alloc: Global,
-    operator: TwoOperator,
-    left: Written,
-    right: Written,
-) -> Result<Option<bool>, AllocError> {
-    let dict = dictionary(alloc, &[left, right])?;
-    let left = constant(alloc, &dict, left)?;
-    let right = constant(alloc, &dict, right)?;
-    holds(alloc, &dict, &two(alloc, operator, left, right)?)
-}
-
-/// Whether a function of a term is a term, and nothing where it is an error.
-fn is_function(
-    alloc: Global,
-    operator: OneOperator,
-    inner: Written,
-    want: Written,
-) -> Result<Option<bool>, AllocError> {
-    let dict = dictionary(alloc, &[inner, want])?;
-    let inner = constant(alloc, &dict, inner)?;
-    let computed = one(alloc, operator, inner)?;
-    let want = constant(alloc, &dict, want)?;
-    holds(
-        alloc,
-        &dict,
-        &two(alloc, TwoOperator::SameTerm, computed, want)?,
-    )
-}
-
-#[test]
-fn operators(rt: HostRuntime) -> Result<(), AllocError> {
-    let alloc = rt.alloc();
-    for (operator, left, right, want) in TWO {
-        assert!(rt; of_two(alloc, operator, left, right)? == want);
-    }
-    Ok(())
-}
-
 #[test]
 fn functions(rt: HostRuntime) -> Result<(), AllocError> {
     let alloc = rt.alloc();
     for (operator, inner, want) in FUNCTIONS {
-        let found = is_function(alloc, operator, inner, want.unwrap_or(IRI))?;
-        assert!(rt; found == want.map(|_| true));
+        let term = want.unwrap_or(IRI);
+        let dict = dictionary(alloc, &[inner, term])?;
+        let found = one(alloc, operator, constant(alloc, &dict, inner)?)?;
+        let is_it = compared(alloc, &dict, TwoOperator::SameTerm, found, term)?;
+        assert!(rt; is_it == want.map(|_| true));
     }
     Ok(())
 }
+
+/// Numbers, operators on them from left to right, and the number that this is.
+const CHAINS: [(Written, &[(TwoOperator, Written)], Written); 2] = [
+    (
+        (Kind::Integer, "01"),
+        &[(TwoOperator::Plus, (Kind::Integer, "0"))],
+        ONE,
+    ),
+    (
+        (Kind::Integer, "-2"),
+        &[
+            (TwoOperator::Plus, ONE),
+            (TwoOperator::Times, (Kind::Integer, "3")),
+        ],
+        (Kind::Integer, "-3"),
+    ),
+];
 
 /// `first`, and operators from left to right.
 fn chain(
@@ -327,80 +314,52 @@ fn chain(
     Ok(Expression::Chain(Box::new(alloc, first)?, more))
 }
 
-/// Whether what is computed from left to right is a term, and whether its STR is the text of that term.
-fn is_computed(
-    alloc: Global,
-    first: Written,
-    steps: &[(TwoOperator, Written)],
-    want: Written,
-) -> Result<(Option<bool>, Option<bool>), AllocError> {
-    let dict = dictionary(
-        alloc,
-        &[
-            first,
-            (Kind::Integer, "0"),
-            (Kind::Integer, "3"),
-            ONE,
-            want,
-            (Kind::Text, want.1),
-        ],
-    )?;
-    let computed = chain(alloc, &dict, first, steps)?;
-    let term = two(
-        alloc,
-        TwoOperator::SameTerm,
-        computed,
-        constant(alloc, &dict, want)?,
-    )?;
-    let text = one(alloc, OneOperator::Str, chain(alloc, &dict, first, steps)?)?;
-    let text = two(
-        alloc,
-        TwoOperator::Equal,
-        text,
-        constant(alloc, &dict, (Kind::Text, want.1))?,
-    )?;
-    Ok((holds(alloc, &dict, &term)?, holds(alloc, &dict, &text)?))
-}
-
+// What is computed is the wanted term, and its STR the text of that.
 #[test]
 fn computed(rt: HostRuntime) -> Result<(), AllocError> {
     let alloc = rt.alloc();
-    let both = (Some(true), Some(true));
-    let none = [(TwoOperator::Plus, (Kind::Integer, "0"))];
-    assert!(rt; is_computed(alloc, (Kind::Integer, "01"), &none, ONE)? == both);
-    let more = [
-        (TwoOperator::Plus, ONE),
-        (TwoOperator::Times, (Kind::Integer, "3")),
-    ];
-    assert!(rt; is_computed(alloc, (Kind::Integer, "-2"), &more, (Kind::Integer, "-3"))? == both);
+    for (first, steps, want) in CHAINS {
+        let text = (Kind::Text, want.1);
+        let numbers = [
+            first,
+            ONE,
+            (Kind::Integer, "0"),
+            (Kind::Integer, "3"),
+            want,
+            text,
+        ];
+        let dict = dictionary(alloc, &numbers)?;
+        let found = chain(alloc, &dict, first, steps)?;
+        assert!(rt; compared(alloc, &dict, TwoOperator::SameTerm, found, want)? == Some(true));
+        let found = one(alloc, OneOperator::Str, chain(alloc, &dict, first, steps)?)?;
+        assert!(rt; compared(alloc, &dict, TwoOperator::Equal, found, text)? == Some(true));
+    }
     Ok(())
 }
 
-/// Whether a mapping of one variable passes BOUND of it, and the variable alone.
-fn passes(alloc: Global, dict: &Dict, mapping: &Mapping) -> Result<(bool, bool), AllocError> {
-    let filtering = Filtering::new(dict);
-    let bound = filtering.is_passed(alloc, &Expression::Bound(0), mapping)?;
-    Ok((
-        bound,
-        filtering.is_passed(alloc, &Expression::Variable(0), mapping)?,
-    ))
-}
-
-/// Whether those pass where the variable is bound to this number.
-fn passes_at(alloc: Global, dict: &Dict, id: Id) -> Result<Option<(bool, bool)>, AllocError> {
-    match Mapping::empty(alloc, 1)?.fit(Place::Variable(0), id) {
-        Some(mapping) => Ok(Some(passes(alloc, dict, &mapping)?)),
-        None => Ok(None),
-    }
-}
+/// What a variable is bound to, and whether BOUND of it and the variable alone pass.
+const FILTERS: [(Option<usize>, bool, bool); 4] = [
+    (None, false, false),
+    (Some(0), true, false),
+    (Some(1), true, false),
+    (Some(2), true, true),
+];
 
 #[test]
-fn filters(rt: HostRuntime) -> Result<(), AllocError> {
+fn filters(rt: HostRuntime) -> Result<(), Fail> {
     let alloc = rt.alloc();
     let dict = dictionary(alloc, &[IRI, NO, YES])?;
-    assert!(rt; passes(alloc, &dict, &Mapping::empty(alloc, 1)?)? == (false, false));
-    assert!(rt; passes_at(alloc, &dict, Id::Known(0))? == Some((true, false)));
-    assert!(rt; passes_at(alloc, &dict, Id::Known(1))? == Some((true, false)));
-    assert!(rt; passes_at(alloc, &dict, Id::Known(2))? == Some((true, true)));
+    let filtering = Filtering::new(&dict);
+    for (bound, is_bound, is_true) in FILTERS {
+        let mut mapping = Mapping::empty(alloc, 1)?;
+        if let Some(place) = bound {
+            let fitted = mapping.fit(Place::Variable(0), Id::Known(place));
+            mapping = fitted.ok_or("no mapping")?;
+        }
+        let found = filtering.is_passed(alloc, &Expression::Bound(0), &mapping)?;
+        assert!(rt; found == is_bound, "{bound:?}");
+        let found = filtering.is_passed(alloc, &Expression::Variable(0), &mapping)?;
+        assert!(rt; found == is_true, "{bound:?}");
+    }
     Ok(())
 }
