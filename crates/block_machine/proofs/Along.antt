@@ -1,5 +1,5 @@
 -- A walk along the requests that may have spoken gives what the walk along all gives.
-use Rattle.std.proofs.Common.{◌≡◌, ℕ, zero, suc, ◌<◌, ◌≤◌, ◌⊎◌, inl, inr, Bool, true, false, ◌&&◌, if◌then◌else◌, List, [], ◌∷◌, ◌++◌, length, Option, Some, None, get_or, slice_index_or, ◌+◌, refl, sym, ap, ◌∙◌, subst, arith}
+use Rattle.std.proofs.Common.{◌≡◌, ℕ, zero, suc, ◌<◌, ◌≤◌, inl, inr, Bool, true, false, ◌&&◌, if◌then◌else◌, List, [], ◌∷◌, ◌++◌, length, Option, Some, slice_index_or, ◌+◌, refl, sym, ap, ◌∙◌, subst, arith}
 use Rattle.std.proofs.lemmas.Bool.{cases_lt}
 use Rattle.std.proofs.lemmas.List.{get_or_default, get_or_past}
 use Rattle.datasets.specs.Id.{id_order}
@@ -7,7 +7,7 @@ use Rattle.change_laws.specs.Laws.{IsRising}
 use Rattle.reads.specs.Reads.{View, Read, says, covers}
 use Rattle.block_machine.specs.declared.state.Slot.{Slot}
 use Rattle.block_machine.specs.Machine.{fresh_slot, slot_at, view_at, blocker, touching}
-use Rattle.block_machine.specs.Lower.{request_at, after_first, Leads, NoneCovers}
+use Rattle.block_machine.specs.Lower.{request_at, after_first, Leads}
 use Rattle.block_machine.proofs.Overlay.{uncovered, view_rises}
 
 -- what each step leaves as it was

@@ -12,7 +12,7 @@ use Rattle.block_machine.specs.declared.state.Status.{Status}
 use Rattle.block_machine.specs.declared.state.Status.TheVariants.{Ready, Executing, Executed, Committed as HasCommitted}
 use Rattle.block_machine.specs.declared.state.Noted.{Noted}
 use Rattle.block_machine.specs.declared.state.Pass.{Pass}
-use Rattle.reads.specs.declared.finished.Finished.{Finished}
+use Rattle.delta.specs.declared.finished.Finished.{Finished}
 use Rattle.block_machine.specs.declared.state.Slot.{Slot}
 use Rattle.block_machine.specs.declared.state.Event.{Event}
 use Rattle.block_machine.specs.declared.state.Event.TheVariants.{Take, Read as ReadOf, Publish, Begin, Check, Commit, GiveUp}

@@ -6,7 +6,7 @@ use Rattle.block_machine.specs.declared.state.Status.{Status}
 use Rattle.block_machine.specs.declared.state.Status.TheVariants.{Ready, Executing, Executed, Committed as HasCommitted}
 use Rattle.block_machine.specs.declared.state.Noted.{Noted}
 use Rattle.block_machine.specs.declared.state.Pass.{Pass}
-use Rattle.reads.specs.declared.finished.Finished.{Finished}
+use Rattle.delta.specs.declared.finished.Finished.{Finished}
 use Rattle.block_machine.specs.declared.state.Slot.{Slot}
 use Rattle.block_machine.specs.Machine.{State, slot_at, view_at, is_closed, transcript_of}
 use Rattle.block_machine.specs.Serial.{Setting, IsSound, FrontIsSerial}

@@ -1,5 +1,5 @@
 -- The requests that were found lead to all whose delta covers the read.
-use Rattle.std.proofs.Common.{◌≡◌, ℕ, zero, suc, ◌<◌, ◌≤◌, ◌⊎◌, inl, inr, Bool, true, false, ◌&&◌, List, [], ◌∷◌, length, Some, get_or, refl, sym, ap, ◌∙◌, subst, arith}
+use Rattle.std.proofs.Common.{◌≡◌, ℕ, zero, suc, ◌<◌, ◌≤◌, inl, inr, Bool, true, false, ◌&&◌, List, [], ◌∷◌, length, get_or, refl, sym, ap, ◌∙◌, subst, arith}
 use Rattle.std.specs.Prelude.{filter, ◌||◌, ◌==◌, nat_lt, eqb}
 use Rattle.std.specs.List.{list_any}
 use Rattle.std.specs.List.{dedup}
@@ -10,22 +10,15 @@ use Rattle.std.proofs.lemmas.Cmp.{nat_cmp_total, nat_eq_equiv}
 use Rattle.std.proofs.lemmas.List.{get_or_past}
 use Rattle.std.proofs.lemmas.List.Kept.{IsStrictlySortedBy-dedup, Contains-dedup_nat, Contains-from_dedup}
 use Rattle.std.proofs.lemmas.List.Sorted.{Contains-permutation, IsPermutation-sym}
-use Rattle.std.proofs.lemmas.Bool.{cases_lt, cases_eq, false≢true, and_parts, and_from, eqb-true, ltb-true}
+use Rattle.std.proofs.lemmas.Bool.{cases_lt, false≢true, and_parts, and_from, eqb-true, ltb-true}
 use Rattle.std.proofs.lemmas.Map.Keys.{below_from_sorted}
 use Rattle.std.proofs.lemmas.Map.Lookups.{exact_unsigned}
 use Rattle.sets.specs.Sets.{has}
 use Rattle.sets.proofs.SetLaws.{has-filter, has_alike, exact_by}
-use Rattle.datasets.specs.declared.id.Id.{Id}
-use Rattle.datasets.specs.declared.quad.Quad.{Quad}
-use Rattle.datasets.specs.declared.read.QuadPattern.{QuadPattern}
-use Rattle.datasets.specs.declared.read.Read.TheVariants.{Scan, GraphIs, Graphs}
-use Rattle.datasets.specs.Dataset.{matches}
-use Rattle.datasets.specs.Id.{id_order}
-use Rattle.quad_index.specs.declared.run.Hint.{Hint}
-use Rattle.reads.specs.Reads.{Read, Delta, covers}
+use Rattle.reads.specs.Reads.{Read, covers}
 use Rattle.block_machine.specs.declared.state.Slot.{Slot}
 use Rattle.block_machine.specs.Machine.{slot_at}
-use Rattle.block_machine.specs.Lower.{request_at, after_first, Leads, NoneCovers, AreHinted, AreNamed}
+use Rattle.block_machine.specs.Lower.{request_at, after_first, Leads, NoneCovers}
 
 -- ---- tests of lists
 
@@ -143,25 +136,3 @@ module _ (slots : List Slot) (read : Read) (list : List ℕ) (i : ℕ) (sorted :
 
   pub leads_all : Leads slots read list i
   leads_all = record { within = at_within; rising = at_rising; none = at_none }
-
--- ---- what was found has all whose delta covers the read
-
-pub spoken_scan : (hints : List Hint) (slots : List Slot) (r : Read) (p : QuadPattern Id) (found : List ℕ) → AreHinted hints slots → r ≡ Scan p
-    → ((j : ℕ) → list_any (λ (h : Hint). matches id_order p h.quad && (h.request == j)) hints ≡ true → list_any (λ x. x == j) found ≡ true)
-    → (j : ℕ) → covers (slot_at slots j).delta r ≡ true → list_any (λ x. x == j) found ≡ true
-unfolding covers
-spoken_scan hints slots r p found hinted is f j e =
-    f j (hinted j (matches id_order p) (ap (λ x. covers (slot_at slots j).delta x) (sym is) ∙ e))
-
-or_any : (a b c d : Bool) → (a ≡ true → c ≡ true) → (b ≡ true → d ≡ true) → (a || b) ≡ true → (c || d) ≡ true
-or_any true b c d f g e = ap (λ z. z || d) (f refl)
-or_any false b true d f g e = refl
-or_any false b false d f g e = g e
-
-pub spoken_name : (named : List ℕ) (slots : List Slot) (r : Read) → AreNamed named slots → ((p : QuadPattern Id) → r ≡ Scan p → ⊥)
-    → (j : ℕ) → covers (slot_at slots j).delta r ≡ true → list_any (λ x. x == j) named ≡ true
-unfolding covers
-spoken_name named slots (Scan p) are_named other j e = absurd (other p refl)
-spoken_name named slots (GraphIs g) are_named other j e =
-    are_named j (or_any _ _ _ _ (any_mono _ (λ x. true) (λ x h. refl) (slot_at slots j).delta.there) (any_mono _ (λ x. true) (λ x h. refl) (slot_at slots j).delta.gone) e)
-spoken_name named slots Graphs are_named other j e = are_named j e

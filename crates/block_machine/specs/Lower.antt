@@ -1,11 +1,6 @@
 -- Where the machine looks for what the requests below one have published.
-use Rattle.std.specs.Prelude.{◌≡◌, ℕ, zero, suc, ◌<◌, ◌≤◌, Bool, true, false, ◌&&◌, ◌||◌, ◌==◌, nat_le, List, length, Option, Some, None, slice_index_or}
-use Rattle.std.specs.List.{list_any}
-use Rattle.datasets.specs.declared.id.Id.{Id}
-use Rattle.datasets.specs.declared.quad.Quad.{Quad}
-use Rattle.datasets.specs.declared.read.Read.TheVariants.{Graphs}
-use Rattle.quad_index.specs.declared.run.Hint.{Hint}
-use Rattle.reads.specs.Reads.{Delta, Read, covers}
+use Rattle.std.specs.Prelude.{◌≡◌, ℕ, zero, suc, ◌<◌, ◌≤◌, Bool, true, false, nat_le, List, length, Option, Some, None, slice_index_or}
+use Rattle.reads.specs.Reads.{Read, covers}
 use Rattle.block_machine.specs.declared.state.Slot.{Slot}
 use Rattle.block_machine.specs.Machine.{slot_at, is_closed, is_current}
 
@@ -28,20 +23,13 @@ pub record Leads (slots : List Slot) (read : Read) (list : List ℕ) (i : ℕ) :
   pub rising : (k : ℕ) → k ≤ length list → after_first list i k ≤ request_at list i k
   pub none : (k : ℕ) → k ≤ length list → NoneCovers slots read (after_first list i k) (request_at list i k)
 
--- each quad that a request's delta speaks of has a hint of that request
-abbrev pub AreHinted : List Hint → List Slot → Type 0
-AreHinted hints slots =
-    (j : ℕ) (p : Quad Id → Bool) → (list_any p (slot_at slots j).delta.present || list_any p (slot_at slots j).delta.absent) ≡ true
-    → list_any (λ h. p h.quad && (h.request == j)) hints ≡ true
+-- each request whose delta covers a read is among those that may have spoken of what it asks for
+abbrev pub Knows : (Read → ℕ → Bool) → List Slot → Type 0
+Knows spoken slots = (j : ℕ) (read : Read) → covers (slot_at slots j).delta read ≡ true → spoken read j ≡ true
 
--- each request whose delta speaks of a graph name is among these
-abbrev pub AreNamed : List ℕ → List Slot → Type 0
-AreNamed named slots = (j : ℕ) → covers (slot_at slots j).delta Graphs ≡ true → list_any (λ r. r == j) named ≡ true
-
--- what the machine keeps beside its state: hints, requests that speak of names, and the last change of a committed request
-pub record KeepsLower (slots : List Slot) (front : ℕ) (hints : List Hint) (named : List ℕ) (latest : ℕ) : Type 0 where
-  pub hinted : AreHinted hints slots
-  pub are_named : AreNamed named slots
+-- what the machine keeps beside its state: who may have spoken of what, and the last change of a committed request
+pub record KeepsLower (slots : List Slot) (front : ℕ) (spoken : Read → ℕ → Bool) (latest : ℕ) : Type 0 where
+  pub knows : Knows spoken slots
   pub changes : (moment : ℕ) → is_current slots front moment ≡ nat_le latest moment
   pub closed : (j : ℕ) → j < front → is_closed (Some (slot_at slots j).status) ≡ true
 

@@ -1,13 +1,13 @@
 -- The machine: what each event may be answered, and what it changes.
 use Rattle.std.specs.Prelude.{◌≡◌, ◌≢◌, ℕ, zero, suc, ◌+◌, ◌^◌, ◌<◌, Bool, true, false, ◌&&◌, ◌==◌, if◌then◌else◌, nat_le, List, [], ◌∷◌, ◌++◌, length, map, replicate, Option, Some, None, option_map, slice_get, slice_set, slice_index_or}
 use Rattle.reads.specs.Reads.{View, Read, says, applied, covers, no_change}
-use Rattle.reads.specs.Same.{delta_eq}
+use Rattle.delta.specs.Same.{delta_eq}
 use Rattle.reads.specs.declared.note.Note.{Note}
 use Rattle.block_machine.specs.declared.state.Status.{Status}
 use Rattle.block_machine.specs.declared.state.Status.TheVariants.{Ready, Executing, Executed, Committed as HasCommitted}
 use Rattle.block_machine.specs.declared.state.Pass.{Pass}
 use Rattle.block_machine.specs.declared.state.Noted.{Noted}
-use Rattle.reads.specs.declared.finished.Finished.{Finished}
+use Rattle.delta.specs.declared.finished.Finished.{Finished}
 use Rattle.block_machine.specs.declared.state.Slot.{Slot}
 use Rattle.block_machine.specs.declared.state.Event.{Event}
 use Rattle.block_machine.specs.declared.state.Event.TheVariants.{Take, Read as ReadOf, Publish, Begin, Check, Commit, GiveUp}

@@ -1,9 +1,9 @@
 -- One request after another, and the histories of the machine that are held to it.
 use Rattle.std.specs.Prelude.{◌≡◌, ℕ, zero, suc, List, [], ◌∷◌, ◌++◌, Some, option_to_list}
 use Rattle.reads.specs.Reads.{View, IsDataset}
-use Rattle.reads.specs.Runs.{IsSoundFor}
+use Rattle.delta.specs.Sound.{IsSoundFor}
 use Rattle.meaning.specs.declared.reply.Reply as request
-use Rattle.reads.specs.declared.finished.Finished.{Finished}
+use Rattle.delta.specs.declared.finished.Finished.{Finished}
 use Rattle.block_machine.specs.declared.state.Slot.{Slot}
 use Rattle.block_machine.specs.declared.state.Event.{Event}
 use Rattle.block_machine.specs.declared.state.Event.TheVariants.{Publish}

@@ -8,7 +8,7 @@ ghost use Rattle.block_machine.specs.declared.state.Slot.{Slot};
 ghost use Rattle.block_machine.specs.declared.validate.Verdict.{Verdict};
 ghost use Rattle.reads.specs.Reads.{View};
 
-use reads::laws::equal_deltas_are_one;
+use delta::laws::equal_deltas_are_one;
 
 /// After any lawful events of any workers, the front's view and replies are those of that many first requests, one after another.
 pub fn front_is_serial()

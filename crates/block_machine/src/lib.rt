@@ -10,6 +10,7 @@ mod incarnations;
 pub mod laws;
 mod machine;
 mod slot;
+mod spoken;
 mod state;
 pub mod validate;
 mod version_overlay;

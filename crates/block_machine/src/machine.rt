@@ -7,14 +7,15 @@ ghost use Rattle.block_machine.specs.Lower.{Leads, stands_after};
 ghost use Rattle.block_machine.specs.Machine.{fresh, view_at, slot_at, note_now, note_of, can_commit, transcript_of, CheckVerdict, NextNamesAnswer, NoteVerdict, NoteReply, verdict_reply, status_of, is_closed as closed, HasNext, IsReady, IsPlain, IsAllowed, after};
 
 use crate::candidates::candidates_for;
+use crate::spoken::Spoken;
 use crate::state::{Event, Noted, Pass, Reply, Slot, Status};
 use crate::validate::{self, Verdict};
 use crate::version_overlay::{answer_before, blocker, touching, view_before};
-use crate::{candidates, incarnations, slot};
+use crate::{incarnations, slot};
 use datasets::{Id, Read};
-use quad_index::Hints;
+use delta::Finished;
 use reads::same::same_reads;
-use reads::{Finished, Note, View};
+use reads::{Note, View};
 use std::alloc::{AllocError, Global};
 use std::marker::Model;
 
@@ -24,10 +25,8 @@ pub struct Machine {
     slots: Vec<Slot>,
     clock: u64,
     front: usize,
-    // For each quad that a delta speaks of its request, and some more.
-    hints: Hints,
-    // Each request whose delta speaks of a graph name, and some more.
-    named: Vec<usize>,
+    // Of all that a delta speaks of its request, and some more.
+    spoken: Spoken,
     // The last change of a committed request.
     latest: u64,
 }
@@ -38,10 +37,11 @@ impl Model for Machine {
     ghost Value = { State };
 
     ghost use Rattle.block_machine.specs.Lower.{KeepsLower};
+    ghost use Rattle.block_machine.specs.Spoken.{speaks};
 
     ghost view = { λ m. record { slots = m.slots.items; clock = m.clock; front = m.front } };
 
-    ghost invariant = { λ m. KeepsLower m.slots.items m.front m.hints m.named.items m.latest };
+    ghost invariant = { λ m. KeepsLower m.slots.items m.front (speaks m.spoken) m.latest };
 }
 
 impl Machine {
@@ -57,8 +57,7 @@ impl Machine {
             slots,
             clock: 0,
             front: 0,
-            hints: Hints::new(alloc),
-            named: Vec::new(alloc),
+            spoken: Spoken::new(alloc),
             latest: 0,
         })
     }
@@ -167,7 +166,7 @@ impl Machine {
             return Ok(twice(refusal));
         }
         let slots = self.slots.as_slice();
-        let list = candidates_for(alloc, &self.hints, &self.named, slots, i, read)?;
+        let list = candidates_for(alloc, &self.spoken, slots, i, read)?;
         if let Some(j) = blocker(slots, &list, i, read) {
             return Ok((Reply::Blocked(j), Reply::Blocked(j)));
         }
@@ -221,8 +220,7 @@ impl Machine {
         ensures ok { (worker : ℕ) → OnOk result (self.new ≡ after self.old worker (Event.Publish i n (Some finished.now)) Reply.Published) }
         ensures err { OnErr result (self.new ≡ self.old) }
     {
-        candidates::hint(alloc, &mut self.hints, &finished.delta, i)?;
-        candidates::name(&mut self.named, &finished.delta, i)?;
+        self.spoken.put(alloc, &finished.delta, i)?;
         let clock = self.clock;
         let same = slot::publish(alloc, &mut self.slots[i], n, finished, clock)?;
         if !same {
@@ -301,7 +299,7 @@ impl Machine {
     {
         let slots = self.slots.as_slice();
         let note = &slots[i].notes.as_slice()[stands.next];
-        validate::check(alloc, base, &self.hints, &self.named, slots, i, note)
+        validate::check(alloc, base, &self.spoken, slots, i, note)
     }
 
     /// Commits the request at the front, where it is executed and stamped and no lower request has changed since.

@@ -3,7 +3,7 @@ ghost use Rattle.std.specs.Prelude.{◌≡◌, ◌<◌, ◌+◌, ◌^◌, OnOk, 
 ghost use Rattle.block_machine.specs.Machine.{fresh_slot, taken, with_note, keeps_delta, published as published_slot, begun as begun_slot, passed as passed_slot, aborted as aborted_slot, given as given_slot, committed as committed_slot};
 
 use crate::state::{Noted, Pass, Slot, Status};
-use reads::{Delta, Finished};
+use delta::{Delta, Finished};
 use sets::Items;
 use std::alloc::{AllocError, Global};
 

@@ -1,7 +1,8 @@
 //! What the machine keeps of each request, the events of workers, and what it replies to them.
 
 use datasets::{Id, Read};
-use reads::{Answered, Delta, Finished};
+use delta::{Delta, Finished};
+use reads::Answered;
 use sets::Items;
 
 /// A request's incarnation, counted from 0, and how far it has come.

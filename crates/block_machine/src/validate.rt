@@ -1,13 +1,14 @@
 //! The check of one note: whether its read would be answered as before.
 ghost use Rattle.std.specs.Prelude.{◌≡◌, ◌≤◌, ◌↔◌, length, IsTrue, IfOk, Some};
 ghost use Rattle.block_machine.specs.Machine.{NoteReply, NoteVerdict, ListVerdict, NamesAnswer, verdict_reply};
-ghost use Rattle.block_machine.specs.Lower.{AreHinted, AreNamed};
+ghost use Rattle.block_machine.specs.Lower.{Knows};
+ghost use Rattle.block_machine.specs.Spoken.{speaks};
 
 use crate::candidates::candidates_for;
+use crate::spoken::Spoken;
 use crate::state::{Noted, Slot};
 use crate::version_overlay::{answer_before, blocker, touching};
 use datasets::{Id, Read};
-use quad_index::Hints;
 use reads::View;
 use std::alloc::{AllocError, Global};
 
@@ -26,20 +27,18 @@ pub enum Verdict {
 pub(crate) fn check(
     alloc: Global,
     base: &View,
-    hints: &Hints,
-    named: &[usize],
+    spoken: &Spoken,
     slots: &[Slot],
     i: usize,
     note: &Noted,
 ) -> Result<Verdict, AllocError>
     requires within { i ≤ length slots.now }
-    requires hinted { AreHinted hints.now slots.now }
-    requires named { AreNamed named.now slots.now }
+    requires spoken { Knows (speaks spoken.now) slots.now }
     requires names { NamesAnswer base.now slots.now i note.now }
     ensures verdict { IfOk result (λ verdict. NoteVerdict base.now slots.now i note.now verdict) }
     ensures reply { IfOk result (λ verdict. NoteReply base.now slots.now i (Some note.now) (verdict_reply verdict)) }
 {
-    let list = candidates_for(alloc, hints, named, slots, i, &note.read)?;
+    let list = candidates_for(alloc, spoken, slots, i, &note.read)?;
     if let Some(j) = blocker(slots, &list, i, &note.read) {
         return Ok(Verdict::Blocked(j));
     }
@@ -54,19 +53,17 @@ pub(crate) fn check(
 /// Compares a note's touching list with the list now, at request `i`: no answer is kept, and none is computed.
 pub fn check_list(
     alloc: Global,
-    hints: &Hints,
-    named: &[usize],
+    spoken: &Spoken,
     slots: &[Slot],
     i: usize,
     read: &Read<Id>,
     list: &[(usize, u64)],
 ) -> Result<Verdict, AllocError>
     requires within { i ≤ length slots.now }
-    requires hinted { AreHinted hints.now slots.now }
-    requires named { AreNamed named.now slots.now }
+    requires spoken { Knows (speaks spoken.now) slots.now }
     ensures { IfOk result (λ verdict. ListVerdict slots.now i read.now list.now verdict) }
 {
-    let along = candidates_for(alloc, hints, named, slots, i, read)?;
+    let along = candidates_for(alloc, spoken, slots, i, read)?;
     if let Some(j) = blocker(slots, &along, i, read) {
         return Ok(Verdict::Blocked(j));
     }

@@ -9,7 +9,8 @@ ghost use Rattle.block_machine.specs.Lower.{Leads};
 
 use crate::state::Slot;
 use datasets::{Id, Read};
-use reads::{Answered, Delta, View};
+use delta::Delta;
+use reads::{Answered, View};
 use sets::Items;
 use std::alloc::{AllocError, Global};
 

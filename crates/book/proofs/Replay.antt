@@ -5,8 +5,8 @@ use Rattle.datasets.specs.declared.id.Id.{Id}
 use Rattle.dict.specs.Dictionary.{numbers}
 use Rattle.meaning.specs.Run.{Request, answer_of, run_of_first}
 use Rattle.reads.specs.Reads.{View, IsDataset}
-use Rattle.reads.specs.Runs.{IsSoundFor}
-use Rattle.reads.specs.declared.finished.Finished.{Finished}
+use Rattle.delta.specs.Sound.{IsSoundFor}
+use Rattle.delta.specs.declared.finished.Finished.{Finished}
 use Rattle.block_machine.specs.declared.state.Slot.{Slot}
 use Rattle.block_machine.specs.declared.state.Event.{Event}
 use Rattle.block_machine.specs.declared.state.Event.TheVariants.{Publish}

@@ -8,7 +8,7 @@ use Rattle.meaning.specs.Run.{Request, answer_of, run_of_first}
 use Rattle.meaning.specs.declared.reply.Reply as request
 use Rattle.meaning.specs.declared.reply.Reply.TheVariants.{Done}
 use Rattle.reads.specs.Reads.{View, IsDataset}
-use Rattle.reads.specs.Runs.{IsSoundFor}
+use Rattle.delta.specs.Sound.{IsSoundFor}
 use Rattle.block_machine.specs.declared.state.Event.{Event}
 use Rattle.block_machine.specs.declared.state.Event.TheVariants.{Publish}
 use Rattle.block_machine.specs.declared.state.Reply.{Reply}

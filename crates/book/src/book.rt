@@ -5,11 +5,13 @@ ghost use Rattle.block_machine.specs.Machine.{IsAllowed};
 ghost use Rattle.block_machine.specs.Serial.{IsHistory};
 ghost use Rattle.book.specs.Run.{state_of, setting_of, front_run, kept, IsSoundEvent};
 
-use crate::Request;
 use crate::copies::{copy_of_event, kept_event};
 use block_machine::laws::{front_is_serial, front_is_within, history_goes_on, ready_after};
 use block_machine::{Entry, Event, Machine, Reply};
+use datasets::Id;
+use delta::Outcome;
 use dict::Dict;
+use meaning::Request;
 use reads::View;
 use sets::Items;
 use std::alloc::{AllocError, Global};
@@ -20,7 +22,7 @@ use std::marker::Model;
 pub struct Book<'a> {
     terms: &'a Dict,
     base: &'a View,
-    block: &'a [Request],
+    block: &'a [Request<Id>],
     machine: Machine,
     journal: Vec<Entry>,
 }
@@ -40,20 +42,13 @@ impl<'a> Model for Book<'a> {
     ghost invariant = { λ b. IsReplayed (record { terms = b.terms.now; base = b.base.now; block = b.block.now; history = b.journal.items }) b.machine };
 }
 
-/// The dataset after a number of first requests, and their replies.
-#[derive(Drop)]
-pub struct Outcome {
-    pub dataset: View,
-    pub replies: Items<meaning::Reply>,
-}
-
 impl<'a> Book<'a> {
     /// The book of a base and a block, before any event.
     pub fn new(
         alloc: Global,
         terms: &'a Dict,
         base: &'a View,
-        block: &'a [Request],
+        block: &'a [Request<Id>],
     ) -> Result<Book<'a>, AllocError>
         requires { IsDataset base.now }
         ensures { IfOk result (λ book. book ≡ record { terms = terms.now; base = base.now; block = block.now; history = [] }) }
@@ -169,7 +164,7 @@ impl<'a> Book<'a> {
     }
 
     /// The requests.
-    pub fn block(&self) -> &'a [Request]
+    pub fn block(&self) -> &'a [Request<Id>]
         ensures { result.now ≡ self.now.block }
     {
         self.block

@@ -7,7 +7,4 @@
 mod book;
 mod copies;
 
-pub use book::{Book, Outcome};
-
-/// A request at numbers of terms: its operations, or why it is refused.
-pub type Request = Result<sets::Items<meaning::Operation<datasets::Id>>, meaning::Refusal>;
+pub use book::Book;

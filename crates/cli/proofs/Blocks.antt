@@ -3,12 +3,12 @@ use Rattle.std.proofs.Common.{◌≡◌, ℕ, zero, suc, ◌≤◌, ◌<◌, ◌
 use Rattle.std.specs.Prelude.{IfOk}
 use Rattle.terms.specs.declared.term.Term.{Term}
 use Rattle.meaning.specs.Run.{Request}
-use Rattle.rules.specs.Requests.{AreEach, AreTaken, none, more}
-use Rattle.rules.specs.Runnable.{IsTaken}
+use Rattle.rules.specs.Requests.{AreEach, AreChecked, none, more}
+use Rattle.rules.specs.Refusal.{IsChecked}
 use Rattle.update.specs.Asked.{IsShort}
-use Rattle.cli.specs.Inputs.{AreShort}
+use Rattle.update.specs.Asked.{AreShort}
 
-pub checked_length : {texts : List (List ℕ)} {cs : List (Request Term)} → AreTaken texts cs → length cs ≡ length texts
+pub checked_length : {texts : List (List ℕ)} {cs : List (Request Term)} → AreChecked texts cs → length cs ≡ length texts
 checked_length none = refl
 checked_length (more first rest) = ap suc (checked_length rest)
 
@@ -16,9 +16,9 @@ short_one : (c : Request Term) → IfOk c (λ operations. length operations ≤ 
 short_one (Err kind) h = tt
 short_one (Ok operations) h = omega (arith, h)
 
--- where what the run takes of a text has at most 256 operations
-module _ (few : (text : List ℕ) (c : Request Term) → IsTaken text c → IfOk c (λ operations. length operations ≤ 256)) where
-  pub checked_short : {texts : List (List ℕ)} {cs : List (Request Term)} → AreTaken texts cs → AreShort cs
+-- where an accepted request has at most 256 operations
+module _ (few : (text : List ℕ) (c : Request Term) → IsChecked text c → IfOk c (λ operations. length operations ≤ 256)) where
+  pub checked_short : {texts : List (List ℕ)} {cs : List (Request Term)} → AreChecked texts cs → AreShort cs
   checked_short none i r e = absurd (let n : None ≡ Some r = e in (cc))
   checked_short (more {text} {texts} {c} {cs} first rest) zero r e = at c r e (short_one c (few text c first))
     where

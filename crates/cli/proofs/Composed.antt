@@ -1,6 +1,6 @@
 -- Numbering, running and naming is running.
 use Rattle.std.proofs.lemmas.List.{take_all}
-use Rattle.std.proofs.Common.{◌≡◌, ℕ, zero, suc, true, List, [], ◌∷◌, length, map, Some, None, Ok, Err, refl, sym, ap, ◌∙◌, subst, arith, slice_get}
+use Rattle.std.proofs.Common.{◌≡◌, ℕ, zero, suc, ◌≤◌, true, List, [], ◌∷◌, length, map, Some, None, Ok, Err, refl, sym, ap, ◌∙◌, subst, arith, slice_get}
 use Rattle.datasets.specs.Dataset.{Dataset, IsDataset}
 use Rattle.datasets.specs.declared.id.Id.{Id}
 use Rattle.terms.specs.Term.{term_order}
@@ -9,10 +9,11 @@ use Rattle.dict.specs.Dictionary.{term_of, is_known, written, numbers}
 use Rattle.meaning.specs.Run.{Request, run, run_of_first}
 use Rattle.meaning.specs.declared.reply.Reply.{Reply}
 use Rattle.meaning_laws.specs.Renaming.{renamed, renamed_request, renamed_operation, dataset_known}
-use Rattle.store.specs.Numbered.{IsNumbered, IsCarried, CarriesBlock}
+use Rattle.numbering.specs.Numbered.{IsNumbered, IsCarried, CarriesBlock}
+use Rattle.store.specs.Base.{Base}
 use Rattle.update.specs.Asked.{IsShort}
-use Rattle.driver.specs.Duty.{AreShort as AreShortNumbers}
-use Rattle.cli.specs.Inputs.{AreShort}
+use Rattle.update.specs.Asked.{AreShort}
+use Rattle.book.specs.Run.{Run as BookRun, state_of, front_run}
 use Rattle.cli.specs.Outputs.{IsWhole}
 
 length-map : {A B : Type 0} (f : A → B) (xs : List A) → length (map f xs) ≡ length xs
@@ -31,38 +32,52 @@ short_again : (f : Id → Term) (r : Request Id) → IsShort (renamed_request f 
 short_again f (Ok ops) h = let same : length (map (renamed_operation f) ops) ≡ length ops = length-map (renamed_operation f) ops in (omega (arith, h, same))
 short_again f (Err refusal) h = tt
 
-module _ (d : Dataset Term) (block : List (Request Term)) (terms : List Term) (base : Dataset Id) (requests : List (Request Id)) (numbered : IsNumbered d block terms base requests) where
-  pub short : AreShort block → AreShortNumbers requests
+module _ (d : Dataset Term) (block : List (Request Term)) (b : Base) (requests : List (Request Id)) (numbered : IsNumbered d block b requests) where
+  pub short : AreShort block → AreShort requests
   short h i r e =
-      let f = term_of terms in
+      let f = term_of b.terms in
       let there : slice_get block i ≡ Some (renamed_request f r) = ap (λ (b : List (Request Term)). slice_get b i) (sym numbered.block_is) ∙ get-map (renamed_request f) requests i r e in
       short_again f r (h i (renamed_request f r) there)
 
   pub same_length : length requests ≡ length block
-  same_length = sym (length-map (renamed_request (term_of terms)) requests) ∙ ap length numbered.block_is
+  same_length = sym (length-map (renamed_request (term_of b.terms)) requests) ∙ ap length numbered.block_is
 
-  module _ (carries_block : CarriesBlock) (dataset : IsDataset term_order d) (after : Dataset Id) (replies : List Reply) (whole : IsWhole terms base requests after replies) where
-    carried : IsCarried d block terms base requests whole.0
-    carried = carries_block d block terms base requests whole.0 numbered dataset
+  module _ (carries_block : CarriesBlock) (dataset : IsDataset term_order d) (after : Dataset Id) (replies : List Reply) (whole : IsWhole b.terms b.dataset requests after replies) where
+    carried : IsCarried d block b.terms b.dataset requests whole.0
+    carried = carries_block d block b requests whole.0 numbered dataset
 
     all_of : run_of_first written whole.0 block d ≡ run written block d
     all_of = ap (λ (b : List (Request Term)). run written b d) (take_all whole.0 block (let same = same_length in let h = whole.1 in (omega (arith, same, h))))
 
-    after_is : after ≡ (run_of_first (numbers terms) whole.0 requests base).0
+    after_is : after ≡ (run_of_first (numbers b.terms) whole.0 requests b.dataset).0
     after_is = ap (λ p. p.0) whole.2
 
-    pub known : dataset_known (is_known terms) after ≡ true
+    pub known : dataset_known (is_known b.terms) after ≡ true
     unfolding carried after_is
-    known = ap (dataset_known (is_known terms)) after_is ∙ carried.known
+    known = ap (dataset_known (is_known b.terms)) after_is ∙ carried.known
 
-    pub named_is : renamed (term_of terms) after ≡ (run written block d).0
+    pub named_is : renamed (term_of b.terms) after ≡ (run written block d).0
     unfolding carried after_is all_of
-    named_is = ap (renamed (term_of terms)) after_is ∙ carried.dataset_is ∙ ap (λ p. p.0) all_of
+    named_is = ap (renamed (term_of b.terms)) after_is ∙ carried.dataset_is ∙ ap (λ p. p.0) all_of
 
-    pub named_dataset : IsDataset term_order (renamed (term_of terms) after)
+    pub named_dataset : IsDataset term_order (renamed (term_of b.terms) after)
     unfolding carried after_is
-    named_dataset = subst (λ (e : Dataset Term). IsDataset term_order e) (sym (ap (renamed (term_of terms)) after_is ∙ carried.dataset_is)) carried.dataset
+    named_dataset = subst (λ (e : Dataset Term). IsDataset term_order e) (sym (ap (renamed (term_of b.terms)) after_is ∙ carried.dataset_is)) carried.dataset
 
     pub replies_are : replies ≡ (run written block d).1
     unfolding carried all_of
     replies_are = ap (λ p. p.1) whole.2 ∙ carried.replies_are ∙ ap (λ p. p.1) all_of
+
+-- the front of a book that has committed the whole block
+pub whole_book : (terms : List Term) (base : Dataset Id) (block : List (Request Id)) (book : BookRun) (dataset : Dataset Id) (replies : List Reply)
+    → book.terms ≡ terms → book.base ≡ base → book.block ≡ block → length block ≤ (state_of book).front → (dataset, replies) ≡ front_run book
+    → IsWhole terms base block dataset replies
+whole_book terms base block book dataset replies is_terms is_base is_block whole e =
+    ((state_of book).front, whole, e ∙ (λ t. run_of_first (numbers (is_terms t)) (state_of book).front (is_block t) (is_base t)))
+
+-- the run of the whole block
+pub whole_run : (terms : List Term) (base : Dataset Id) (block : List (Request Id)) (dataset : Dataset Id) (replies : List Reply)
+    → (dataset, replies) ≡ run (numbers terms) block base → IsWhole terms base block dataset replies
+whole_run terms base block dataset replies e =
+    let all : length block ≤ length block = omega arith in
+    (length block, all, e ∙ ap (λ (b : List (Request Id)). run (numbers terms) b base) (sym (take_all (length block) block all)))

@@ -1,5 +1,5 @@
 -- What the program answers to the bytes of a base and of a block, each on its own.
-use Rattle.std.specs.Prelude.{◌≡◌, ℕ, ◌^◌, List, Result, Ok, Err, Some, slice_get}
+use Rattle.std.specs.Prelude.{◌≡◌, ℕ, ◌^◌, List, Result, Ok, Err}
 use Rattle.datasets.specs.Dataset.{Dataset}
 use Rattle.terms.specs.declared.term.Term.{Term}
 use Rattle.meaning.specs.Run.{Request}
@@ -9,7 +9,6 @@ use Rattle.nquads.specs.declared.fault.BaseFault.{BaseFault}
 use Rattle.rules.specs.Requests.{IsSplit}
 use Rattle.rules.specs.declared.fault.BlockFault.TheVariants as block_faults
 use Rattle.rules.specs.declared.fault.BlockFault.{BlockFault}
-use Rattle.update.specs.Asked.{IsShort}
 use Rattle.command_line.specs.declared.fault.Fault.{Fault}
 use Rattle.command_line.specs.declared.fault.Fault.TheVariants as told
 use Rattle.command_line.specs.declared.fault.File.TheVariants as file
@@ -51,10 +50,6 @@ IsBlockAnswer text (Err told.BadUtf8) = IsSplit text (Err block_faults.BadUtf8)
 IsBlockAnswer text (Err told.Memory) = Unit {0}
 IsBlockAnswer text (Err (told.CannotRead file.Block)) = Unit {0}
 IsBlockAnswer text (Err _) = ⊥
-
--- no request has too many operations
-abbrev pub AreShort : List (Request Term) → Type 0
-AreShort requests = (i : ℕ) (r : Request Term) → slice_get requests i ≡ Some r → IsShort r
 
 -- a fault of the base, or of the block where the base is read; memory may run out and a device may fail at any input
 abbrev pub IsFaultOf : (base block : List ℕ) → Fault → Type 0

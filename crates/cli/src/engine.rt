@@ -1,46 +1,54 @@
-//! The engine of the command `run`.
+//! What engines have in common, and the engine of the command `run`.
 ghost use Rattle.std.specs.Prelude.{◌≡◌, ◌≢◌, ◌<◌, ◌≤◌, ◌-◌, ◌^◌, length, IfOk, IfErr, IfSome, OnOk, IsErrOf, string_bytes};
-ghost use Rattle.datasets.specs.Dataset.{IsDataset};
-ghost use Rattle.datasets.specs.Id.{id_order};
-ghost use Rattle.driver.specs.Duty.{AreShort as AreShortNumbers};
-ghost use Rattle.cli.specs.Inputs.{AreShort, IsFaultOf};
-ghost use Rattle.cli.specs.Outputs.{IsAnswerTo, IsWhole, Wrote, WroteInPart};
+ghost use Rattle.cli.specs.Inputs.{IsFaultOf};
+ghost use Rattle.update.specs.Asked.{AreShort};
+ghost use Rattle.cli.specs.Outputs.{IsAnswerTo, Wrote, WroteInPart};
 
 use crate::inputs::{read_base, read_block};
 use crate::outputs::{Texts, write_texts};
-use book::Outcome;
 use command_line::{Fault, File, replies_text};
+use delta::Outcome;
 use driver::run_to_end;
-use nquads::{Watched, canonical_text, tag};
+use nquads::{Watched, canonical_text};
+use numbering::laws::carries_block;
+use numbering::{Numbered, named, number};
 use rules::Block;
 use std::alloc::{AllocError, Global};
 use std::io::{Read, Write};
 use std::sync::Wait;
-use store::laws::carries_block;
-use store::{Numbered, named, number};
 use terms::DataSet;
 
+/// A way to run a block at numbers of terms.
+pub(crate) trait Runs {
+    ghost use Rattle.std.specs.Prelude.{◌<◌, ◌^◌, length, IfOk};
+    ghost use Rattle.update.specs.Asked.{AreShort};
+    ghost use Rattle.cli.specs.Outputs.{IsWhole};
+
+    /// The outcome of the whole block.
+    fn outcome(&self, alloc: Global, numbered: &Numbered) -> Result<Outcome, AllocError>
+        requires few { length numbered.now.block.items < 2 ^ 32 }
+        requires short { AreShort numbered.now.block.items }
+        ensures { IfOk result (λ outcome. IsWhole numbered.now.base.terms numbered.now.base.dataset numbered.now.block.items outcome.dataset outcome.replies) };
+}
+
 /// The texts of the answer to a base and a block. What is not needed any more is let go before the texts are made.
-fn texts_of<T: Wait>(
-    rt: &T,
+fn texts_of<W: Runs>(
+    way: &W,
     alloc: Global,
     base: DataSet,
     block: &Block,
-    workers: u32,
 ) -> Result<Texts, AllocError>
-    requires some { 0 < workers }
-    requires most { workers ≤ 64 }
     requires few { length block.now ≤ 4096 }
     requires short { AreShort block.now }
     ensures { IfOk result (λ texts. IsAnswerTo base block.now texts.dataset.items (string_bytes texts.replies)) }
 {
     carries_block();
     let _parts = base.parts();
-    let tag = tag(alloc, &base)?;
     let numbered = number(alloc, &base, block)?;
     drop(base);
-    let Outcome { dataset, replies } = outcome_of(rt, alloc, &numbered, workers)?;
-    let answer = named(alloc, &numbered.terms, &dataset)?;
+    let Outcome { dataset, replies } = way.outcome(alloc, &numbered)?;
+    let tag = numbered.base.tag();
+    let answer = named(alloc, numbered.base.terms(), &dataset)?;
     drop(numbered);
     drop(dataset);
     Ok(Texts {
@@ -49,23 +57,62 @@ fn texts_of<T: Wait>(
     })
 }
 
-/// The outcome of the whole block at numbers of terms.
-fn outcome_of<T: Wait>(
-    rt: &T,
+/// Reads a base and a block, runs the block in this way, and writes the canonical text of the new dataset and one line a request. The base
+/// is read before the block, and all texts are made before a writer is touched; then the dataset and the replies are written in this order,
+/// each flushed, also where it is empty. A fault is the first that comes: of the base, of the block, want of memory, or of a writer.
+pub(crate) fn run_by<W: Runs, B: Read, K: Read, D: Write, A: Write>(
+    way: &W,
     alloc: Global,
-    numbered: &Numbered,
-    workers: u32,
-) -> Result<Outcome, AllocError>
-    requires some { 0 < workers }
-    requires most { workers ≤ 64 }
-    requires few { length numbered.now.block.items < 2 ^ 32 }
-    requires short { AreShortNumbers numbered.now.block.items }
-    requires dataset { IsDataset id_order numbered.now.base }
-    ensures { IfOk result (λ outcome. IsWhole numbered.now.terms numbered.now.base numbered.now.block.items outcome.dataset outcome.replies) }
+    base: &mut Watched<B>,
+    block: &mut Watched<K>,
+    dataset: &mut Watched<D>,
+    replies: &mut Watched<A>,
+) -> Result<(), Fault>
+    requires base { base.old.failures < 2 ^ 64 - 1 }
+    requires block { block.old.failures < 2 ^ 64 - 1 }
+    requires dataset { dataset.old.failures < 2 ^ 64 - 1 }
+    requires replies { replies.old.failures < 2 ^ 64 - 1 }
+    // What was written is the output of what was read.
+    ensures answer { OnOk result (IfSome (B.remaining base.old.inner) (λ b. IfSome (K.remaining block.old.inner) (λ k. Wrote b k (D.contents dataset.old.inner) (D.contents dataset.new.inner) (A.contents replies.old.inner) (A.contents replies.new.inner)))) }
+    // After a failed write the texts before it are whole, and of its own a beginning was written.
+    ensures part { IsErrOf result (Fault.CannotWrite File.Answer) → IfSome (B.remaining base.old.inner) (λ b. IfSome (K.remaining block.old.inner) (λ k. WroteInPart b k (D.contents dataset.old.inner) (D.contents dataset.new.inner) (A.contents replies.old.inner) (A.contents replies.new.inner))) }
+    // Any other fault comes before a writer is touched.
+    ensures untouched { IfErr result (λ fault. fault ≢ Fault.CannotWrite File.Answer → (dataset.new ≡ dataset.old) × (replies.new ≡ replies.old)) }
+    // Each fault is told only where it is there.
+    ensures fault { IfErr result (λ fault. IfSome (B.remaining base.old.inner) (λ b. IfSome (K.remaining block.old.inner) (λ k. IsFaultOf b k fault))) }
 {
-    let Numbered { terms, base, block } = numbered;
-    let book = run_to_end(rt, alloc, terms, base, block.as_slice(), workers)?;
-    book.outcome(alloc)
+    let read = read_base(alloc, base)?;
+    let requests = read_block(alloc, block)?;
+    match texts_of(way, alloc, read, &requests) {
+        Ok(texts) => write_texts(&texts, dataset, replies),
+        Err(_) => Err(Fault::Memory),
+    }
+}
+
+/// By events of workers, from 1 to 64.
+#[derive(Drop)]
+struct Workers<'r, T: Wait> {
+    rt: &'r T,
+    count: u32,
+    ghost some: { 0 < count },
+    ghost most: { count ≤ 64 },
+}
+
+impl<'r, T: Wait> Runs for Workers<'r, T> {
+    #[tactic(auto, using(crate::proofs::Composed::whole_book))]
+    fn outcome(&self, alloc: Global, numbered: &Numbered) -> Result<Outcome, AllocError> {
+        let (base, block) = (&numbered.base, numbered.block.as_slice());
+        let book = run_to_end(
+            self.rt,
+            alloc,
+            base.terms(),
+            base.dataset(),
+            block,
+            self.count,
+        )?;
+        let outcome = book.outcome(alloc)?;
+        Ok(outcome)
+    }
 }
 
 /// Reads a base and a block, runs the block, and writes the canonical text of the new dataset and one line a request. The base is read
@@ -96,10 +143,6 @@ pub fn run_engine<T: Wait, B: Read, K: Read, D: Write, A: Write>(
     // Each fault is told only where it is there.
     ensures fault { IfErr result (λ fault. IfSome (B.remaining base.old.inner) (λ b. IfSome (K.remaining block.old.inner) (λ k. IsFaultOf b k fault))) }
 {
-    let read = read_base(alloc, base)?;
-    let requests = read_block(alloc, block)?;
-    match texts_of(rt, alloc, read, &requests, workers) {
-        Ok(texts) => write_texts(&texts, dataset, replies),
-        Err(_) => Err(Fault::Memory),
-    }
+    let way = Workers { rt, count: workers };
+    run_by(&way, alloc, base, block, dataset, replies)
 }

@@ -2,7 +2,8 @@
 ghost use Rattle.std.specs.Prelude.{◌≡◌, ◌<◌, ◌≤◌, ◌-◌, ◌^◌, Ok, Err, IfSome, IfOk, length, List, ℕ};
 ghost use Rattle.nquads.specs.Checked.{IsFront};
 ghost use Rattle.rules.specs.Requests.{AreVerdicts, IsSplit};
-ghost use Rattle.cli.specs.Inputs.{IsBaseAnswer, IsBlockAnswer, AreShort, base_fault as the_base_fault, block_fault as the_block_fault, device_fault as the_device_fault};
+ghost use Rattle.update.specs.Asked.{AreShort};
+ghost use Rattle.cli.specs.Inputs.{IsBaseAnswer, IsBlockAnswer, base_fault as the_base_fault, block_fault as the_block_fault, device_fault as the_device_fault};
 ghost use Rattle.cli.specs.Verdicts.{IsJudgement};
 
 use command_line::{Fault, File};

@@ -17,7 +17,7 @@ use Rattle.clap.proofs.WalkLemmas.{first_value-rows, one_text-rows}
 use Rattle.command_line.specs.declared.fault.LineFault.{LineFault}
 use Rattle.command_line.specs.declared.fault.LineFault.TheVariants.{Memory, Help, Wrong}
 use Rattle.command_line.specs.declared.job.Job.{Job}
-use Rattle.command_line.specs.declared.job.Job.TheVariants.{Run, Check}
+use Rattle.command_line.specs.declared.job.Job.TheVariants.{Run, Serial, Check}
 use Rattle.command_line.specs.CommandLine.{program, IsWorkers, IsAsked, IsFileAnswer, IsWorkersAnswer, IsCommandAnswer, IsToldAs, IsAnswer}
 
 simple : is_simple program ≡ true
@@ -33,6 +33,12 @@ no_help e = cc
 
 run_is_not_check : codes "run" ≡ codes "check" → ⊥
 run_is_not_check e = let bad : 3 ≡ 5 = ap length e in absurd (omega (arith, bad))
+
+run_is_not_serial : codes "run" ≡ codes "serial" → ⊥
+run_is_not_serial e = let bad : 3 ≡ 6 = ap length e in absurd (omega (arith, bad))
+
+serial_is_not_check : codes "serial" ≡ codes "check" → ⊥
+serial_is_not_check e = let bad : 6 ≡ 5 = ap length e in absurd (omega (arith, bad))
 
 -- a file that is not named
 pub file_missing : (text : Option Text) (f : LineFault) → IsToldAs InvalidValue f → text ≡ None → IsFileAnswer text (Err f)
@@ -53,6 +59,7 @@ base_fails rows (Wrong m) a = no
   where
     no : (j : Job) → IsAsked (codes "run") rows j → ⊥
     no (Run b k o w) h = let bad : None ≡ Some (string_bytes b) = sym a ∙ h.1 in cc
+    no (Serial b k o) h = absurd (run_is_not_serial h.0)
     no (Check k) h = absurd (run_is_not_check h.0)
 
 pub block_fails : (rows : List Row) (f : LineFault) → IsFileAnswer (first_of (codes "BLOCK") rows) (Err f) → IsCommandAnswer (codes "run") rows (Err f)
@@ -62,6 +69,7 @@ block_fails rows (Wrong m) a = no
   where
     no : (j : Job) → IsAsked (codes "run") rows j → ⊥
     no (Run b k o w) h = let bad : None ≡ Some (string_bytes k) = sym a ∙ h.2 in cc
+    no (Serial b k o) h = absurd (run_is_not_serial h.0)
     no (Check k) h = absurd (run_is_not_check h.0)
 
 pub out_fails : (rows : List Row) (f : LineFault) → IsFileAnswer (first_of (codes "OUT") rows) (Err f) → IsCommandAnswer (codes "run") rows (Err f)
@@ -71,6 +79,7 @@ out_fails rows (Wrong m) a = no
   where
     no : (j : Job) → IsAsked (codes "run") rows j → ⊥
     no (Run b k o w) h = let bad : None ≡ Some (string_bytes o) = sym a ∙ h.3 in cc
+    no (Serial b k o) h = absurd (run_is_not_serial h.0)
     no (Check k) h = absurd (run_is_not_check h.0)
 
 pub workers_fail : (rows : List Row) (f : LineFault) → IsWorkersAnswer (one_of (codes "workers") rows) (Err f) → IsCommandAnswer (codes "run") rows (Err f)
@@ -80,7 +89,38 @@ workers_fail rows (Wrong m) a = no
   where
     no : (j : Job) → IsAsked (codes "run") rows j → ⊥
     no (Run b k o w) h = a w h.4
+    no (Serial b k o) h = absurd (run_is_not_serial h.0)
     no (Check k) h = absurd (run_is_not_check h.0)
+
+pub serial_base_fails : (rows : List Row) (f : LineFault) → IsFileAnswer (first_of (codes "BASE") rows) (Err f) → IsCommandAnswer (codes "serial") rows (Err f)
+serial_base_fails rows Memory a = search rules
+serial_base_fails rows (Help m) a = absurd a
+serial_base_fails rows (Wrong m) a = no
+  where
+    no : (j : Job) → IsAsked (codes "serial") rows j → ⊥
+    no (Run b k o w) h = absurd (run_is_not_serial (sym h.0))
+    no (Serial b k o) h = let bad : None ≡ Some (string_bytes b) = sym a ∙ h.1 in cc
+    no (Check k) h = absurd (serial_is_not_check h.0)
+
+pub serial_block_fails : (rows : List Row) (f : LineFault) → IsFileAnswer (first_of (codes "BLOCK") rows) (Err f) → IsCommandAnswer (codes "serial") rows (Err f)
+serial_block_fails rows Memory a = search rules
+serial_block_fails rows (Help m) a = absurd a
+serial_block_fails rows (Wrong m) a = no
+  where
+    no : (j : Job) → IsAsked (codes "serial") rows j → ⊥
+    no (Run b k o w) h = absurd (run_is_not_serial (sym h.0))
+    no (Serial b k o) h = let bad : None ≡ Some (string_bytes k) = sym a ∙ h.2 in cc
+    no (Check k) h = absurd (serial_is_not_check h.0)
+
+pub serial_out_fails : (rows : List Row) (f : LineFault) → IsFileAnswer (first_of (codes "OUT") rows) (Err f) → IsCommandAnswer (codes "serial") rows (Err f)
+serial_out_fails rows Memory a = search rules
+serial_out_fails rows (Help m) a = absurd a
+serial_out_fails rows (Wrong m) a = no
+  where
+    no : (j : Job) → IsAsked (codes "serial") rows j → ⊥
+    no (Run b k o w) h = absurd (run_is_not_serial (sym h.0))
+    no (Serial b k o) h = let bad : None ≡ Some (string_bytes o) = sym a ∙ h.3 in cc
+    no (Check k) h = absurd (serial_is_not_check h.0)
 
 pub checked_block_fails : (rows : List Row) (f : LineFault) → IsFileAnswer (first_of (codes "BLOCK") rows) (Err f) → IsCommandAnswer (codes "check") rows (Err f)
 checked_block_fails rows Memory a = search rules
@@ -89,16 +129,18 @@ checked_block_fails rows (Wrong m) a = no
   where
     no : (j : Job) → IsAsked (codes "check") rows j → ⊥
     no (Run b k o w) h = absurd (run_is_not_check (sym h.0))
+    no (Serial b k o) h = absurd (serial_is_not_check (sym h.0))
     no (Check k) h = let bad : None ≡ Some (string_bytes k) = sym a ∙ h.1 in cc
 
 -- a name of no command
-pub no_command : (name : Text) (rows : List Row) (f : LineFault) → (name ≡ codes "run" → ⊥) → (name ≡ codes "check" → ⊥) → IsToldAs InvalidValue f → IsCommandAnswer name rows (Err f)
-no_command name rows Memory run check told = search rules
-no_command name rows (Help m) run check told = absurd (no_help told)
-no_command name rows (Wrong m) run check told = no
+pub no_command : (name : Text) (rows : List Row) (f : LineFault) → (name ≡ codes "run" → ⊥) → (name ≡ codes "serial" → ⊥) → (name ≡ codes "check" → ⊥) → IsToldAs InvalidValue f → IsCommandAnswer name rows (Err f)
+no_command name rows Memory run serial check told = search rules
+no_command name rows (Help m) run serial check told = absurd (no_help told)
+no_command name rows (Wrong m) run serial check told = no
   where
     no : (j : Job) → IsAsked name rows j → ⊥
     no (Run b k o w) h = run h.0
+    no (Serial b k o) h = serial h.0
     no (Check k) h = check h.0
 
 not_help : (ks : Kinds) → ks ≡ [] → ks ≢ DisplayHelp ∷ []

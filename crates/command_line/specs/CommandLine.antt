@@ -1,4 +1,5 @@
--- The command line, as `clap` reads it: `sparql-block run BASE BLOCK OUT [--workers N]` or `sparql-block check BLOCK`.
+-- The command line, as `clap` reads it: `sparql-block run BASE BLOCK OUT [--workers N]`, `sparql-block serial BASE BLOCK OUT` or
+-- `sparql-block check BLOCK`.
 use Rattle.std.specs.Prelude.{◌≡◌, ◌≢◌, ◌≤◌, ⊤, true, ℕ, List, [], ◌∷◌, Option, Some, None, Result, Ok, Err, codes, pos, String, string_bytes}
 use Rattle.std.specs.declared.alloc.Global.{Global}
 use Rattle.std.specs.Str.Parse.{IsNumeral, digits_value, without_leading_plus}
@@ -9,7 +10,7 @@ use Rattle.clap.specs.declared.error.kind.ErrorKind.TheVariants.{DisplayHelp, Ou
 use Rattle.command_line.specs.declared.fault.LineFault.{LineFault}
 use Rattle.command_line.specs.declared.fault.LineFault.TheVariants.{Memory, Help, Wrong}
 use Rattle.command_line.specs.declared.job.Job.{Job}
-use Rattle.command_line.specs.declared.job.Job.TheVariants.{Run, Check}
+use Rattle.command_line.specs.declared.job.Job.TheVariants.{Run, Serial, Check}
 
 -- a file is a word that must be there
 abbrev pub file_rule : Text → Rule
@@ -29,6 +30,9 @@ run_of_base_app = with_rule (new_app (codes "run")) (file_rule (codes "BASE"))
 abbrev pub run_app : App
 run_app = with_rule (with_rule (with_rule run_of_base_app (file_rule (codes "BLOCK"))) (file_rule (codes "OUT"))) workers_rule
 
+abbrev pub serial_app : App
+serial_app = with_rule (with_rule (with_rule (new_app (codes "serial")) (file_rule (codes "BASE"))) (file_rule (codes "BLOCK"))) (file_rule (codes "OUT"))
+
 abbrev pub check_app : App
 check_app = with_rule (new_app (codes "check")) (file_rule (codes "BLOCK"))
 
@@ -40,7 +44,7 @@ abbrev pub bare_program : App
 bare_program = record { top = program_shape; subs = [] }
 
 abbrev pub program : App
-program = with_subcommand (with_subcommand bare_program run_app.top) check_app.top
+program = with_subcommand (with_subcommand (with_subcommand bare_program run_app.top) serial_app.top) check_app.top
 
 -- the text is the number in decimal digits, where a plus may stand first
 abbrev pub IsNumber : Text → ℕ → Type 0
@@ -57,6 +61,10 @@ IsAsked name rows (Run base block out workers) = (name ≡ codes "run")
     × (first_of (codes "BLOCK") rows ≡ Some (string_bytes block))
     × (first_of (codes "OUT") rows ≡ Some (string_bytes out))
     × IsWorkers (one_of (codes "workers") rows) workers
+IsAsked name rows (Serial base block out) = (name ≡ codes "serial")
+    × (first_of (codes "BASE") rows ≡ Some (string_bytes base))
+    × (first_of (codes "BLOCK") rows ≡ Some (string_bytes block))
+    × (first_of (codes "OUT") rows ≡ Some (string_bytes out))
 IsAsked name rows (Check block) = (name ≡ codes "check") × (first_of (codes "BLOCK") rows ≡ Some (string_bytes block))
 
 -- what a file's word comes to
@@ -100,4 +108,5 @@ IsAnswer words (Err (Wrong text)) = (fault_of program words ≢ DisplayHelp ∷ 
 -- the workers of a job are from 1 to 64, where it has any
 abbrev pub HasWorkers : Job → Type 0
 HasWorkers (Run base block out workers) = (1 ≤ workers) × (workers ≤ 64)
+HasWorkers (Serial base block out) = ⊤
 HasWorkers (Check block) = ⊤

@@ -2,7 +2,7 @@
 ghost use Rattle.std.specs.Prelude.{◌≡◌, codes, false, map, IfOk, string_bytes};
 ghost use Rattle.clap.specs.declared.builder.command.Command.TheViews.{out-Command as fields_of};
 ghost use Rattle.clap.specs.Words.{app_of, first_of, found_of, kind_of, one_of, rows_of, rule_of};
-ghost use Rattle.command_line.specs.CommandLine.{IsAnswer, IsCommandAnswer, IsFileAnswer, IsToldAs, IsWorkersAnswer, file_rule, workers_option_rule, workers_rule, check_app, run_app, run_of_base_app, bare_program, program as the_program};
+ghost use Rattle.command_line.specs.CommandLine.{IsAnswer, IsCommandAnswer, IsFileAnswer, IsToldAs, IsWorkersAnswer, file_rule, workers_option_rule, workers_rule, check_app, run_app, serial_app, run_of_base_app, bare_program, program as the_program};
 
 use crate::fault::{LineFault, Message};
 use clap::error::ErrorKind;
@@ -25,6 +25,15 @@ pub enum Job {
         out: String,
         /// How many workers run the block, from 1 to 64.
         workers: u32,
+    },
+    /// Runs the block on the base, one request after another by one thread, and writes the dataset that it ends with.
+    Serial {
+        /// The path of the base.
+        base: String,
+        /// The path of the block.
+        block: String,
+        /// The path that the dataset is written to.
+        out: String,
     },
     /// Tells of each request of the block whether it is accepted, or why it is refused.
     Check {
@@ -91,6 +100,17 @@ fn run_command<'a>(alloc: Global) -> Result<Command<'a>, AllocError>
         .arg(workers_argument(alloc))
 }
 
+fn serial_command<'a>(alloc: Global) -> Result<Command<'a>, AllocError>
+    ensures app { IfOk result (λ c. app_of c ≡ serial_app) }
+    ensures local { IfOk result (λ c. (fields_of c).has_globals ≡ false) }
+{
+    Command::new(alloc, "serial")
+        .about("Runs a block of SPARQL updates on a base of N-Quads, one request after another")
+        .arg(file_argument(alloc, "BASE", "The base, a file of N-Quads"))?
+        .arg(file_argument(alloc, "BLOCK", "The block, requests that lines ---- part"))?
+        .arg(file_argument(alloc, "OUT", "The file that the dataset is written to"))
+}
+
 fn check_command<'a>(alloc: Global) -> Result<Command<'a>, AllocError>
     ensures app { IfOk result (λ c. app_of c ≡ check_app) }
     ensures local { IfOk result (λ c. (fields_of c).has_globals ≡ false) }
@@ -116,6 +136,7 @@ fn program<'a>(alloc: Global) -> Result<Command<'a>, AllocError>
 {
     bare_program(alloc)
         .subcommand(run_command(alloc)?)?
+        .subcommand(serial_command(alloc)?)?
         .subcommand(check_command(alloc)?)
 }
 
@@ -176,6 +197,18 @@ fn run_job(alloc: Global, run: &ArgMatches<'_>) -> Result<Job, LineFault>
     })
 }
 
+/// The job of the command `serial`.
+#[tactic(auto, using(crate::proofs::JobLaws::serial_base_fails, crate::proofs::JobLaws::serial_block_fails, crate::proofs::JobLaws::serial_out_fails))]
+fn serial_job(alloc: Global, serial: &ArgMatches<'_>) -> Result<Job, LineFault>
+    ensures { IsCommandAnswer (codes "serial") (rows_of (found_of serial.now)) result }
+{
+    Ok(Job::Serial {
+        base: file_named(alloc, serial, "BASE")?,
+        block: file_named(alloc, serial, "BLOCK")?,
+        out: file_named(alloc, serial, "OUT")?,
+    })
+}
+
 /// The job of the command `check`.
 #[tactic(auto, using(crate::proofs::JobLaws::checked_block_fails))]
 fn check_job(alloc: Global, check: &ArgMatches<'_>) -> Result<Job, LineFault>
@@ -193,6 +226,7 @@ fn command_job(alloc: Global, name: &str, command: &ArgMatches<'_>) -> Result<Jo
 {
     match name {
         "run" => run_job(alloc, command),
+        "serial" => serial_job(alloc, command),
         "check" => check_job(alloc, command),
         _ => Err(wrong(alloc, "error: there is no such command")),
     }

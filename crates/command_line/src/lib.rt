@@ -11,6 +11,3 @@ mod replies;
 pub use fault::{Fault, File, LineFault, Message, told};
 pub use job::{Job, read_job};
 pub use replies::{replies_text, verdicts_text};
-
-#[cfg(test)]
-mod tests;

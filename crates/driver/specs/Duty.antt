@@ -1,8 +1,5 @@
 -- What the driver of a shared book works for, and what it asks of a block.
-use Rattle.std.specs.Prelude.{◌≡◌, ◌≤◌, ℕ, length, List, [], ◌∷◌, Some, slice_get}
-use Rattle.datasets.specs.declared.id.Id.{Id}
-use Rattle.meaning.specs.Run.{Request}
-use Rattle.update.specs.Asked.{IsShort}
+use Rattle.std.specs.Prelude.{◌≡◌, ◌≤◌, ℕ, length, List, [], ◌∷◌}
 use Rattle.book.specs.Run.{state_of}
 use Rattle.shared.specs.Calls.{Viewed, run_of}
 use Rattle.shared.specs.Duty.{Duty}
@@ -11,10 +8,6 @@ use Rattle.shared.specs.Duty.{Duty}
 abbrev pub IsFrontOf : ℕ → List Viewed → Type 0
 IsFrontOf n [] = ⊥
 IsFrontOf n (p ∷ ps) = n ≡ (state_of (run_of p.subject p.seen)).front
-
--- no request has too many operations
-abbrev pub AreShort : List (Request Id) → Type 0
-AreShort block = (i : ℕ) (r : Request Id) → slice_get block i ≡ Some r → IsShort r
 
 -- the first of these passes has seen all requests committed
 abbrev pub HasSeenAll : Duty → List Viewed → Type 0

@@ -3,12 +3,14 @@ ghost use Rattle.std.specs.Prelude.{◌≡◌, ◌<◌, ◌^◌, length, Some, I
 ghost use Rattle.update.specs.Asked.{IsShort};
 ghost use Rattle.shared.specs.Calls.{IsSoundAt};
 ghost use Rattle.shared.specs.Duty.{IsPassFor};
-ghost use Rattle.driver.specs.Duty.{AreShort};
+ghost use Rattle.update.specs.Asked.{AreShort};
 
 use block_machine::Reply;
-use book::Request;
+use datasets::Id;
+use delta::Finished;
 use dict::Dict;
-use reads::{Finished, Stop, View};
+use meaning::Request;
+use reads::{Stop, View};
 use shared::{Pass, Reader, SharedBlock};
 use std::alloc::{AllocError, Global};
 use std::marker::Model;
@@ -30,7 +32,7 @@ pub struct Driver<'s, 'a, R: Wait> {
     pub(crate) shared: &'s SharedBlock<'a>,
     pub(crate) terms: &'a Dict,
     pub(crate) base: &'a View,
-    pub(crate) block: &'a [Request],
+    pub(crate) block: &'a [Request<Id>],
 }
 
 impl<'s, 'a, R: Wait> Model for Driver<'s, 'a, R> {
@@ -52,7 +54,7 @@ impl<'a, R: Wait> Driver<'_, 'a, R> {
         &self,
         pass: Pass<'a>,
         turn: Turn,
-        request: &Request,
+        request: &Request<Id>,
     ) -> Result<(Pass<'a>, Option<Finished>), AllocError>
         requires pass { IsPassFor self.now pass }
         requires place { turn.place < 2 ^ 32 }

@@ -3,11 +3,14 @@ ghost use Rattle.std.specs.Prelude.{◌≡◌, ◌≤◌, ◌<◌, ◌^◌, leng
 ghost use Rattle.reads.specs.Reads.{IsDataset};
 ghost use Rattle.book.specs.Run.{state_of};
 ghost use Rattle.shared.specs.Duty.{IsPassFor};
-ghost use Rattle.driver.specs.Duty.{IsFrontOf, HasSeenAll, AreShort};
+ghost use Rattle.driver.specs.Duty.{IsFrontOf, HasSeenAll};
+ghost use Rattle.update.specs.Asked.{AreShort};
 
 use crate::attempt::Driver;
-use book::{Book, Request};
+use book::Book;
+use datasets::Id;
 use dict::Dict;
+use meaning::Request;
 use reads::View;
 use shared::{Pass, SharedBlock};
 use std::alloc::{AllocError, Global};
@@ -70,7 +73,7 @@ fn opened<'a>(
     alloc: Global,
     terms: &'a Dict,
     base: &'a View,
-    block: &'a [Request],
+    block: &'a [Request<Id>],
     workers: u32,
 ) -> Result<(SharedBlock<'a>, Vec<Pass<'a>>), AllocError>
     requires dataset { IsDataset base.now }
@@ -89,7 +92,7 @@ pub fn run_to_end<'a, R: Wait>(
     alloc: Global,
     terms: &'a Dict,
     base: &'a View,
-    block: &'a [Request],
+    block: &'a [Request<Id>],
     workers: u32,
 ) -> Result<Book<'a>, AllocError>
     requires some { 0 < workers }

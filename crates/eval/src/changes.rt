@@ -8,9 +8,10 @@ ghost use Rattle.reads.specs.Reads.{View, applied};
 
 use crate::lacking::{names_lacking, quads_lacking};
 use datasets::{Id, Quad, QuadPattern};
+use delta::Delta;
 use quad_index::matching::matching;
-use reads::Delta;
-use reads::lists::{copied_names, copied_quads, has_name, names_union, quads_union};
+use reads::lists::{copied_names, copied_quads, names_union, quads_union};
+use sets::is_member;
 use std::alloc::{AllocError, Global};
 
 /// The quads of a pattern after the changes, from those that were told before them. What doesn't match is left out, and so are doubles.
@@ -41,7 +42,7 @@ pub fn names_after(alloc: Global, changes: &Delta, told: &[Id]) -> Result<Vec<Id
 pub fn is_named_after(changes: &Delta, name: Id, was_there: bool) -> bool
     ensures { result ≡ ((was_there && not (has id_order changes.now.gone name)) || has id_order changes.now.there name) }
 {
-    (was_there && !has_name(changes.gone(), &name)) || has_name(changes.there(), &name)
+    (was_there && !is_member(changes.gone(), &name)) || is_member(changes.there(), &name)
 }
 
 // The names of the quads' graphs.

@@ -1,22 +1,14 @@
 //! Differences of lists, by binary search.
 ghost use Rattle.std.specs.Prelude.{◌≡◌, IfOk};
 ghost use Rattle.std.specs.List.Sorted.{IsStrictlySortedBy};
-ghost use Rattle.sets.specs.Sets.{has, without};
+ghost use Rattle.sets.specs.Sets.{without};
 ghost use Rattle.datasets.specs.Dataset.{quad_order};
 ghost use Rattle.datasets.specs.Id.{id_order};
 
 use datasets::{Id, Quad};
 use reads::lists::{copied_names, copied_quads};
-use sets::{Exact, place_of, set_of};
+use sets::{Exact, is_member, set_of};
 use std::alloc::{AllocError, Global};
-
-// Whether a set has the value.
-fn is_member<T: Exact>(set: &[T], value: &T) -> bool
-    requires { IsStrictlySortedBy T.cmp set.now }
-    ensures { result ≡ has T.cmp set.now value.now }
-{
-    place_of(set, value).is_some()
-}
 
 // Those that are not in a set, in their order.
 fn outside<T: Exact + Copy>(alloc: Global, items: &[T], set: &[T]) -> Result<Vec<T>, AllocError>

@@ -14,6 +14,8 @@ mod scanning;
 mod solving;
 
 pub use changes::replaced;
-pub use lacking::quads_lacking;
+pub use lacking::{names_lacking, quads_lacking};
+pub use naming::{graphs, is_graph};
 pub use query::Query;
+pub use scanning::scan;
 pub use solving::solve;

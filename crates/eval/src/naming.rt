@@ -11,7 +11,8 @@ ghost use Rattle.asking.specs.Goes.{Goes};
 use crate::changes::{is_named_after, names_after};
 use crate::scanning::note;
 use datasets::{Id, Read};
-use reads::{Answered, Delta, Note, Source, Stop};
+use delta::Delta;
+use reads::{Answered, Note, Source, Stop};
 use std::alloc::Global;
 
 // Whether an answer tells that a name is there. An answer of another kind counts as no.

@@ -1,6 +1,6 @@
 //! What never changes while a pattern is solved.
 
-use reads::Delta;
+use delta::Delta;
 use std::alloc::Global;
 
 /// What never changes while a pattern is solved.

@@ -11,7 +11,8 @@ ghost use Rattle.asking.specs.Goes.{Goes};
 
 use crate::changes::quads_after;
 use datasets::{Id, Quad, QuadPattern, Read};
-use reads::{Answered, Delta, Note, Source, Stop};
+use delta::Delta;
+use reads::{Answered, Note, Source, Stop};
 use std::alloc::{AllocError, Global};
 
 /// Puts a read with its answer at the end.

@@ -14,8 +14,8 @@ mod operators;
 mod outcome;
 mod parts;
 mod reading;
-#[cfg(test)]
-mod tests;
 mod texts;
 
+pub use evaluate::value;
 pub use filtering::Filtering;
+pub use logic::effective;

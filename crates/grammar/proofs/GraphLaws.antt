@@ -5,11 +5,11 @@ use Rattle.std.specs.Option.{option_map_or}
 use Rattle.iris.specs.Bracketed.{◌>>=◌}
 use Rattle.lexer.specs.declared.token.Token.{Token}
 use Rattle.syntax_trees.specs.declared.tree.Name.{Name}
-use Rattle.syntax_trees.specs.declared.tree.Target.{Target}
-use Rattle.syntax_trees.specs.declared.tree.Target.TheVariants as target
+use Rattle.algebra.specs.declared.update.Target.{Target}
+use Rattle.algebra.specs.declared.update.Target.TheVariants as target
 use Rattle.syntax_trees.specs.declared.tree.Place.{Place}
 use Rattle.syntax_trees.specs.declared.tree.Place.TheVariants as place
-use Rattle.syntax_trees.specs.declared.tree.Transfer.{Transfer}
+use Rattle.algebra.specs.declared.update.Transfer.{Transfer}
 use Rattle.syntax_trees.specs.declared.tree.Operation.{Operation}
 use Rattle.syntax_trees.specs.declared.tree.Operation.TheVariants as operation
 use Rattle.productions.specs.Steps.{Found, Takes, Again}
@@ -94,14 +94,14 @@ graph_again (reads.graph {ts} {r} {rest} {n} word is) = rw (keyword_again word, 
 graph_no_word : {ts rest : List Token} {n : Name} (j : List ℕ) → ReadsGraph ts n rest → is_keyword (codes "GRAPH") j ≡ false → keyword_at j ts ≡ None
 graph_no_word j (reads.graph word is) apart = reads_no_other j word apart
 
-target_again : {ts rest : List Token} {t : Target} → ReadsTarget ts t rest → target_at ts ≡ Some (t, rest)
+target_again : {ts rest : List Token} {t : Target Name} → ReadsTarget ts t rest → target_at ts ≡ Some (t, rest)
 unfolding target_at graph_target_at
 target_again (reads.in_graph g) = rw (graph_no_word (codes "DEFAULT") g refl, graph_no_word (codes "NAMED") g refl, graph_no_word (codes "ALL") g refl, graph_again g) refl
 target_again (reads.default word) = rw (keyword_again word) refl
 target_again (reads.named word) = rw (reads_no_other (codes "DEFAULT") word refl, keyword_again word) refl
 target_again (reads.all word) = rw (reads_no_other (codes "DEFAULT") word refl, reads_no_other (codes "NAMED") word refl, keyword_again word) refl
 
-target_not_silent : {ts rest : List Token} {t : Target} → ReadsTarget ts t rest → keyword_at (codes "SILENT") ts ≡ None
+target_not_silent : {ts rest : List Token} {t : Target Name} → ReadsTarget ts t rest → keyword_at (codes "SILENT") ts ≡ None
 target_not_silent (reads.in_graph g) = graph_no_word (codes "SILENT") g refl
 target_not_silent (reads.default word) = reads_no_other (codes "SILENT") word refl
 target_not_silent (reads.named word) = reads_no_other (codes "SILENT") word refl
@@ -125,17 +125,17 @@ pub create_again : {ts r rest : List Token} {s : Bool} {n : Name} → ReadsSilen
 unfolding create_at
 create_again {s = s} said g = ap (λ (p : Bool × List Token). created p.0 (graph_at p.1)) (silent_again said (graph_no_word (codes "SILENT") g refl)) ∙ ap (created s) (graph_again g)
 
-abbrev dropped : Bool → Option (Target × List Token) → Option (Operation × List Token)
+abbrev dropped : Bool → Option (Target Name × List Token) → Option (Operation × List Token)
 dropped s o = o >>= λ t. Some (operation.Drop s t.0, t.1)
 
-pub drop_again : {ts r rest : List Token} {s : Bool} {t : Target} → ReadsSilent ts s r → ReadsTarget r t rest → drop_at ts ≡ Some (operation.Drop s t, rest)
+pub drop_again : {ts r rest : List Token} {s : Bool} {t : Target Name} → ReadsSilent ts s r → ReadsTarget r t rest → drop_at ts ≡ Some (operation.Drop s t, rest)
 unfolding drop_at
 drop_again {s = s} said t = ap (λ (p : Bool × List Token). dropped p.0 (target_at p.1)) (silent_again said (target_not_silent t)) ∙ ap (dropped s) (target_again t)
 
-abbrev cleared : Bool → Option (Target × List Token) → Option (Operation × List Token)
+abbrev cleared : Bool → Option (Target Name × List Token) → Option (Operation × List Token)
 cleared s o = o >>= λ t. Some (operation.Clear s t.0, t.1)
 
-pub clear_again : {ts r rest : List Token} {s : Bool} {t : Target} → ReadsSilent ts s r → ReadsTarget r t rest → clear_at ts ≡ Some (operation.Clear s t, rest)
+pub clear_again : {ts r rest : List Token} {s : Bool} {t : Target Name} → ReadsSilent ts s r → ReadsTarget r t rest → clear_at ts ≡ Some (operation.Clear s t, rest)
 unfolding clear_at
 clear_again {s = s} said t = ap (λ (p : Bool × List Token). cleared p.0 (target_at p.1)) (silent_again said (target_not_silent t)) ∙ ap (cleared s) (target_again t)
 
@@ -162,7 +162,7 @@ graph_takes (reads.graph {ts} {r} {rest} {n} word is) =
     let c = name_takes r n rest is in
     omega arith
 
-target_takes : {ts rest : List Token} {t : Target} → ReadsTarget ts t rest → length rest < length ts
+target_takes : {ts rest : List Token} {t : Target Name} → ReadsTarget ts t rest → length rest < length ts
 target_takes (reads.in_graph g) = graph_takes g
 target_takes (reads.default word) = keyword_takes word
 target_takes (reads.named word) = keyword_takes word
@@ -179,7 +179,7 @@ create_takes said g =
     let c = graph_takes g in
     omega arith
 
-pub aim_takes : {ts r rest : List Token} {s : Bool} {t : Target} → ReadsSilent ts s r → ReadsTarget r t rest → length rest < length ts
+pub aim_takes : {ts r rest : List Token} {s : Bool} {t : Target Name} → ReadsSilent ts s r → ReadsTarget r t rest → length rest < length ts
 aim_takes said t =
     let a = silent_keeps said in
     let c = target_takes t in

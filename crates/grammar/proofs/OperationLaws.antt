@@ -7,8 +7,8 @@ use Rattle.lexer.specs.declared.token.Token.{Token}
 use Rattle.syntax_trees.specs.Groups.{Part}
 use Rattle.syntax_trees.specs.declared.tree.Name.{Name}
 use Rattle.syntax_trees.specs.declared.tree.Block.{Block}
-use Rattle.syntax_trees.specs.declared.tree.Transfer.{Transfer}
-use Rattle.syntax_trees.specs.declared.tree.Transfer.TheVariants as transfer
+use Rattle.algebra.specs.declared.update.Transfer.{Transfer}
+use Rattle.algebra.specs.declared.update.Transfer.TheVariants as transfer
 use Rattle.syntax_trees.specs.declared.tree.Operation.{Operation}
 use Rattle.syntax_trees.specs.declared.tree.Operation.TheVariants as operation
 use Rattle.productions.specs.Steps.{Found, Takes, Again}

@@ -10,12 +10,12 @@ use Rattle.lexer.specs.declared.stop.Stop.TheVariants as stop
 use Rattle.syntax_trees.specs.Groups.{Part}
 use Rattle.syntax_trees.specs.declared.tree.Name.{Name}
 use Rattle.syntax_trees.specs.declared.tree.Block.{Block}
-use Rattle.syntax_trees.specs.declared.tree.Target.{Target}
-use Rattle.syntax_trees.specs.declared.tree.Target.TheVariants as target
+use Rattle.algebra.specs.declared.update.Target.{Target}
+use Rattle.algebra.specs.declared.update.Target.TheVariants as target
 use Rattle.syntax_trees.specs.declared.tree.Place.{Place}
 use Rattle.syntax_trees.specs.declared.tree.Place.TheVariants as place
-use Rattle.syntax_trees.specs.declared.tree.Transfer.{Transfer}
-use Rattle.syntax_trees.specs.declared.tree.Transfer.TheVariants as transfer
+use Rattle.algebra.specs.declared.update.Transfer.{Transfer}
+use Rattle.algebra.specs.declared.update.Transfer.TheVariants as transfer
 use Rattle.syntax_trees.specs.declared.tree.Operation.{Operation}
 use Rattle.syntax_trees.specs.declared.tree.Operation.TheVariants as operation
 use Rattle.syntax_trees.specs.declared.tree.Step.{Step}
@@ -36,12 +36,12 @@ unfoldable pub graph_at : Reader Name
 graph_at ts = keyword_at (codes "GRAPH") ts >>= name_at
 
 -- a target, or a place, that is a name
-unfoldable pub graph_target_at : Reader Target
+unfoldable pub graph_target_at : Reader (Target Name)
 graph_target_at ts = do
   n ← graph_at ts
   Some (target.Graph n.0, n.1)
 
-unfoldable pub target_at : Reader Target
+unfoldable pub target_at : Reader (Target Name)
 target_at ts =
     option_map_or (λ r. Some (target.Default, r)) (keyword_at (codes "DEFAULT") ts)
     (option_map_or (λ r. Some (target.Named, r)) (keyword_at (codes "NAMED") ts)

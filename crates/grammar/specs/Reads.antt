@@ -8,12 +8,12 @@ use Rattle.lexer.specs.declared.token.Sign.TheVariants as signs
 use Rattle.syntax_trees.specs.Groups.{Part}
 use Rattle.syntax_trees.specs.declared.tree.Name.{Name}
 use Rattle.syntax_trees.specs.declared.tree.Block.{Block}
-use Rattle.syntax_trees.specs.declared.tree.Target.{Target}
-use Rattle.syntax_trees.specs.declared.tree.Target.TheVariants as target
+use Rattle.algebra.specs.declared.update.Target.{Target}
+use Rattle.algebra.specs.declared.update.Target.TheVariants as target
 use Rattle.syntax_trees.specs.declared.tree.Place.{Place}
 use Rattle.syntax_trees.specs.declared.tree.Place.TheVariants as place
-use Rattle.syntax_trees.specs.declared.tree.Transfer.{Transfer}
-use Rattle.syntax_trees.specs.declared.tree.Transfer.TheVariants as transfer
+use Rattle.algebra.specs.declared.update.Transfer.{Transfer}
+use Rattle.algebra.specs.declared.update.Transfer.TheVariants as transfer
 use Rattle.syntax_trees.specs.declared.tree.Operation.{Operation}
 use Rattle.syntax_trees.specs.declared.tree.Operation.TheVariants as operation
 use Rattle.syntax_trees.specs.declared.tree.Step.{Step}
@@ -34,7 +34,7 @@ pub data ReadsGraph : List Token → Name → List Token → Type 0 where
   graph : {ts r rest : List Token} {n : Name} → ReadsKeyword (codes "GRAPH") ts r → ReadsName r n rest → ReadsGraph ts n rest
 
 -- 'GRAPH' Iri | 'DEFAULT' | 'NAMED' | 'ALL'
-pub data ReadsTarget : List Token → Target → List Token → Type 0 where
+pub data ReadsTarget : List Token → Target Name → List Token → Type 0 where
   in_graph : {ts rest : List Token} {n : Name} → ReadsGraph ts n rest → ReadsTarget ts (target.Graph n) rest
   default : {ts rest : List Token} → ReadsKeyword (codes "DEFAULT") ts rest → ReadsTarget ts target.Default rest
   named : {ts rest : List Token} → ReadsKeyword (codes "NAMED") ts rest → ReadsTarget ts target.Named rest
@@ -75,8 +75,8 @@ most_nested = 64
 --           | ['WITH' Iri] Change 'WHERE' Group
 pub data ReadsOperation : List Token → Operation → List Token → Type 0 where
   create : {ts r u rest : List Token} {s : Bool} {n : Name} → ReadsKeyword (codes "CREATE") ts r → ReadsSilent r s u → ReadsGraph u n rest → ReadsOperation ts (operation.Create s n) rest
-  drop : {ts r u rest : List Token} {s : Bool} {t : Target} → ReadsKeyword (codes "DROP") ts r → ReadsSilent r s u → ReadsTarget u t rest → ReadsOperation ts (operation.Drop s t) rest
-  clear : {ts r u rest : List Token} {s : Bool} {t : Target} → ReadsKeyword (codes "CLEAR") ts r → ReadsSilent r s u → ReadsTarget u t rest → ReadsOperation ts (operation.Clear s t) rest
+  drop : {ts r u rest : List Token} {s : Bool} {t : Target Name} → ReadsKeyword (codes "DROP") ts r → ReadsSilent r s u → ReadsTarget u t rest → ReadsOperation ts (operation.Drop s t) rest
+  clear : {ts r u rest : List Token} {s : Bool} {t : Target Name} → ReadsKeyword (codes "CLEAR") ts r → ReadsSilent r s u → ReadsTarget u t rest → ReadsOperation ts (operation.Clear s t) rest
   transferred : {ts r u v w rest : List Token} {how : Transfer} {s : Bool} {from to : Place} → ReadsTransfer ts how r → ReadsSilent r s u → ReadsPlace u from v
       → ReadsKeyword (codes "TO") v w → ReadsPlace w to rest → ReadsOperation ts (operation.Transfer how s from to) rest
   insert_data : {ts r u rest : List Token} {xs : List Block} → ReadsKeyword (codes "INSERT") ts r → ReadsKeyword (codes "DATA") r u → ReadsQuads u xs rest → ReadsOperation ts (operation.InsertData xs) rest

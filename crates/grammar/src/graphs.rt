@@ -3,9 +3,10 @@ ghost use Rattle.std.specs.Prelude.{◌≡◌};
 ghost use Rattle.productions.specs.Steps.{Gives};
 ghost use Rattle.grammar.specs.Reading.{silent_at, graph_at, graph_target_at, target_at, name_place_at, place_at, create_at, drop_at, clear_at, transfer_at};
 
+use algebra::{Target, Transfer};
 use lexer::{Stop, Token};
 use productions::{after_keyword, name_at};
-use syntax_trees::{Name, Operation, Place, Target, Transfer};
+use syntax_trees::{Name, Operation, Place};
 
 /// `['SILENT']`
 fn silent_at<'t, 'a>(tokens: &'t [Token<'a>]) -> (bool, &'t [Token<'a>])
@@ -30,7 +31,9 @@ fn graph_at<'t, 'a>(tokens: &'t [Token<'a>]) -> Result<(Name<'a>, &'t [Token<'a>
 }
 
 #[tactic(auto, unfolding(crate::specs::Reading::graph_target_at))]
-fn graph_target_at<'t, 'a>(tokens: &'t [Token<'a>]) -> Result<(Target<'a>, &'t [Token<'a>]), Stop>
+fn graph_target_at<'t, 'a>(
+    tokens: &'t [Token<'a>],
+) -> Result<(Target<Name<'a>>, &'t [Token<'a>]), Stop>
     ensures { Gives (λ x. (x.0, x.1.now)) result (graph_target_at tokens.now) }
 {
     let (graph, rest) = graph_at(tokens)?;
@@ -39,7 +42,7 @@ fn graph_target_at<'t, 'a>(tokens: &'t [Token<'a>]) -> Result<(Target<'a>, &'t [
 
 /// `'GRAPH' Iri | 'DEFAULT' | 'NAMED' | 'ALL'`
 #[tactic(auto, unfolding(crate::specs::Reading::target_at))]
-fn target_at<'t, 'a>(tokens: &'t [Token<'a>]) -> Result<(Target<'a>, &'t [Token<'a>]), Stop>
+fn target_at<'t, 'a>(tokens: &'t [Token<'a>]) -> Result<(Target<Name<'a>>, &'t [Token<'a>]), Stop>
     ensures { Gives (λ x. (x.0, x.1.now)) result (target_at tokens.now) }
 {
     if let Some(rest) = after_keyword(b"DEFAULT", tokens) {

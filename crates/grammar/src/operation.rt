@@ -5,10 +5,11 @@ ghost use Rattle.grammar.specs.Reading.{update_at, transferred_at, operation_at}
 
 use crate::graphs::{clear_at, create_at, drop_at, transfer_at};
 use crate::updates::{deleted_at, inserted_at, with_at};
+use algebra::Transfer;
 use lexer::{Stop, Token};
 use productions::after_keyword;
 use std::alloc::Global;
-use syntax_trees::{Operation, Transfer};
+use syntax_trees::Operation;
 
 /// INSERT, DELETE or WITH.
 #[tactic(auto, unfolding(crate::specs::Reading::update_at))]

@@ -7,9 +7,10 @@ use Rattle.meaning.specs.Vocabulary.{Vocabulary}
 use Rattle.meaning.specs.Mapping.{Mapping}
 use Rattle.meaning.specs.Solutions.{solutions}
 use Rattle.meaning.specs.Template.{instances}
+use Rattle.meaning.specs.GraphOperations.{graphs_after, silently}
 use Rattle.algebra.specs.declared.template.QuadTemplate.{QuadTemplate}
-use Rattle.meaning.specs.declared.update.Operation.{Operation}
-use Rattle.meaning.specs.declared.update.Operation.TheVariants as operation
+use Rattle.algebra.specs.declared.update.Operation.{Operation}
+use Rattle.algebra.specs.declared.update.Operation.TheVariants as operation
 use Rattle.meaning.specs.declared.reply.Cause.{Cause}
 use Rattle.meaning.specs.declared.reply.Cause.TheVariants.{TooManySolutions}
 
@@ -35,3 +36,4 @@ module _ {K : Type 0} (V : Vocabulary K) where
   -- default graph.
   abbrev pub effect_of : (request place : ℕ) → Operation K → Dataset K → Result (Dataset K) Cause
   effect_of request place (operation.Modify m) d = modified request place m.delete m.insert (solutions V.order V.passes m.width m.pattern d m.active) d
+  effect_of request place (operation.Graphs silent graphs) d = silently V.order silent d (graphs_after V.order graphs d)

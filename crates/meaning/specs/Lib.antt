@@ -3,6 +3,7 @@ pub mod Mapping
 pub mod Operators
 pub mod Solutions
 pub mod Template
+pub mod GraphOperations
 pub mod Effect
 pub mod Run
 pub mod Near

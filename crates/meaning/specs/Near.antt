@@ -1,7 +1,7 @@
 -- Which reads are near a request: a run that reads only these conflicts with another only where their quads meet.
 use Rattle.std.specs.Prelude.{Bool, true, false, ◌&&◌, ◌||◌, List, Option, Some, None, is_none}
 use Rattle.std.specs.List.{list_any}
-use Rattle.std.specs.Option.{option_map}
+use Rattle.std.specs.Option.{option_map, option_cmp}
 use Rattle.std.specs.declared.cmp.Ordering.{Ordering}
 use Rattle.std.specs.Ordering.{eq_by_cmp}
 use Rattle.datasets.specs.declared.read.GraphPlace.{GraphPlace}
@@ -16,8 +16,12 @@ use Rattle.algebra.specs.declared.template.Slot.{Slot}
 use Rattle.algebra.specs.declared.template.Slot.TheVariants as slot
 use Rattle.algebra.specs.declared.template.QuadTemplate.{QuadTemplate}
 use Rattle.algebra.specs.Plans.{Plan, Basic, Join, LeftJoin, Union, Minus, Filter, InGraph}
-use Rattle.meaning.specs.declared.update.Operation.{Operation}
-use Rattle.meaning.specs.declared.update.Operation.TheVariants as operation
+use Rattle.algebra.specs.declared.update.Target.{Target}
+use Rattle.algebra.specs.declared.update.Target.TheVariants as target
+use Rattle.algebra.specs.declared.update.GraphOperation.{GraphOperation}
+use Rattle.algebra.specs.declared.update.GraphOperation.TheVariants as graphs
+use Rattle.algebra.specs.declared.update.Operation.{Operation}
+use Rattle.algebra.specs.declared.update.Operation.TheVariants as operation
 
 -- whether all graph names may be asked for: only where a graph variable is written
 abbrev pub asks_names : {K : Type 0} → Plan K → Bool
@@ -81,10 +85,34 @@ module _ {K : Type 0} (R : K → K → Ordering) where
   is_near_template ts (GraphIs g) = true
   is_near_template ts Graphs = false
 
-  -- a scan has the written terms and the graph place of a quad or a triple pattern of the operation
+  -- ---- operations on graphs: quads of a graph, or any quads and all names
+
+  abbrev pub is_only : Option K → GraphPlace K → Bool
+  is_only g Any = false
+  is_only g (Only h) = eq_by_cmp (option_cmp R) h g
+
+  abbrev pub is_of_graph : Option K → Read K → Bool
+  is_of_graph g (Scan p) = is_only g p.graph
+  is_of_graph g (GraphIs h) = true
+  is_of_graph g Graphs = false
+
+  abbrev pub is_near_target : Target K → Read K → Bool
+  is_near_target (target.Graph g) read = is_of_graph (Some g) read
+  is_near_target target.Default read = is_of_graph None read
+  is_near_target target.Named read = true
+  is_near_target target.All read = true
+
+  abbrev pub is_near_graphs : GraphOperation K → Read K → Bool
+  is_near_graphs (graphs.Create g) read = is_of_graph (Some g) read
+  is_near_graphs (graphs.Drop t) read = is_near_target t read
+  is_near_graphs (graphs.Clear t) read = is_near_target t read
+  is_near_graphs (graphs.Transfer how from to) read = is_of_graph from read || is_of_graph to read
+
+  -- a scan has the written terms and the graph place of a quad or a triple pattern of the operation, or is of a graph that it names
   abbrev pub is_near : Operation K → Read K → Bool
   is_near (operation.Modify m) read =
       is_near_template m.delete read || (is_near_template m.insert read || is_for_plan (option_map slot.Term m.active) m.pattern read)
+  is_near (operation.Graphs silent graphs) read = is_near_graphs graphs read
 
   -- a read is near one of the request's operations
   abbrev pub is_near_request : List (Operation K) → Read K → Bool

@@ -5,7 +5,7 @@ use Rattle.sets.specs.Sets.{without}
 use Rattle.datasets.specs.Dataset.{Dataset, quad_order}
 use Rattle.meaning.specs.Vocabulary.{Vocabulary}
 use Rattle.meaning.specs.Effect.{effect_of}
-use Rattle.meaning.specs.declared.update.Operation.{Operation}
+use Rattle.algebra.specs.declared.update.Operation.{Operation}
 use Rattle.meaning.specs.declared.reply.Cause.{Cause}
 use Rattle.meaning.specs.declared.reply.Refusal.{Refusal}
 use Rattle.meaning.specs.declared.reply.Reply.{Reply}

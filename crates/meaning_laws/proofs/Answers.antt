@@ -1,85 +1,27 @@
 -- Answers keep datasets, and a run goes on by one.
 use Rattle.std.proofs.Common.{◌≡◌, ℕ, zero, suc, ◌+◌, Bool, true, false, ◌||◌, List, [], ◌∷◌, ◌++◌, length, take, Option, Some, None, Result, Ok, Err, refl, sym, ap, ◌∙◌, arith, slice_get, add-zero}
-use Rattle.std.specs.Prelude.{not, filter, if◌then◌else◌}
-use Rattle.std.specs.List.{list_any, cons_option}
-use Rattle.std.specs.declared.cmp.Ordering.{Ordering}
-use Rattle.std.specs.declared.cmp.Ordering.TheVariants.{Less, Equal, Greater}
-use Rattle.std.specs.Ordering.{eq_by_cmp}
-use Rattle.std.proofs.lemmas.Bool.{or_left, or_right}
-use Rattle.sets.specs.Sets.{placed, with, set_of, has, union, without}
+use Rattle.std.specs.Prelude.{not, if◌then◌else◌}
+use Rattle.std.specs.List.{list_any}
+use Rattle.sets.specs.Sets.{has, union, without}
 use Rattle.sets.proofs.SetLaws.{list_any-append, has-union, sorted-set_of}
 use Rattle.datasets.specs.declared.quad.Quad.{Quad}
 use Rattle.datasets.specs.Dataset.{Dataset, IsDataset, quad_order, names_of}
 use Rattle.datasets.specs.Id.{quad_total}
 use Rattle.meaning.specs.Vocabulary.{Vocabulary}
 use Rattle.meaning.specs.Effect.{is_too_many, replaced, effect_of}
+use Rattle.meaning.specs.GraphOperations.{graphs_after, silently}
 use Rattle.meaning.specs.Template.{instances}
 use Rattle.meaning.specs.Solutions.{solutions}
 use Rattle.meaning.specs.Run.{Request, Failure, then_next, performed, settled, answer_of, run_from, run_of_first}
-use Rattle.meaning.specs.declared.update.Operation.{Operation}
-use Rattle.meaning.specs.declared.update.Operation.TheVariants as operation
+use Rattle.algebra.specs.declared.update.Operation.{Operation}
+use Rattle.algebra.specs.declared.update.Operation.TheVariants as operation
 use Rattle.meaning.specs.declared.reply.Cause.{Cause}
 use Rattle.meaning.specs.declared.reply.Cause.TheVariants.{TooManySolutions}
 use Rattle.meaning_laws.specs.Answers.{IsExactOrder, with_next, AnswersWithDatasets, GoesOnByOne}
-
--- ---- what is some member of a part is some member of the whole
-
-any-if : {A : Type 0} (p : A → Bool) (b : Bool) (x : A) (xs : List A) → list_any p (if b then x ∷ xs else xs) ≡ true → (p x || list_any p xs) ≡ true
-any-if p true x xs h = h
-any-if p false x xs h = or_right (p x) (list_any p xs) h
-
-or-more : (a b c : Bool) → (a || b) ≡ true → (b ≡ true → c ≡ true) → (a || c) ≡ true
-or-more true b c h f = refl
-or-more false b c h f = f h
-
-any-filter : {A : Type 0} (p q : A → Bool) (xs : List A) → list_any p (filter q xs) ≡ true → list_any p xs ≡ true
-any-filter p q [] h = h
-any-filter p q (x ∷ xs) h =
-    or-more (p x) (list_any p (filter q xs)) (list_any p xs) (any-if p (q x) x (filter q xs) h) (any-filter p q xs)
-
-or-skip : (a b c : Bool) → (b || c) ≡ true → (a || (b || c)) ≡ true
-or-skip a b c h = or_right a (b || c) h
-
-or-over : (a b c d : Bool) → (b || d) ≡ true → (d ≡ true → (a || c) ≡ true) → (a || (b || c)) ≡ true
-or-over true b c d h f = refl
-or-over false true c d h f = refl
-or-over false false c d h f = f h
-
-module _ {A : Type 0} (R : A → A → Ordering) (p : A → Bool) where
-  any-placed : (r : Ordering) (x y : A) (ys further : List A) → (list_any p further ≡ true → (p x || list_any p ys) ≡ true)
-      → list_any p (placed r x y ys further) ≡ true → (p x || (p y || list_any p ys)) ≡ true
-  any-placed Less x y ys further f h = h
-  any-placed Equal x y ys further f h = or-skip (p x) (p y) (list_any p ys) h
-  any-placed Greater x y ys further f h = or-over (p x) (p y) (list_any p ys) (list_any p further) h f
-
-  any-with : (x : A) (ys : List A) → list_any p (with R x ys) ≡ true → (p x || list_any p ys) ≡ true
-  any-with x [] h = h
-  any-with x (y ∷ ys) h = any-placed (R x y) x y ys (with R x ys) (any-with x ys) h
-
-  any-set_of : (xs : List A) → list_any p (set_of R xs) ≡ true → list_any p xs ≡ true
-  any-set_of [] h = h
-  any-set_of (x ∷ xs) h = or-more (p x) (list_any p (set_of R xs)) (list_any p xs) (any-with x (set_of R xs) h) (any-set_of xs)
+use Rattle.meaning_laws.proofs.Parts.{any-filter, any-set_of, in_it, has-names_of, either, LeavesDataset}
+use Rattle.meaning_laws.proofs.GraphDatasets.{graphs-dataset}
 
 -- ---- datasets
-
-module _ {K : Type 0} (R : K → K → Ordering) (g : K) where
-  -- whether a quad's graph has this name
-  is_of : Option K → Bool
-  is_of None = false
-  is_of (Some h) = eq_by_cmp R g h
-
-  in_it : Quad K → Bool
-  in_it q = is_of q.graph
-
-  has-cons : (h : Option K) (ns : List K) → has R (cons_option h ns) g ≡ (is_of h || has R ns g)
-  unfolding is_of
-  has-cons None ns = refl
-  has-cons (Some h) ns = refl
-
-  has-names_of : (qs : List (Quad K)) → has R (names_of qs) g ≡ list_any in_it qs
-  unfolding in_it
-  has-names_of [] = refl
-  has-names_of (q ∷ qs) = has-cons q.graph (names_of qs) ∙ ap (λ b. is_of q.graph || b) (has-names_of qs)
 
 module _ {K : Type 0} (V : Vocabulary K) (o : IsExactOrder V) where
   replaced-dataset : (d : Dataset K) (deleted inserted : List (Quad K)) → IsDataset V.order d → IsDataset V.order (replaced V d deleted inserted)
@@ -96,41 +38,36 @@ module _ {K : Type 0} (V : Vocabulary K) (o : IsExactOrder V) where
         (λ k. h.named g (has-names_of V.order g d.quads ∙ any-filter p (λ x. not (has (quad_order V.order) deleted x)) d.quads k))
         (λ k. has-names_of V.order g inserted ∙ k);
   }
-    where
-      either : (a b c d : Bool) → (a || b) ≡ true → (a ≡ true → c ≡ true) → (b ≡ true → d ≡ true) → (c || d) ≡ true
-      either true b c d h f k = or_left c d (f refl)
-      either false b c d h f k = or_right c d (k h)
 
-  -- an effect leaves a dataset, if it doesn't fail
-  LeavesDataset : {E : Type 0} → Result (Dataset K) E → Type 0
-  LeavesDataset (Ok d) = IsDataset V.order d
-  LeavesDataset (Err e) = Unit {0}
-
-  unless-dataset : (b : Bool) (d : Dataset K) → IsDataset V.order d → LeavesDataset {E = Cause} (if b then Err TooManySolutions else Ok d)
-  unfolding LeavesDataset
+  unless-dataset : (b : Bool) (d : Dataset K) → IsDataset V.order d → LeavesDataset V.order {E = Cause} (if b then Err TooManySolutions else Ok d)
   unless-dataset true d h = tt
   unless-dataset false d h = h
 
-  effect-dataset : (i n : ℕ) (op : Operation K) (d : Dataset K) → IsDataset V.order d → LeavesDataset (effect_of V i n op d)
+  graphs-effect : (silent : Bool) (d : Dataset K) (e : Result (Dataset K) Cause) → IsDataset V.order d → LeavesDataset V.order e → LeavesDataset V.order (silently V.order silent d e)
+  graphs-effect silent d (Ok e) h h' = h'
+  graphs-effect true d (Err cause) h h' = h
+  graphs-effect false d (Err cause) h h' = tt
+
+  effect-dataset : (i n : ℕ) (op : Operation K) (d : Dataset K) → IsDataset V.order d → LeavesDataset V.order (effect_of V i n op d)
   effect-dataset i n (operation.Modify m) d h =
       let found = solutions V.order V.passes m.width m.pattern d m.active in
       unless-dataset (is_too_many (length found)) (replaced V d (instances V i n m.delete found) (instances V i n m.insert found))
       (replaced-dataset d (instances V i n m.delete found) (instances V i n m.insert found) h)
+  effect-dataset i n (operation.Graphs silent op) d h =
+      let e = graphs_after V.order op d in
+      graphs-effect silent d e h (graphs-dataset o.total o.exact op d h)
 
-  next-dataset : (n : ℕ) (e : Result (Dataset K) Cause) (go : Dataset K → Result (Dataset K) Failure) → LeavesDataset e
-      → ((d : Dataset K) → IsDataset V.order d → LeavesDataset (go d)) → LeavesDataset (then_next V n e go)
-  unfolding LeavesDataset
+  next-dataset : (n : ℕ) (e : Result (Dataset K) Cause) (go : Dataset K → Result (Dataset K) Failure) → LeavesDataset V.order e
+      → ((d : Dataset K) → IsDataset V.order d → LeavesDataset V.order (go d)) → LeavesDataset V.order (then_next V n e go)
   next-dataset n (Ok d) go h each = each d h
   next-dataset n (Err cause) go h each = tt
 
-  performed-dataset : (i n : ℕ) (ops : List (Operation K)) (d : Dataset K) → IsDataset V.order d → LeavesDataset (performed V i n ops d)
-  unfolding LeavesDataset
+  performed-dataset : (i n : ℕ) (ops : List (Operation K)) (d : Dataset K) → IsDataset V.order d → LeavesDataset V.order (performed V i n ops d)
   performed-dataset i n [] d h = h
   performed-dataset i n (op ∷ ops) d h =
       next-dataset n (effect_of V i n op d) (performed V i (n + 1) ops) (effect-dataset i n op d h) (λ e k. performed-dataset i (n + 1) ops e k)
 
-  settled-dataset : (d : Dataset K) (e : Result (Dataset K) Failure) → IsDataset V.order d → LeavesDataset e → IsDataset V.order (settled V d e).0
-  unfolding LeavesDataset
+  settled-dataset : (d : Dataset K) (e : Result (Dataset K) Failure) → IsDataset V.order d → LeavesDataset V.order e → IsDataset V.order (settled V d e).0
   settled-dataset d (Ok e) h k = k
   settled-dataset d (Err failure) h k = h
 

@@ -3,7 +3,10 @@ pub mod RenamedSets
 pub mod RenamedMappings
 pub mod RenamedOperators
 pub mod RenamedSolutions
+pub mod RenamedGraphs
 pub mod Renames
+pub mod Parts
+pub mod GraphDatasets
 pub mod Answers
 pub mod Members
 pub mod Bindings

@@ -15,10 +15,11 @@ use Rattle.meaning.specs.Mapping.{Mapping}
 use Rattle.meaning.specs.Solutions.{solutions}
 use Rattle.meaning.specs.Template.{term_at, in_some, graph_at, is_legal, legal_quad, instance_of, instances, instances_from}
 use Rattle.meaning.specs.Effect.{is_too_many, replaced, modified, effect_of}
+use Rattle.meaning.specs.GraphOperations.{graphs_after, silently}
 use Rattle.meaning.specs.Run.{Request, Failure, then_next, performed, count_new, settled, answer_of, run_from}
 use Rattle.algebra.specs.declared.update.Modify.{Modify}
-use Rattle.meaning.specs.declared.update.Operation.{Operation}
-use Rattle.meaning.specs.declared.update.Operation.TheVariants as operation
+use Rattle.algebra.specs.declared.update.Operation.{Operation}
+use Rattle.algebra.specs.declared.update.Operation.TheVariants as operation
 use Rattle.meaning.specs.declared.reply.Cause.{Cause}
 use Rattle.meaning.specs.declared.reply.Cause.TheVariants.{TooManySolutions}
 use Rattle.meaning.specs.declared.reply.Reply.{Reply}
@@ -27,6 +28,7 @@ use Rattle.meaning_laws.specs.Renaming.{renamed_quad, renamed, renamed_slot, ren
 use Rattle.meaning_laws.proofs.RenamedLists.{some-if, known-if, map-append, length-map, all-append, all-filter, map-filter_map, all-filter_map}
 use Rattle.meaning_laws.proofs.RenamedSets.{map-union, all-union, map-without, quad-order, map-names_of, all-names_of}
 use Rattle.meaning_laws.proofs.RenamedMappings.{term-for, term-for-known}
+use Rattle.meaning_laws.proofs.RenamedGraphs.{renamed_result, result_known, silent-map, silent-known, graphs-map, graphs-known}
 use Rattle.meaning_laws.proofs.RenamedSolutions.{solutions-map, solutions-known}
 
 -- ---- templates
@@ -181,26 +183,17 @@ module _ {A B : Type 0} (V : Vocabulary A) (W : Vocabulary B) (f : A → B) (k :
       (all-union (quad_order V.order) (quad_order W.order) (renamed_quad f) (quad_known k) quads-order (without (quad_order V.order) d.quads gone) qs kept h')
       (all-union V.order W.order f k r.order d.names (names_of qs) parts.1 (all-names_of V.order W.order f k r.order qs h'))
 
-  -- the renamed dataset, or the same cause or failure
-  abbrev renamed_result : {E : Type 0} → Result (Dataset A) E → Result (Dataset B) E
-  renamed_result (Ok d) = Ok (renamed f d)
-  renamed_result (Err e) = Err e
-
-  abbrev result_known : {E : Type 0} → Result (Dataset A) E → Bool
-  result_known (Ok d) = dataset_known k d
-  result_known (Err e) = true
-
-  unless-map : (b : Bool) (d : Dataset A) → renamed_result (if b then Err TooManySolutions else Ok d) ≡ (if b then Err TooManySolutions else Ok (renamed f d))
+  unless-map : (b : Bool) (d : Dataset A) → renamed_result f k (if b then Err TooManySolutions else Ok d) ≡ (if b then Err TooManySolutions else Ok (renamed f d))
   unless-map true d = refl
   unless-map false d = refl
 
-  unless-known : (b : Bool) (d : Dataset A) → dataset_known k d ≡ true → result_known {E = Cause} (if b then Err TooManySolutions else Ok d) ≡ true
+  unless-known : (b : Bool) (d : Dataset A) → dataset_known k d ≡ true → result_known f k {E = Cause} (if b then Err TooManySolutions else Ok d) ≡ true
   unless-known true d h = refl
   unless-known false d h = h
 
   modified-map : (i n : ℕ) (gone ts : List (QuadTemplate A)) (ms : List (Mapping A)) (d : Dataset A)
       → list_all (template_known k) gone ≡ true → list_all (template_known k) ts ≡ true → list_all (mapping_known k) ms ≡ true → dataset_known k d ≡ true
-      → renamed_result (modified V i n gone ts ms d) ≡ modified W i n (map (renamed_template f) gone) (map (renamed_template f) ts) (map (renamed_mapping f) ms) (renamed f d)
+      → renamed_result f k (modified V i n gone ts ms d) ≡ modified W i n (map (renamed_template f) gone) (map (renamed_template f) ts) (map (renamed_mapping f) ms) (renamed f d)
   modified-map i n gone ts ms d hg h hm h' =
       unless-map (is_too_many (length ms)) (replaced V d (instances V i n gone ms) (instances V i n ts ms))
       ∙ (λ j. if is_too_many (sym (length-map (renamed_mapping f) ms) j) then Err TooManySolutions else Ok (after j))
@@ -229,34 +222,39 @@ module _ {A B : Type 0} (V : Vocabulary A) (W : Vocabulary B) (f : A → B) (k :
   found-known m d h' = solutions-known V.order W.order f k r.order V.passes W.passes r.passes m.width m.pattern d m.active h'
 
   effect-map : (i n : ℕ) (op : Operation A) (d : Dataset A) → operation_known k op ≡ true → dataset_known k d ≡ true
-      → renamed_result (effect_of V i n op d) ≡ effect_of W i n (renamed_operation f op) (renamed f d)
+      → renamed_result f k (effect_of V i n op d) ≡ effect_of W i n (renamed_operation f op) (renamed f d)
   effect-map i n (operation.Modify m) d h h' =
       let p = parts_of m h in
       modified-map i n m.delete m.insert (solutions V.order V.passes m.width m.pattern d m.active) d p.delete p.insert (found-known m d h') h'
       ∙ ap (λ ms. modified W i n (map (renamed_template f) m.delete) (map (renamed_template f) m.insert) ms (renamed f d))
       (solutions-map V.order W.order f k r.order V.passes W.passes r.passes m.width m.pattern d m.active p.pattern h' p.active)
+  effect-map i n (operation.Graphs silent op) d h h' =
+      silent-map f k V.order W.order silent d (graphs_after V.order op d)
+      ∙ ap (silently W.order silent (renamed f d)) (graphs-map V.order W.order f k r.order op d h h')
 
-  effect-known : (i n : ℕ) (op : Operation A) (d : Dataset A) → operation_known k op ≡ true → dataset_known k d ≡ true → result_known (effect_of V i n op d) ≡ true
+  effect-known : (i n : ℕ) (op : Operation A) (d : Dataset A) → operation_known k op ≡ true → dataset_known k d ≡ true → result_known f k (effect_of V i n op d) ≡ true
   effect-known i n (operation.Modify m) d h h' =
       let ms = solutions V.order V.passes m.width m.pattern d m.active in
       unless-known (is_too_many (length ms)) (replaced V d (instances V i n m.delete ms) (instances V i n m.insert ms))
       (replaced-known d (instances V i n m.delete ms) (instances V i n m.insert ms) h' (instances-known i n m.insert 0 ms (parts_of m h).insert (found-known m d h')))
+  effect-known i n (operation.Graphs silent op) d h h' =
+      silent-known f k V.order silent d (graphs_after V.order op d) h' (graphs-known V.order W.order f k r.order op d h h')
 
   -- ---- requests
 
   next-map : (n : ℕ) (e : Result (Dataset A) Cause) (go : Dataset A → Result (Dataset A) Failure) (go' : Dataset B → Result (Dataset B) Failure)
-      → result_known e ≡ true → ((d : Dataset A) → dataset_known k d ≡ true → renamed_result (go d) ≡ go' (renamed f d))
-      → renamed_result (then_next V n e go) ≡ then_next W n (renamed_result e) go'
+      → result_known f k e ≡ true → ((d : Dataset A) → dataset_known k d ≡ true → renamed_result f k (go d) ≡ go' (renamed f d))
+      → renamed_result f k (then_next V n e go) ≡ then_next W n (renamed_result f k e) go'
   next-map n (Ok d) go go' h each = each d h
   next-map n (Err cause) go go' h each = refl
 
   next-known : (n : ℕ) (e : Result (Dataset A) Cause) (go : Dataset A → Result (Dataset A) Failure)
-      → result_known e ≡ true → ((d : Dataset A) → dataset_known k d ≡ true → result_known (go d) ≡ true) → result_known (then_next V n e go) ≡ true
+      → result_known f k e ≡ true → ((d : Dataset A) → dataset_known k d ≡ true → result_known f k (go d) ≡ true) → result_known f k (then_next V n e go) ≡ true
   next-known n (Ok d) go h each = each d h
   next-known n (Err cause) go h each = refl
 
   performed-map : (i n : ℕ) (ops : List (Operation A)) (d : Dataset A) → list_all (operation_known k) ops ≡ true → dataset_known k d ≡ true
-      → renamed_result (performed V i n ops d) ≡ performed W i n (map (renamed_operation f) ops) (renamed f d)
+      → renamed_result f k (performed V i n ops d) ≡ performed W i n (map (renamed_operation f) ops) (renamed f d)
   performed-map i n [] d h h' = refl
   performed-map i n (op ∷ ops) d h h' =
       let parts = and_parts (operation_known k op) (list_all (operation_known k) ops) h in
@@ -265,7 +263,7 @@ module _ {A B : Type 0} (V : Vocabulary A) (W : Vocabulary B) (f : A → B) (k :
       ∙ ap (λ (e : Result (Dataset B) Cause). then_next W n e (performed W i (n + 1) (map (renamed_operation f) ops))) (effect-map i n op d parts.0 h')
 
   performed-known : (i n : ℕ) (ops : List (Operation A)) (d : Dataset A) → list_all (operation_known k) ops ≡ true → dataset_known k d ≡ true
-      → result_known (performed V i n ops d) ≡ true
+      → result_known f k (performed V i n ops d) ≡ true
   performed-known i n [] d h h' = h'
   performed-known i n (op ∷ ops) d h h' =
       let parts = and_parts (operation_known k op) (list_all (operation_known k) ops) h in
@@ -282,12 +280,12 @@ module _ {A B : Type 0} (V : Vocabulary A) (W : Vocabulary B) (f : A → B) (k :
   abbrev renamed_answer : Dataset A × Reply → Dataset B × Reply
   renamed_answer a = (renamed f a.0, a.1)
 
-  settled-map : (d : Dataset A) (e : Result (Dataset A) Failure) → dataset_known k d ≡ true → result_known e ≡ true
-      → renamed_answer (settled V d e) ≡ settled W (renamed f d) (renamed_result e)
+  settled-map : (d : Dataset A) (e : Result (Dataset A) Failure) → dataset_known k d ≡ true → result_known f k e ≡ true
+      → renamed_answer (settled V d e) ≡ settled W (renamed f d) (renamed_result f k e)
   settled-map d (Ok e) h h' = (λ i. (renamed f e, Done (count-map d e h h' i) (count-map e d h' h i)))
   settled-map d (Err failure) h h' = refl
 
-  settled-known : (d : Dataset A) (e : Result (Dataset A) Failure) → dataset_known k d ≡ true → result_known e ≡ true → dataset_known k (settled V d e).0 ≡ true
+  settled-known : (d : Dataset A) (e : Result (Dataset A) Failure) → dataset_known k d ≡ true → result_known f k e ≡ true → dataset_known k (settled V d e).0 ≡ true
   settled-known d (Ok e) h h' = h'
   settled-known d (Err failure) h h' = h
 

@@ -16,8 +16,12 @@ use Rattle.algebra.specs.Expressions as expression
 use Rattle.algebra.specs.Expressions.{Expression}
 use Rattle.algebra.specs.Plans.{Plan, Basic, Join, LeftJoin, Union, Minus, Filter, InGraph}
 use Rattle.meaning.specs.Mapping.{Mapping}
-use Rattle.meaning.specs.declared.update.Operation.{Operation}
-use Rattle.meaning.specs.declared.update.Operation.TheVariants.{Modify}
+use Rattle.algebra.specs.declared.update.Target.{Target}
+use Rattle.algebra.specs.declared.update.Target.TheVariants as target
+use Rattle.algebra.specs.declared.update.GraphOperation.{GraphOperation}
+use Rattle.algebra.specs.declared.update.GraphOperation.TheVariants as graphs
+use Rattle.algebra.specs.declared.update.Operation.{Operation}
+use Rattle.algebra.specs.declared.update.Operation.TheVariants as operation
 
 module _ {A B : Type 0} (f : A → B) where
   abbrev pub renamed_quad : Quad A → Quad B
@@ -65,14 +69,27 @@ module _ {A B : Type 0} (f : A → B) where
   abbrev pub renamed_mapping : Mapping A → Mapping B
   renamed_mapping m = map (option_map f) m
 
+  abbrev pub renamed_target : Target A → Target B
+  renamed_target (target.Graph g) = target.Graph (f g)
+  renamed_target target.Default = target.Default
+  renamed_target target.Named = target.Named
+  renamed_target target.All = target.All
+
+  abbrev pub renamed_graphs : GraphOperation A → GraphOperation B
+  renamed_graphs (graphs.Create g) = graphs.Create (f g)
+  renamed_graphs (graphs.Drop t) = graphs.Drop (renamed_target t)
+  renamed_graphs (graphs.Clear t) = graphs.Clear (renamed_target t)
+  renamed_graphs (graphs.Transfer how from to) = graphs.Transfer how (option_map f from) (option_map f to)
+
   abbrev pub renamed_operation : Operation A → Operation B
-  renamed_operation (Modify m) = Modify (record {
+  renamed_operation (operation.Modify m) = operation.Modify (record {
     width = m.width;
     active = option_map f m.active;
     pattern = renamed_plan m.pattern;
     delete = map renamed_template m.delete;
     insert = map renamed_template m.insert;
   })
+  renamed_operation (operation.Graphs silent op) = operation.Graphs silent (renamed_graphs op)
 
   abbrev pub renamed_request : Request A → Request B
   renamed_request (Ok operations) = Ok (map renamed_operation operations)
@@ -128,9 +145,22 @@ module _ {A : Type 0} (known : A → Bool) where
   abbrev pub mapping_known : Mapping A → Bool
   mapping_known m = list_all option_known m
 
+  abbrev pub target_known : Target A → Bool
+  target_known (target.Graph g) = known g
+  target_known target.Default = true
+  target_known target.Named = true
+  target_known target.All = true
+
+  abbrev pub graphs_known : GraphOperation A → Bool
+  graphs_known (graphs.Create g) = known g
+  graphs_known (graphs.Drop t) = target_known t
+  graphs_known (graphs.Clear t) = target_known t
+  graphs_known (graphs.Transfer how from to) = option_known from && option_known to
+
   abbrev pub operation_known : Operation A → Bool
-  operation_known (Modify m) =
+  operation_known (operation.Modify m) =
       option_known m.active && (plan_known m.pattern && (list_all template_known m.delete && list_all template_known m.insert))
+  operation_known (operation.Graphs silent op) = graphs_known op
 
   abbrev pub request_known : Request A → Bool
   request_known (Ok operations) = list_all operation_known operations

@@ -12,4 +12,4 @@ mod search;
 mod sorted_hints;
 
 pub use hints::Hints;
-pub use search::{part_at, part_of_set};
+pub use search::part_of_set;

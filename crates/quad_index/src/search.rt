@@ -112,17 +112,3 @@ pub fn part_of_set<'a>(quads: &'a [Quad<Id>], pattern: &QuadPattern<Id>) -> &'a 
 {
     part_for(quads, Arrangement::Spog, pattern)
 }
-
-/// Of a set of quads, a part that has this one if the set does.
-pub fn part_at<'a>(quads: &'a [Quad<Id>], quad: &Quad<Id>) -> &'a [Quad<Id>]
-    requires { IsStrictlySortedBy (quad_order id_order) quads.now }
-    ensures { has (quad_order id_order) result.now quad.now ≡ has (quad_order id_order) quads.now quad.now }
-{
-    let pattern = QuadPattern {
-        subject: Some(quad.subject),
-        predicate: Some(quad.predicate),
-        object: Some(quad.object),
-        graph: GraphPlace::Only(quad.graph),
-    };
-    part_for(quads, Arrangement::Spog, &pattern)
-}

@@ -1,20 +1,15 @@
--- A read asks only for what matches: of a dataset, and of a change.
-use Rattle.std.specs.Prelude.{Bool, not, filter, ◌||◌, ◌&&◌, if◌then◌else◌}
-use Rattle.std.proofs.Common.{◌≡◌, true, false, cond, List, [], ◌∷◌, ◌++◌, refl, sym, ap, ◌∙◌}
-use Rattle.std.proofs.lemmas.List.Kept.{IsStrictlySortedBy-filter}
-use Rattle.std.specs.declared.cmp.Ordering.{Ordering}
-use Rattle.std.specs.declared.cmp.Ordering.TheVariants.{Equal}
-use Rattle.std.specs.Cmp.{IsTotalOrder, tied_itself}
+-- A read asks only for what matches of a dataset.
+use Rattle.std.specs.Prelude.{Bool, filter, ◌||◌, if◌then◌else◌}
+use Rattle.std.proofs.Common.{◌≡◌, true, false, cond, List, [], ◌∷◌, refl, ap, ◌∙◌}
+use Rattle.std.specs.Cmp.{tied_itself}
 use Rattle.std.specs.Ordering.{is_eq}
-use Rattle.sets.specs.Sets.{has, union, without}
-use Rattle.sets.proofs.SetLaws.{same_set, sorted-set_of, has-filter}
-use Rattle.change_laws.proofs.ChangeLaws.{has-after}
+use Rattle.sets.specs.Sets.{has}
 use Rattle.datasets.specs.declared.id.Id.{Id}
 use Rattle.datasets.specs.declared.read.QuadPattern.{QuadPattern}
 use Rattle.datasets.specs.declared.read.Read.TheVariants.{Scan, GraphIs, Graphs}
 use Rattle.datasets.specs.Dataset.{Quads, Is, matches}
-use Rattle.datasets.specs.Id.{id_order, id_total, id_exact, quad_exact, quad_total}
-use Rattle.reads.specs.Reads.{View, Delta, says, applied}
+use Rattle.datasets.specs.Id.{id_order, id_total}
+use Rattle.reads.specs.Reads.{View, says}
 
 filter_kept : {A : Type 0} (p : A → Bool) (b : Bool) (x : A) (xs : List A) → p x ≡ b → filter p xs ≡ xs → filter p (cond b (x ∷ xs) xs) ≡ cond b (x ∷ xs) xs
 filter_kept p true x xs e h = ap (λ t. cond t (x ∷ filter p xs) (filter p xs)) e ∙ ap (λ ys. x ∷ ys) h
@@ -23,33 +18,6 @@ filter_kept p false x xs e h = h
 pub filter-filter : {A : Type 0} (p : A → Bool) (xs : List A) → filter p (filter p xs) ≡ filter p xs
 filter-filter p [] = refl
 filter-filter p (x ∷ xs) = filter_kept p (p x) x (filter p xs) refl (filter-filter p xs)
-
--- a member after the change depends, where the test holds, on the matching part of the change
-part : (x a b p : Bool) → (((x && not (a && p)) || (b && p)) && p) ≡ (((x && not a) || b) && p)
-part true true true true = refl
-part true true false true = refl
-part true false true true = refl
-part true false false true = refl
-part false a true true = refl
-part false a false true = refl
-part x a b false = no_and ((x && not (a && false)) || (b && false)) ∙ sym (no_and ((x && not a) || b))
-  where
-    no_and : (c : Bool) → (c && false) ≡ false
-    no_and true = refl
-    no_and false = refl
-
-module _ {A : Type 0} {R : A → A → Ordering} (o : IsTotalOrder R) (exact : (x y : A) → R x y ≡ Equal → x ≡ y) where
-  pub filter-part : (p : A → Bool) (xs gone more : List A) → filter p (union R (without R xs (filter p gone)) (filter p more)) ≡ filter p (union R (without R xs gone) more)
-  filter-part p xs gone more =
-      same_set o exact _ _
-      (IsStrictlySortedBy-filter R p _ (sorted-set_of o (without R xs (filter p gone) ++ filter p more))) (IsStrictlySortedBy-filter R p _ (sorted-set_of o (without R xs gone ++ more)))
-      (λ q. has-filter o exact p q (union R (without R xs (filter p gone)) (filter p more))
-      ∙ ap (λ b. b && p q) (has-after o exact q xs (filter p gone) (filter p more))
-      ∙ (λ t. ((has R xs q && not (has-filter o exact p q gone t)) || has-filter o exact p q more t) && p q)
-      ∙ part (has R xs q) (has R gone q) (has R more q) (p q)
-      ∙ sym (has-filter o exact p q (union R (without R xs gone) more) ∙ ap (λ b. b && p q) (has-after o exact q xs gone more)))
-
--- ---- parts of a dataset
 
 pub says-matching : (p : QuadPattern Id) (d : View) → says (Scan p) (record { quads = filter (matches id_order p) d.quads; names = [] }) ≡ says (Scan p) d
 unfolding says
@@ -66,17 +34,3 @@ says-name g d = ap Is (has_one g (has id_order d.names g))
 pub says-names : (d : View) → says Graphs (record { quads = []; names = d.names }) ≡ says Graphs d
 unfolding says
 says-names d = refl
-
--- ---- parts of a change
-
-pub after-matching : (p : QuadPattern Id) (c : Delta) (d : View) → says (Scan p) (applied (record { present = filter (matches id_order p) c.present; absent = filter (matches id_order p) c.absent; there = []; gone = [] }) d) ≡ says (Scan p) (applied c d)
-unfolding says applied
-after-matching p c d = ap Quads (filter-part (quad_total id_total) (quad_exact id_order id_exact) (matches id_order p) d.quads c.absent c.present)
-
-pub after-name : (g : Id) (c : Delta) (d : View) → says (GraphIs g) (applied (record { present = []; absent = []; there = c.there; gone = c.gone }) d) ≡ says (GraphIs g) (applied c d)
-unfolding says applied
-after-name g c d = refl
-
-pub after-names : (c : Delta) (d : View) → says Graphs (applied (record { present = []; absent = []; there = c.there; gone = c.gone }) d) ≡ says Graphs (applied c d)
-unfolding says applied
-after-names c d = refl

@@ -1,4 +1,4 @@
--- The tests for equal lists, changes, answers and reads are exact.
+-- The tests for equal lists, answers and reads are exact.
 use Rattle.std.proofs.Common.{◌≡◌, Bool, true, false, ◌&&◌, List, [], ◌∷◌, Option, refl, ap}
 use Rattle.std.proofs.lemmas.Bool.{and_parts, and_from}
 use Rattle.std.specs.Ordering.{eq_by_cmp, is_eq}
@@ -13,8 +13,8 @@ use Rattle.datasets.specs.declared.read.QuadPattern.{QuadPattern}
 use Rattle.datasets.specs.declared.read.Read.TheVariants.{Scan, GraphIs, Graphs}
 use Rattle.datasets.specs.Dataset.{Quads, Is, Names, quad_order, same_graph}
 use Rattle.datasets.specs.Id.{id_order, id_total, id_exact, option_exact, quad_exact, quad_total}
-use Rattle.reads.specs.Reads.{Delta, Read, Answer}
-use Rattle.reads.specs.Same.{list_eq, bool_eq, quads_eq, names_eq, delta_eq, answer_eq, graph_place_eq, pattern_eq, read_eq}
+use Rattle.reads.specs.Reads.{Read, Answer}
+use Rattle.reads.specs.Same.{list_eq, bool_eq, quads_eq, names_eq, answer_eq, graph_place_eq, pattern_eq, read_eq}
 
 pub bool_eq-true : (a b : Bool) → bool_eq a b ≡ true → a ≡ b
 bool_eq-true true true h = refl
@@ -61,17 +61,6 @@ names_eq-true a b h = list_eq-true (eq_by_cmp id_order) name_true a b h
 
 pub names_eq-same : (a : List Id) → names_eq a a ≡ true
 names_eq-same a = list_eq-same (eq_by_cmp id_order) name_same a
-
-pub delta_eq-true : (a b : Delta) → delta_eq a b ≡ true → a ≡ b
-delta_eq-true a b h =
-    let p = and_parts (quads_eq a.present b.present) (quads_eq a.absent b.absent && (names_eq a.there b.there && names_eq a.gone b.gone)) h in
-    let q = and_parts (quads_eq a.absent b.absent) (names_eq a.there b.there && names_eq a.gone b.gone) p.1 in
-    let r = and_parts (names_eq a.there b.there) (names_eq a.gone b.gone) q.1 in
-    let present = quads_eq-true a.present b.present p.0 in
-    let absent = quads_eq-true a.absent b.absent q.0 in
-    let there = names_eq-true a.there b.there r.0 in
-    let gone = names_eq-true a.gone b.gone r.1 in
-    λ t. record { present = present t; absent = absent t; there = there t; gone = gone t }
 
 pub answer_eq-true : (a b : Answer) → answer_eq a b ≡ true → a ≡ b
 answer_eq-true (Quads a) (Quads b) h = ap Quads (quads_eq-true a b h)

@@ -1,17 +1,9 @@
--- When a finished run of a request is sound: what it read determines what it must make of a dataset.
+-- When what a run read is so of a dataset.
 use Rattle.std.specs.Prelude.{◌≡◌, List, [], ◌∷◌}
-use Rattle.meaning.specs.declared.reply.Reply as request
-use Rattle.reads.specs.Reads.{View, says, applied, IsDataset}
+use Rattle.reads.specs.Reads.{View, says}
 use Rattle.reads.specs.declared.note.Note.{Note}
-use Rattle.reads.specs.declared.finished.Finished.{Finished}
 
 -- each answer is what its read says of the dataset
 abbrev pub Agrees : List Note → View → Type 0
 Agrees [] d = Unit {0}
 Agrees (n ∷ ns) d = (n.answer ≡ says n.read d) × Agrees ns d
-
--- for every dataset that its transcript agrees with, a finished run has the dataset and the reply of the request's answer
-unfoldable pub IsSoundFor : (View → View × request.Reply) → Finished → Type 0
-IsSoundFor answer finished =
-    (d : View) → IsDataset d → Agrees finished.transcript d
-    → (applied finished.delta d ≡ (answer d).0) × (finished.reply ≡ (answer d).1)

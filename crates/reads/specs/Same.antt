@@ -1,4 +1,4 @@
--- Tests for equal lists, changes, answers and reads at numbers of terms.
+-- Tests for equal lists, answers and reads at numbers of terms.
 use Rattle.std.specs.Prelude.{Bool, true, false, not, ◌&&◌, List, [], ◌∷◌}
 use Rattle.std.specs.Ordering.{eq_by_cmp}
 use Rattle.datasets.specs.declared.id.Id.{Id}
@@ -9,7 +9,7 @@ use Rattle.datasets.specs.declared.read.QuadPattern.{QuadPattern}
 use Rattle.datasets.specs.declared.read.Read.TheVariants.{Scan, GraphIs, Graphs}
 use Rattle.datasets.specs.Dataset.{Quads, Is, Names, quad_order, same_graph}
 use Rattle.datasets.specs.Id.{id_order}
-use Rattle.reads.specs.Reads.{Delta, Read, Answer}
+use Rattle.reads.specs.Reads.{Read, Answer}
 
 abbrev pub list_eq : {A : Type 0} → (A → A → Bool) → List A → List A → Bool
 list_eq eq [] [] = true
@@ -26,9 +26,6 @@ quads_eq a b = list_eq (eq_by_cmp (quad_order id_order)) a b
 
 abbrev pub names_eq : List Id → List Id → Bool
 names_eq a b = list_eq (eq_by_cmp id_order) a b
-
-abbrev pub delta_eq : Delta → Delta → Bool
-delta_eq a b = quads_eq a.present b.present && (quads_eq a.absent b.absent && (names_eq a.there b.there && names_eq a.gone b.gone))
 
 abbrev pub answer_eq : Answer → Answer → Bool
 answer_eq (Quads a) (Quads b) = quads_eq a b

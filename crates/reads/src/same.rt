@@ -33,7 +33,7 @@ pub fn same_bool(a: bool, b: bool) -> bool
 }
 
 /// Whether two lists of quads are the same.
-pub(crate) fn same_quads(a: &[Quad<Id>], b: &[Quad<Id>]) -> bool
+pub fn same_quads(a: &[Quad<Id>], b: &[Quad<Id>]) -> bool
     ensures { result ≡ quads_eq a.now b.now }
 {
     match a {
@@ -46,7 +46,7 @@ pub(crate) fn same_quads(a: &[Quad<Id>], b: &[Quad<Id>]) -> bool
 }
 
 /// Whether two lists of names are the same.
-pub(crate) fn same_names(a: &[Id], b: &[Id]) -> bool
+pub fn same_names(a: &[Id], b: &[Id]) -> bool
     ensures { result ≡ names_eq a.now b.now }
 {
     match a {

@@ -7,19 +7,19 @@ ghost use Rattle.change_laws.specs.Laws.{IsRising};
 ghost use Rattle.reads.specs.Reads.{says, IsDataset};
 
 use crate::answered::Answered;
-use crate::lists::{copied_names, copied_quads, has_name, name_if};
+use crate::lists::{copied_names, copied_quads, name_if};
 use datasets::{Answer, Id, Quad, QuadPattern, Read};
 use quad_index::matching::matching;
 use quad_index::part_of_set;
-use sets::set_of;
+use sets::{is_member, set_of};
 use std::alloc::{AllocError, Global};
 use std::marker::Model;
 
 /// A dataset, or what changes made of one: a set of quads and a set of graph names. A quad's graph need not be named.
 #[derive(Drop)]
 pub struct View {
-    pub(crate) quads: Vec<Quad<Id>>,
-    pub(crate) names: Vec<Id>,
+    quads: Vec<Quad<Id>>,
+    names: Vec<Id>,
 }
 
 impl Model for View {
@@ -56,6 +56,22 @@ impl View {
             quads: set_of(quads),
             names: set_of(names),
         }
+    }
+
+    /// These sets of quads and of graph names. It takes no memory.
+    pub fn from_sets(quads: Vec<Quad<Id>>, names: Vec<Id>) -> View
+        requires { IsRising id_order (record { quads = quads.items; names = names.items }) }
+        ensures { result ≡ record { quads = quads.items; names = names.items } }
+    {
+        View { quads, names }
+    }
+
+    /// Its quads and its graph names, by themselves.
+    pub fn into_parts(self) -> (Vec<Quad<Id>>, Vec<Id>)
+        ensures quads { result.0.items ≡ self.quads }
+        ensures names { result.1.items ≡ self.names }
+    {
+        (self.quads, self.names)
     }
 
     /// Its quads.
@@ -104,7 +120,7 @@ impl View {
     fn name_part(&self, alloc: Global, name: &Id) -> Result<View, AllocError>
         ensures { IfOk result (λ part. part ≡ record { quads = []; names = if has id_order self.now.names name.now then name.now ∷ [] else [] }) }
     {
-        let is_there = has_name(&self.names, name);
+        let is_there = is_member(&self.names, name);
         let names = name_if(alloc, is_there, name)?;
         Ok(View {
             quads: Vec::new(alloc),
@@ -144,7 +160,7 @@ impl View {
                 let part = part_of_set(&self.quads, pattern);
                 Answer::Quads(matching(alloc, pattern, part)?)
             }
-            Read::GraphIs(name) => Answer::Is(has_name(&self.names, name)),
+            Read::GraphIs(name) => Answer::Is(is_member(&self.names, name)),
             Read::Graphs => Answer::Names(copied_names(alloc, &self.names)?),
         };
         Ok(Answered::new(answer))

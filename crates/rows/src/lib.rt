@@ -1,10 +1,14 @@
 //! Worked examples through the whole engines, over memory: a base and a block in, the dataset, the replies and the fault out; and a block in,
-//! its verdicts and the fault out.
+//! its verdicts and the fault out; and command lines with the jobs that they ask for.
 #![tactic(auto)]
 
 #[cfg(test)]
 mod checks;
 #[cfg(test)]
+mod graphs;
+#[cfg(test)]
 mod tests;
+#[cfg(test)]
+mod told_lines;
 #[cfg(test)]
 mod where_clauses;

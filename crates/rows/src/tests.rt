@@ -1,6 +1,6 @@
 ghost use Rattle.std.specs.Prelude.{◌<◌, ◌≤◌};
 
-use cli::{Fault, Watched, run_engine};
+use cli::{Fault, Watched, run_engine, serial_engine};
 use std::alloc::{AllocError, Global};
 use std::io;
 use std::io::{Read, Write};
@@ -49,6 +49,29 @@ pub(crate) fn answer_to<T: Wait>(
         status: status_of(&outcome),
         dataset: dataset.inner,
         replies: replies.inner,
+    }
+}
+
+/// The same by one thread, one request after another.
+pub(crate) fn serial_answer_to(alloc: Global, base: &[u8], block: &[u8]) -> Answer {
+    let mut base = Watched::new(base);
+    let mut block = Watched::new(block);
+    let mut dataset = Watched::new(Vec::new(alloc));
+    let mut replies = Watched::new(Vec::new(alloc));
+    let outcome = serial_engine(alloc, &mut base, &mut block, &mut dataset, &mut replies);
+    Answer {
+        status: status_of(&outcome),
+        dataset: dataset.inner,
+        replies: replies.inner,
+    }
+}
+
+impl Answer {
+    /// Whether it went well, with a dataset of so many lines and these replies.
+    pub(crate) fn has(&self, lines: usize, replies: &str) -> bool {
+        self.status == 0
+            && line_count(&self.dataset) == lines
+            && self.replies.as_slice() == replies.as_bytes()
     }
 }
 
@@ -197,33 +220,61 @@ const ROWS: [Row; 25] = [
         "<http://e/a> <http://e/p> \"1\"^^<http://www.w3.org/2001/XMLSchema#integer> .\n",
         "0 ok +1 -0\n1 refused variable-in-data\n2 refused prefix\n",
     ),
-    // Operations on whole graphs can be checked and not run yet.
+    // A graph that was made stays, empty.
     (
         "",
         "CREATE GRAPH <x:g>\n----\nINSERT DATA { <x:a> <x:p> 1 } ; CLEAR ALL",
         0,
-        "",
-        "0 refused syntax\n1 refused syntax\n",
+        "#@graph <x:g>\n",
+        "0 ok +0 -0\n1 ok +0 -0\n",
     ),
 ];
 
-pub(crate) fn is_as_expected(answer: &Answer, status: u8, dataset: &str, replies: &str) -> bool {
+fn is_as_expected(answer: &Answer, status: u8, dataset: &str, replies: &str) -> bool {
     answer.status == status
         && answer.dataset.as_slice() == dataset.as_bytes()
         && answer.replies.as_slice() == replies.as_bytes()
 }
 
-#[test]
-fn rows(rt: HostRuntime) {
-    for (base, block, status, dataset, replies) in &ROWS {
-        for workers in [1, 8] {
-            let answer = answer_to(&rt, rt.alloc(), base.as_bytes(), block.as_bytes(), workers);
-            assert!(rt;
-                is_as_expected(&answer, *status, dataset, replies),
-                "{block:?} with {workers} workers"
-            );
+// Whether a row comes out by one worker, by eight, and one request after another.
+fn is_right<T: Wait>(rt: &T, alloc: Global, row: &Row) -> bool {
+    let (base, block, status, dataset, replies) = *row;
+    let (base, block) = (base.as_bytes(), block.as_bytes());
+    is_as_expected(
+        &answer_to(rt, alloc, base, block, 1),
+        status,
+        dataset,
+        replies,
+    ) && is_as_expected(
+        &answer_to(rt, alloc, base, block, 8),
+        status,
+        dataset,
+        replies,
+    ) && is_as_expected(
+        &serial_answer_to(alloc, base, block),
+        status,
+        dataset,
+        replies,
+    )
+}
+
+/// The base and the block of the first row that does not come out.
+pub(crate) fn first_wrong<T: Wait>(
+    rt: &T,
+    alloc: Global,
+    rows: &[Row],
+) -> Option<(&'static str, &'static str)> {
+    for row in rows {
+        if !is_right(rt, alloc, row) {
+            return Some((row.0, row.1));
         }
     }
+    None
+}
+
+#[test]
+fn rows(rt: HostRuntime) {
+    assert_eq!(rt; first_wrong(&rt, rt.alloc(), &ROWS), None);
 }
 
 /// A base, the status of a run of no request, and the new dataset.

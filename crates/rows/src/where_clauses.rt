@@ -1,6 +1,6 @@
 //! Patterns, filters, graphs and new nodes, from bytes to bytes.
 
-use crate::tests::{Row, answer_to, is_as_expected};
+use crate::tests::{Row, first_wrong};
 
 const ROWS: [Row; 21] = [
     // Taking out the last triple of a graph leaves the graph there.
@@ -175,13 +175,5 @@ const ROWS: [Row; 21] = [
 
 #[test]
 fn where_clauses(rt: HostRuntime) {
-    for (base, block, status, dataset, replies) in &ROWS {
-        for workers in [1, 8] {
-            let answer = answer_to(&rt, rt.alloc(), base.as_bytes(), block.as_bytes(), workers);
-            assert!(rt;
-                is_as_expected(&answer, *status, dataset, replies),
-                "{block:?} with {workers} workers"
-            );
-        }
-    }
+    assert_eq!(rt; first_wrong(&rt, rt.alloc(), &ROWS), None);
 }

@@ -1,12 +1,10 @@
 -- The first fault of a reading, and what it says of the text.
 use Rattle.std.proofs.Common.{◌≡◌, ℕ, ◌+◌, ◌++◌, length-append, ◌<◌, ◌≤◌, ◌^◌, Bool, true, false, List, [], ◌∷◌, length, Option, Some, None, Result, Ok, Err, refl, sym, ap, ◌∙◌, subst, suc, add-one, arith, eqb, cond, inl, inr}
 use Rattle.std.proofs.lemmas.Bool.{cases_order, or_parts, cases_lt, lt-ltb}
-use Rattle.std.specs.Prelude.{nat_lt, IfOk, fold}
-use Rattle.std.specs.Option.{option_map}
+use Rattle.std.specs.Prelude.{nat_lt, IfOk}
 use Rattle.std.specs.declared.alloc.AllocError.{AllocError}
 use Rattle.terms.specs.declared.term.Term.{Term}
 use Rattle.algebra.specs.declared.update.Operation.{Operation}
-use Rattle.meaning.specs.declared.update.Operation.{Operation as RunOperation}
 use Rattle.meaning.specs.declared.reply.Refusal.{Refusal}
 use Rattle.meaning.specs.declared.reply.Refusal.TheVariants as refusal
 use Rattle.syntax_trees.specs.declared.tree.Step.{Step}
@@ -17,7 +15,6 @@ use Rattle.names.specs.Names.{Prefixes, declare}
 use Rattle.translation.specs.Translation.{translated_after, translated}
 use Rattle.translation.specs.Faults.{operation_count, has_fault}
 use Rattle.rules.specs.Refusal.{place_of, Holds, no_reading, fault, IsRefusal, IsChecked, IsJudged, IsFirstFault, IsVerdict, IsAccepted}
-use Rattle.rules.specs.Runnable.{run_operation, with_operation, runnable, run_form, run_request, IsTaken}
 
 -- ---- the first fault
 
@@ -145,44 +142,12 @@ pub verdict_judged : (text : List ℕ) (o : Option Syntax) (s : Syntax) (r : Res
 verdict_judged text o s (Ok v) parsed is verdict = judged_is text s (subst (λ (o : Option Syntax). IsParsed text o) is parsed) v verdict
 verdict_judged text o s (Err e) parsed is verdict = verdict
 
--- ---- what the run takes
-
-abbrev Answer : Type 0
-Answer = Result (List (Operation Term)) Refusal
-
-abbrev Taken : Type 0
-Taken = Result (List (RunOperation Term)) Refusal
-
-pub taken_accepted : (text : List ℕ) (r : Answer) (update : List (Operation Term)) (found : Option (List (RunOperation Term))) (t : Taken) → IsChecked text r → r ≡ Ok update → found ≡ runnable update → t ≡ run_form found → IsTaken text t
-taken_accepted text r update found t checked is made taken = record { checked = r; text_is = checked; is = taken ∙ ap run_form made ∙ sym (ap run_request is) }
-
-pub taken_refused : (text : List ℕ) (r : Answer) (k : Refusal) → IsChecked text r → r ≡ Err k → IsTaken text (Err k)
-taken_refused text r k checked is = record { checked = r; text_is = checked; is = sym (ap run_request is) }
-
 -- ---- few operations
 
 translated_length : (ds : Prefixes) (steps : List Step) → length (translated_after ds steps) ≡ operation_count steps
 translated_length ds [] = refl
 translated_length ds (step.Declare p i ∷ steps) = translated_length (declare p i ds) steps
 translated_length ds (step.Do op ∷ steps) = ap suc (translated_length ds steps) ∙ sym (add-one (operation_count steps))
-
-never : (os : List (Operation Term)) → fold with_operation None os ≡ None
-never [] = refl
-never (o ∷ os) = never os
-
-some_is : {A : Type 0} (x y : A) → Some x ≡ Some y → x ≡ y
-some_is x y e = cc
-
-taken_length : (os : List (Operation Term)) (acc made : List (RunOperation Term)) → fold with_operation (Some acc) os ≡ Some made → length made ≡ length acc + length os
-taken_length [] acc made e = let same : length made ≡ length acc = sym (ap length (some_is acc made e)) in omega (arith, same)
-taken_length (o ∷ os) acc made e =
-    elim (run_operation o) as (λ r. fold with_operation (option_map (λ x. acc ++ x ∷ []) r) os ≡ Some made → length made ≡ length acc + length (o ∷ os)) [
-      | None ↦ λ e. let wrong : None ≡ Some made = sym (never os) ∙ e in absurd cc
-      | Some x ↦ λ e.
-          let rest : length made ≡ length (acc ++ x ∷ []) + length os = taken_length os (acc ++ x ∷ []) made e in
-          let front : length (acc ++ x ∷ []) ≡ length acc + length (x ∷ []) = length-append acc (x ∷ []) in
-          omega (arith, rest, front)
-    ] e
 
 not_above : (m n : ℕ) → nat_lt m n ≡ false → n ≤ m
 not_above m n e = elim (cases_lt m n) [ inl lt ↦ absurd (let t : true ≡ false = sym (lt-ltb m n lt) ∙ e in cc) | inr ge ↦ ge ]
@@ -194,16 +159,9 @@ accepted_short text update a =
     let same : length update ≡ operation_count a.syntax.steps = ap length a.is ∙ translated_length [] a.syntax.steps in
     omega (arith, few, same)
 
-form_short : (update : List (Operation Term)) (found : Option (List (RunOperation Term))) → fold with_operation (Some []) update ≡ found → length update ≤ 256 → IfOk (run_form found) (λ operations. length operations ≤ 256)
-form_short update None e few = tt
-form_short update (Some made) e few = let same : length made ≡ 0 + length update = taken_length update [] made e in omega (arith, few, same)
-
-request_short : (text : List ℕ) (r : Answer) → IsChecked text r → IfOk (run_request r) (λ operations. length operations ≤ 256)
-request_short text (Ok update) accepted = form_short update (runnable update) refl (accepted_short text update accepted)
-request_short text (Err kind) refused = tt
-
-pub requests_are_short : (text : List ℕ) (t : Taken) → IsTaken text t → IfOk t (λ operations. length operations ≤ 256)
-requests_are_short text t taken = subst (λ (t : Taken). IfOk t (λ operations. length operations ≤ 256)) (sym taken.is) (request_short text taken.checked taken.text_is)
+pub requests_are_short : (text : List ℕ) (c : Result (List (Operation Term)) Refusal) → IsChecked text c → IfOk c (λ operations. length operations ≤ 256)
+requests_are_short text (Ok update) accepted = accepted_short text update accepted
+requests_are_short text (Err kind) refused = tt
 
 -- ---- one answer
 

@@ -1,5 +1,4 @@
 pub mod Refusal
-pub mod Runnable
 pub mod Requests
 pub mod Cutting
 pub mod Terms

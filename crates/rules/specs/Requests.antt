@@ -4,12 +4,11 @@ use Rattle.std.specs.Borrow.{Bor}
 use Rattle.std.specs.Prelude.{ℕ, ◌≡◌, ◌==◌, ◌&&◌, ◌≤◌, ◌<◌, ◌^◌, Bool, false, List, [], ◌∷◌, ◌++◌, length, Option, Result, Ok, Err, IsUtf8, if◌then◌else◌}
 use Rattle.std.specs.List.{onto_first}
 use Rattle.terms.specs.declared.term.Term.{Term}
-use Rattle.meaning.specs.declared.update.Operation.{Operation}
+use Rattle.algebra.specs.declared.update.Operation.{Operation}
 use Rattle.meaning.specs.declared.reply.Refusal.{Refusal}
 use Rattle.rules.specs.declared.fault.BlockFault.{BlockFault}
 use Rattle.rules.specs.declared.fault.BlockFault.TheVariants as block_fault
-use Rattle.rules.specs.Refusal.{IsJudged}
-use Rattle.rules.specs.Runnable.{IsTaken}
+use Rattle.rules.specs.Refusal.{IsChecked, IsJudged}
 
 -- the lines with their LFs; the last has none, and is [] after an LF at the end
 abbrev pub whole_lines : List ℕ → List (List ℕ)
@@ -55,12 +54,12 @@ IsBlockText bytes (Err block_fault.TooLong) = 2 ^ 28 < length bytes
 IsBlockText bytes (Err block_fault.TooManyRequests) = (length bytes ≤ 2 ^ 28) × (4096 < length (requests bytes))
 IsBlockText bytes (Err block_fault.BadUtf8) = (length bytes ≤ 2 ^ 28) × (length (requests bytes) ≤ 4096) × (IsUtf8 bytes → ⊥)
 
--- what the run takes of each request
-abbrev pub AreTaken : List (List ℕ) → List (Result (List (Operation Term)) Refusal) → Type 0
-AreTaken = AreEach IsTaken
+-- the update of each request, or why it is refused
+abbrev pub AreChecked : List (List ℕ) → List (Result (List (Operation Term)) Refusal) → Type 0
+AreChecked = AreEach IsChecked
 
 abbrev pub IsSplit : List ℕ → Result (List (Result (List (Operation Term)) Refusal)) BlockFault → Type 0
-IsSplit = IsSplitInto IsTaken
+IsSplit = IsSplitInto IsChecked
 
 -- whether each request is refused
 abbrev pub AreJudged : List (List ℕ) → List (Option Refusal) → Type 0

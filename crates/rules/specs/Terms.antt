@@ -12,8 +12,12 @@ use Rattle.algebra.specs.declared.pattern.TriplePattern.{TriplePattern}
 use Rattle.algebra.specs.Expressions as expression
 use Rattle.algebra.specs.Expressions.{Expression}
 use Rattle.algebra.specs.Plans.{Plan, Basic, Join, LeftJoin, Union, Minus, Filter, InGraph}
-use Rattle.meaning.specs.declared.update.Operation.{Operation}
-use Rattle.meaning.specs.declared.update.Operation.TheVariants as update
+use Rattle.algebra.specs.declared.update.Target.{Target}
+use Rattle.algebra.specs.declared.update.Target.TheVariants as target
+use Rattle.algebra.specs.declared.update.GraphOperation.{GraphOperation}
+use Rattle.algebra.specs.declared.update.GraphOperation.TheVariants as graphs
+use Rattle.algebra.specs.declared.update.Operation.{Operation}
+use Rattle.algebra.specs.declared.update.Operation.TheVariants as update
 use Rattle.meaning.specs.declared.reply.Refusal.{Refusal}
 
 abbrev pub terms_of_slot : Slot Term → List Term
@@ -51,9 +55,22 @@ terms_of_plan (Minus a b) = terms_of_plan a ++ terms_of_plan b
 terms_of_plan (Filter es a) = terms_of_plan a ++ flat_map terms_of_expression es
 terms_of_plan (InGraph n a) = terms_of_place n ++ terms_of_plan a
 
+abbrev pub terms_of_target : Target Term → List Term
+terms_of_target (target.Graph g) = g ∷ []
+terms_of_target target.Default = []
+terms_of_target target.Named = []
+terms_of_target target.All = []
+
+abbrev pub terms_of_graphs : GraphOperation Term → List Term
+terms_of_graphs (graphs.Create g) = g ∷ []
+terms_of_graphs (graphs.Drop t) = terms_of_target t
+terms_of_graphs (graphs.Clear t) = terms_of_target t
+terms_of_graphs (graphs.Transfer how from to) = option_to_list from ++ option_to_list to
+
 abbrev pub terms_of_operation : Operation Term → List Term
 terms_of_operation (update.Modify m) =
     option_to_list m.active ++ terms_of_plan m.pattern ++ flat_map terms_of_quad m.delete ++ flat_map terms_of_quad m.insert
+terms_of_operation (update.Graphs silent op) = terms_of_graphs op
 
 -- those of an accepted request
 abbrev pub terms_of_request : Result (List (Operation Term)) Refusal → List Term

@@ -3,7 +3,7 @@ ghost use Rattle.std.specs.Prelude.{◌≡◌, IfOk, length};
 ghost use Rattle.rules.specs.Terms.{terms_of};
 
 use crate::block_terms::add_requests;
-use crate::running::Taken;
+use crate::request::Checked;
 use sets::Items;
 use std::alloc::{AllocError, Global};
 use std::marker::Model;
@@ -12,7 +12,7 @@ use terms::Term;
 /// The requests of a block, in order. Contracts see them as a list.
 #[derive(Drop)]
 pub struct Block {
-    requests: Items<Taken>,
+    requests: Items<Checked>,
 }
 
 impl Model for Block {
@@ -20,7 +20,7 @@ impl Model for Block {
     ghost use Rattle.std.specs.Prelude.{List, Result};
     ghost use Rattle.algebra.specs.Codes.{plan_code};
     ghost use Rattle.terms.specs.declared.term.Term.{Term};
-    ghost use Rattle.meaning.specs.declared.update.Operation.{Operation};
+    ghost use Rattle.algebra.specs.declared.update.Operation.{Operation};
     ghost use Rattle.meaning.specs.declared.reply.Refusal.{Refusal};
 
     ghost Value = { List (Result (List (Operation Term)) Refusal) };
@@ -32,7 +32,7 @@ impl Model for Block {
 
 impl Block {
     /// The block of these requests. It takes no memory.
-    pub fn new(requests: Items<Taken>) -> Block
+    pub fn new(requests: Items<Checked>) -> Block
         ensures { result ≡ requests }
     {
         Block { requests }
@@ -46,7 +46,7 @@ impl Block {
     }
 
     /// Its requests.
-    pub fn as_slice(&self) -> &[Taken]
+    pub fn as_slice(&self) -> &[Checked]
         ensures { result.now ≡ self.now }
     {
         self.requests.as_slice()

@@ -5,11 +5,13 @@ ghost use Rattle.std.specs.Option.{option_to_list};
 ghost use Rattle.algebra.specs.Expressions.{expression_of};
 ghost use Rattle.algebra.specs.Plans.{parts_of, plan_of};
 ghost use Rattle.rules.specs.Parts.{terms_of_link, terms_of_part};
-ghost use Rattle.rules.specs.Terms.{terms_of_slot, terms_of_graph, terms_of_quad, terms_of_place, terms_of_pattern, terms_of_expression, terms_of_plan, terms_of_operation, terms_of_request, terms_of};
+ghost use Rattle.rules.specs.Terms.{terms_of_slot, terms_of_graph, terms_of_quad, terms_of_place, terms_of_pattern, terms_of_expression, terms_of_plan, terms_of_target, terms_of_graphs, terms_of_operation, terms_of_request, terms_of};
 
-use crate::running::Taken;
-use algebra::{Expression, Link, Place, Plan, QuadTemplate, Slot, TriplePattern};
-use meaning::Operation;
+use crate::request::Checked;
+use algebra::{
+    Expression, GraphOperation, Link, Modify, Operation, Place, Plan, QuadTemplate, Slot, Target,
+    TriplePattern,
+};
 use std::alloc::{AllocError, Global};
 use terms::Term;
 
@@ -192,13 +194,52 @@ fn add_plan(alloc: Global, found: &mut Vec<Term>, plan: &Plan<Term>) -> Result<(
     }
 }
 
-fn add_active(alloc: Global, found: &mut Vec<Term>, active: &Option<Term>) -> Result<(), AllocError>
-    ensures { OnOk result (found.new.items ≡ found.old.items ++ option_to_list active.now) }
+fn add_name(alloc: Global, found: &mut Vec<Term>, graph: &Option<Term>) -> Result<(), AllocError>
+    ensures { OnOk result (found.new.items ≡ found.old.items ++ option_to_list graph.now) }
 {
-    if let Some(graph) = active {
+    if let Some(graph) = graph {
         found.push(graph.copied(alloc)?)?;
     }
     Ok(())
+}
+
+fn add_modify(alloc: Global, found: &mut Vec<Term>, modify: &Modify<Term>) -> Result<(), AllocError>
+    ensures { OnOk result (found.new.items ≡ found.old.items ++ terms_of_operation (Operation.Modify modify.now)) }
+{
+    add_name(alloc, found, &modify.active)?;
+    add_plan(alloc, found, modify.pattern.plan())?;
+    add_quads(alloc, found, modify.delete.as_slice())?;
+    add_quads(alloc, found, modify.insert.as_slice())
+}
+
+fn add_target(alloc: Global, found: &mut Vec<Term>, target: &Target<Term>) -> Result<(), AllocError>
+    ensures { OnOk result (found.new.items ≡ found.old.items ++ terms_of_target target.now) }
+{
+    if let Target::Graph(graph) = target {
+        found.push(graph.copied(alloc)?)?;
+    }
+    Ok(())
+}
+
+fn add_graphs(
+    alloc: Global,
+    found: &mut Vec<Term>,
+    operation: &GraphOperation<Term>,
+) -> Result<(), AllocError>
+    ensures { OnOk result (found.new.items ≡ found.old.items ++ terms_of_graphs operation.now) }
+{
+    match operation {
+        GraphOperation::Create(graph) => {
+            found.push(graph.copied(alloc)?)?;
+            Ok(())
+        }
+        GraphOperation::Drop(target) => add_target(alloc, found, target),
+        GraphOperation::Clear(target) => add_target(alloc, found, target),
+        GraphOperation::Transfer { from, to, .. } => {
+            add_name(alloc, found, from)?;
+            add_name(alloc, found, to)
+        }
+    }
 }
 
 fn add_operation(
@@ -208,11 +249,10 @@ fn add_operation(
 ) -> Result<(), AllocError>
     ensures { OnOk result (found.new.items ≡ found.old.items ++ terms_of_operation operation.now) }
 {
-    let Operation::Modify(modify) = operation;
-    add_active(alloc, found, &modify.active)?;
-    add_plan(alloc, found, modify.pattern.plan())?;
-    add_quads(alloc, found, modify.delete.as_slice())?;
-    add_quads(alloc, found, modify.insert.as_slice())
+    match operation {
+        Operation::Modify(modify) => add_modify(alloc, found, modify),
+        Operation::Graphs { operation, .. } => add_graphs(alloc, found, operation),
+    }
 }
 
 fn add_operations(
@@ -228,7 +268,7 @@ fn add_operations(
     Ok(())
 }
 
-fn add_request(alloc: Global, found: &mut Vec<Term>, request: &Taken) -> Result<(), AllocError>
+fn add_request(alloc: Global, found: &mut Vec<Term>, request: &Checked) -> Result<(), AllocError>
     ensures { OnOk result (found.new.items ≡ found.old.items ++ terms_of_request request.now) }
 {
     match request {
@@ -241,7 +281,7 @@ fn add_request(alloc: Global, found: &mut Vec<Term>, request: &Taken) -> Result<
 pub fn add_requests(
     alloc: Global,
     found: &mut Vec<Term>,
-    requests: &[Taken],
+    requests: &[Checked],
 ) -> Result<(), AllocError>
     ensures { OnOk result (found.new.items ≡ found.old.items ++ terms_of requests.now) }
 {

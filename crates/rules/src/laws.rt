@@ -2,10 +2,8 @@
 ghost use Rattle.std.specs.Prelude.{◌≡◌, ◌≤◌, List, ℕ, Result, IfOk, length};
 ghost use Rattle.terms.specs.declared.term.Term.{Term};
 ghost use Rattle.algebra.specs.declared.update.Operation.{Operation};
-ghost use Rattle.meaning.specs.declared.update.Operation.{Operation as RunOperation};
 ghost use Rattle.meaning.specs.declared.reply.Refusal.{Refusal};
 ghost use Rattle.rules.specs.Refusal.{IsChecked};
-ghost use Rattle.rules.specs.Runnable.{IsTaken};
 
 use grammar::laws::one_reading;
 
@@ -16,7 +14,7 @@ pub fn one_answer()
     one_reading();
 }
 
-/// What the run takes of a text has at most 256 operations.
+/// An accepted request has at most 256 operations.
 pub fn requests_are_short()
-    ensures { (text : List ℕ) (c : Result (List (RunOperation Term)) Refusal) → IsTaken text c → IfOk c (λ operations. length operations ≤ 256) }
+    ensures { (text : List ℕ) (c : Result (List (Operation Term)) Refusal) → IsChecked text c → IfOk c (λ operations. length operations ≤ 256) }
 {}

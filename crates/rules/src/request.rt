@@ -1,12 +1,10 @@
 //! Requests and their refusals.
 ghost use Rattle.std.specs.Prelude.{IfOk};
 ghost use Rattle.rules.specs.Refusal.{IsFirstFault, IsVerdict, IsChecked, IsJudged};
-ghost use Rattle.rules.specs.Runnable.{IsTaken};
 
-use crate::running::{Taken, run_form, runnable};
 use algebra::Operation;
 use grammar::parse;
-use meaning::Refusal;
+use meaning::{Refusal, Request};
 use sets::Items;
 use std::alloc::{AllocError, Global};
 use syntax_trees::Syntax;
@@ -17,7 +15,7 @@ use translation::{has_fault, translated};
 pub type Update = Items<Operation<Term>>;
 
 /// A request: its update, or why it is refused.
-pub type Checked = Result<Update, Refusal>;
+pub type Checked = Request<Term>;
 
 /// The first kind of fault that a reading is refused for.
 #[tactic(auto, using(crate::proofs::VerdictLaws::first_faults))]
@@ -77,16 +75,5 @@ pub fn judged(alloc: Global, text: &str) -> Result<Verdict, AllocError>
     match parse(alloc, text)? {
         Some(syntax) => first_fault(alloc, &syntax),
         None => Ok(Some(Refusal::Syntax)),
-    }
-}
-
-/// What the run takes of a text: the operations of an accepted request that can be run, or why it is refused. An error comes as for `check`.
-#[tactic(auto, using(crate::proofs::VerdictLaws::taken_accepted, crate::proofs::VerdictLaws::taken_refused))]
-pub fn taken(alloc: Global, text: &str) -> Result<Taken, AllocError>
-    ensures { IfOk result (IsTaken text.now) }
-{
-    match checked(alloc, text)? {
-        Ok(update) => Ok(run_form(runnable(alloc, update)?)),
-        Err(kind) => Ok(Err(kind)),
     }
 }

@@ -1,12 +1,11 @@
 //! The requests of a block of bytes.
 ghost use Rattle.std.specs.Prelude.{◌≡◌, ◌≤◌, ◌^◌, IfOk, length};
-ghost use Rattle.rules.specs.Requests.{whole_lines, texts_of, requests, AreTaken, AreJudged, IsBlockText, IsSplit, AreVerdicts};
+ghost use Rattle.rules.specs.Requests.{whole_lines, texts_of, requests, AreChecked, AreJudged, IsBlockText, IsSplit, AreVerdicts};
 
 use crate::block::Block;
 use crate::cut::{after_separator, text_count, text_len};
 use crate::fault::BlockFault;
-use crate::request::{Verdict, judged, taken};
-use crate::running::Taken;
+use crate::request::{Checked, Verdict, checked, judged};
 use meaning::Refusal;
 use sets::Items;
 use std::alloc::{AllocError, Global};
@@ -28,29 +27,29 @@ fn request_count(bytes: &[u8]) -> usize
     }
 }
 
-/// What the run takes of the requests of a text that isn't empty.
-fn taken_texts(alloc: Global, text: &str) -> Result<Items<Taken>, AllocError>
-    ensures { IfOk result (AreTaken (texts_of (whole_lines text.now))) }
+/// The requests of a text that isn't empty.
+fn checked_texts(alloc: Global, text: &str) -> Result<Items<Checked>, AllocError>
+    ensures { IfOk result (AreChecked (texts_of (whole_lines text.now))) }
 {
     let mut found = Items::new(alloc);
     let mut rest = text;
     let mut goes_on = true;
     while goes_on {
         let (request, after) = rest.split_at(text_len(rest.as_bytes()));
-        found.push(taken(alloc, request)?)?;
+        found.push(checked(alloc, request)?)?;
         goes_on = !after.is_empty();
         rest = after_separator(after);
     }
     Ok(found)
 }
 
-fn taken_requests(alloc: Global, text: &str) -> Result<Items<Taken>, AllocError>
-    ensures { IfOk result (AreTaken (requests text.now)) }
+fn checked_requests(alloc: Global, text: &str) -> Result<Items<Checked>, AllocError>
+    ensures { IfOk result (AreChecked (requests text.now)) }
 {
     if text.is_empty() {
         Ok(Items::new(alloc))
     } else {
-        taken_texts(alloc, text)
+        checked_texts(alloc, text)
     }
 }
 
@@ -96,7 +95,7 @@ fn text_of(bytes: &[u8]) -> Result<&str, BlockFault>
     }
 }
 
-/// The requests of a block, each as the run takes it. The block is cut at each line that is exactly four dashes and an LF: n such lines give
+/// The requests of a block: of each its update, or why it is refused. The block is cut at each line that is exactly four dashes and an LF: n such lines give
 /// n + 1 requests, and no bytes give none. The fault is the first of `TooLong`, `TooManyRequests` and `BadUtf8` that holds;
 /// `OutOfMemory` comes only where a growth was refused, or where a request has 2^32 variables or labels.
 #[tactic(auto, using(crate::proofs::CutLaws::splits))]
@@ -104,7 +103,7 @@ pub fn split(alloc: Global, bytes: &[u8]) -> Result<Block, BlockFault>
     ensures { IsSplit bytes.now result }
 {
     let text = text_of(bytes)?;
-    Ok(Block::new(taken_requests(alloc, text)?))
+    Ok(Block::new(checked_requests(alloc, text)?))
 }
 
 /// The verdicts on the requests of a block, in order. Faults come as for `split`.

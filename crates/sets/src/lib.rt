@@ -11,7 +11,7 @@ mod items;
 mod search;
 
 pub use items::Items;
-pub use search::place_of;
+pub use search::{is_member, place_of};
 
 /// An order that tells any two values apart.
 pub trait Exact: Ord {

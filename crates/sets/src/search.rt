@@ -13,3 +13,11 @@ pub fn place_of<T: Exact>(set: &[T], value: &T) -> Option<usize>
 {
     set.binary_search(value).ok()
 }
+
+/// Whether a set has the value.
+pub fn is_member<T: Exact>(set: &[T], value: &T) -> bool
+    requires { IsStrictlySortedBy T.cmp set.now }
+    ensures { result ≡ has T.cmp set.now value.now }
+{
+    place_of(set, value).is_some()
+}

@@ -15,17 +15,18 @@ use Rattle.algebra.specs.contracts.plan.Plan as Plan
 use Rattle.algebra.specs.contracts.plan.Pattern as Pattern
 use Rattle.algebra.specs.contracts.template.QuadTemplate as QuadTemplate
 use Rattle.algebra.specs.contracts.update.Modify as Modify
+use Rattle.algebra.specs.contracts.update.Operation as Operation
 use Rattle.algebra.proofs.expression.OneOperator.TheSendSync as one
 use Rattle.algebra.proofs.expression.TwoOperator.TheSendSync as two
 use Rattle.algebra.proofs.expression.Expression.TheLaws.TheKnot.{sync-Expression}
 use Rattle.algebra.proofs.pattern.Place.TheSendSync as place
 use Rattle.algebra.proofs.pattern.TriplePattern.TheSendSync as triple
 use Rattle.algebra.proofs.template.QuadTemplate.TheSendSync as template
+use Rattle.algebra.proofs.update.GraphOperation.TheSendSync as graphs
 use Rattle.algebra.proofs.plan.Plan.TheLaws.TheKnot.{sync-Plan}
 use Rattle.std.proofs.Crossing.{crosses}
 use Rattle.std.specs.contracts.result.Result as Result
 use Rattle.meaning.specs.contracts.reply.Refusal as Refusal
-use Rattle.meaning.specs.contracts.update.Operation as Operation
 use Rattle.meaning.proofs.reply.Refusal.TheSendSync as refusal
 use denote.Param.Send.{IsSend, IsSync, sendable}
 use denote.Ref.{NamedLft}
@@ -38,11 +39,12 @@ use Rattle.terms.specs.contracts.term.Term as Term
 use Rattle.dict.specs.contracts.dictionary.Dict as Dict
 use Rattle.reads.specs.contracts.view.View as View
 use Rattle.reads.specs.contracts.answered.Answered as Answered
-use Rattle.reads.specs.contracts.delta.Delta as Delta
-use Rattle.reads.specs.contracts.finished.Finished as Finished
+use Rattle.delta.specs.contracts.delta.Delta as Delta
+use Rattle.delta.specs.contracts.finished.Finished as Finished
 use Rattle.reads.specs.contracts.note.Note as Note
 use Rattle.quad_index.specs.contracts.hints.Hints as Hints
 use Rattle.quad_index.specs.contracts.sorted_hints.SortedHints as SortedHints
+use Rattle.block_machine.specs.contracts.spoken.Spoken as Spoken
 use Rattle.quad_index.proofs.key.Arrangement.TheSendSync as arrangement
 use Rattle.quad_index.specs.contracts.run.Run as Run
 use Rattle.quad_index.specs.contracts.run.Hint as Hint
@@ -105,7 +107,7 @@ module _ (T : RattleType) (s : IsSync T) where
   the_modify = let m = modify in search sendable
 
   operation : IsSync (Operation.the_row T)
-  operation = let m = modify in search sendable depth 20
+  operation = let m = modify in let g = graphs.the_field_sync T s in search sendable depth 20
 
   operations : IsSync (Items.the_row (Operation.the_row T))
   operations = let o = operation in search (sendable, crosses) depth 20
@@ -183,8 +185,11 @@ sorted_hints = let r = run in let h = hint in let a = arrangement.the_field_send
 hints : IsSend (Hints.the_row)
 hints = let s = sorted_hints in search (sendable, crosses) depth 20
 
+spoken : IsSend (Spoken.the_field).row
+spoken = let h = hints in let i = id.the_send in search (sendable, crosses) depth 20
+
 machine : IsSend (Machine.the_row)
-machine = let s = slot in let h = hints in search (sendable, crosses) depth 20
+machine = let s = slot in let p = spoken in search (sendable, crosses) depth 20
 
 event : IsSend (Event.the_field).row
 event = let f = finished in let r = read in search (sendable, crosses) depth 20

@@ -3,8 +3,8 @@ use Rattle.std.specs.Prelude.{◌≡◌, ℕ, true, List, [], ◌∷◌, ◌++�
 use Rattle.datasets.specs.declared.id.Id.{Id}
 use Rattle.dict.specs.Dictionary.{numbers}
 use Rattle.meaning.specs.Run.{Request, answer_of}
-use Rattle.reads.specs.Runs.{IsSoundFor}
-use Rattle.reads.specs.declared.finished.Finished.{Finished}
+use Rattle.delta.specs.Sound.{IsSoundFor}
+use Rattle.delta.specs.declared.finished.Finished.{Finished}
 use Rattle.block_machine.specs.declared.state.Event.{Event}
 use Rattle.block_machine.specs.declared.state.Reply.{Reply}
 use Rattle.block_machine.specs.declared.state.Entry.{Entry}

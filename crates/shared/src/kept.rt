@@ -5,8 +5,10 @@ ghost use Rattle.shared.specs.Calls.{history_of, run_of, owner};
 
 use block_machine::Entry;
 use blocklock::Journaled;
-use book::{Book, Request};
+use book::Book;
+use datasets::Id;
 use dict::Dict;
+use meaning::Request;
 use reads::View;
 use sets::Items;
 
@@ -15,7 +17,7 @@ use sets::Items;
 pub struct Subject {
     pub terms: Dict,
     pub base: View,
-    pub block: Items<Request>,
+    pub block: Items<Request<Id>>,
 }
 
 /// A book that lies in a lock.

@@ -12,10 +12,12 @@ use crate::refused::Refused;
 use block_machine::laws::front_never_falls;
 use block_machine::{Event, Reply};
 use blocklock::{BlockLock, Busy, Held};
-use book::{Book, Request};
+use book::Book;
 use datasets::Read;
+use delta::Finished;
 use dict::{Dict, Id};
-use reads::{Finished, View};
+use meaning::Request;
+use reads::View;
 use std::alloc::{AllocError, Global};
 use std::marker::Model;
 use std::sync::Wait;
@@ -61,7 +63,7 @@ impl<'a> SharedBlock<'a> {
         alloc: Global,
         terms: &'a Dict,
         base: &'a View,
-        block: &'a [Request],
+        block: &'a [Request<Id>],
         seats: u32,
     ) -> Result<(SharedBlock<'a>, Vec<Pass<'a>>), AllocError>
         requires dataset { IsDataset base.now }

@@ -7,8 +7,8 @@ use crate::refused::Refused;
 use crate::shared_block::SharedBlock;
 use block_machine::{Event, Reply};
 use datasets::Read;
+use delta::Finished;
 use dict::Id;
-use reads::Finished;
 use std::alloc::Global;
 
 impl<'a> SharedBlock<'a> {

@@ -6,8 +6,8 @@ use crate::kept::Pass;
 use crate::shared_block::SharedBlock;
 use block_machine::{Event, Reply};
 use datasets::Read;
+use delta::Finished;
 use dict::Id;
-use reads::Finished;
 use std::alloc::{AllocError, Global};
 use std::sync::Wait;
 

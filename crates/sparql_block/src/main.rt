@@ -6,6 +6,7 @@ ghost use Rattle.command_line.specs.CommandLine.{HasWorkers};
 
 use cli::{
     Fault, InFile, Job, LineFault, Message, OutFile, Watched, check_engine, read_job, run_engine,
+    serial_engine,
 };
 use std::process::ExitCode;
 use std::rt::{Env, Files};
@@ -54,6 +55,26 @@ fn run<R: Wait + Files + Print + AllocGlobal>(
     )
 }
 
+/// Runs a block on a base, one request after another: the dataset goes to a file, the reply lines to standard output.
+fn serial<R: Files + Print + AllocGlobal>(
+    rt: &R,
+    base: &str,
+    block: &str,
+    out: &str,
+) -> Result<(), Fault> {
+    let mut base = Watched::new(InFile::new(rt, base));
+    let mut block = Watched::new(InFile::new(rt, block));
+    let mut dataset = Watched::new(OutFile::new(rt, out));
+    let mut replies = Watched::new(io::writer(rt));
+    serial_engine(
+        rt.alloc(),
+        &mut base,
+        &mut block,
+        &mut dataset,
+        &mut replies,
+    )
+}
+
 /// Checks a block: the lines of the verdicts go to standard output.
 fn check<R: Files + Print + AllocGlobal>(rt: &R, block: &str) -> Result<(), Fault> {
     let mut block = Watched::new(InFile::new(rt, block));
@@ -72,6 +93,7 @@ fn done<R: Wait + Files + Print + AllocGlobal>(rt: &R, job: &Job) -> Result<(), 
             out,
             workers,
         } => run(rt, base.as_str(), block.as_str(), out.as_str(), *workers),
+        Job::Serial { base, block, out } => serial(rt, base.as_str(), block.as_str(), out.as_str()),
         Job::Check { block } => check(rt, block.as_str()),
     }
 }

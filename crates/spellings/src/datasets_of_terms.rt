@@ -1,6 +1,7 @@
 //! Terms and datasets of terms.
 use crate::made::{iri, is_iri, is_quad, two_graphs};
 use iris::Iri;
+use nquads::read_bytes;
 use std::alloc::Global;
 use std::test::Fail;
 use terms::{Blank, DataSet, Literal, Term, TermTable, canonical, term_text};
@@ -11,8 +12,6 @@ const MADE: Term = Term::Made {
     label: 0,
     rank: 4_294_967_295,
 };
-
-const MADE_TEXT: &[u8] = b"_:m7r1o20l0s4294967295";
 
 #[test]
 fn iris_copied(rt: HostRuntime) -> Result<(), Fail> {
@@ -40,14 +39,24 @@ fn made_nodes_copied(rt: HostRuntime) -> Result<(), Fail> {
     Ok(())
 }
 
+/// Terms as they are written, one after another.
+fn written(alloc: Global, terms: &[Term]) -> Result<Vec<u8>, Fail> {
+    let mut text = Vec::new(alloc);
+    for term in terms {
+        let alone = term_text(alloc, term, 7)?;
+        let before = text.len();
+        canonical(alloc, term, 7, &mut text)?;
+        if !text.ends_with(&alone) || text.len() - before != alone.len() {
+            return Err(Fail::from("not alone as beside others"));
+        }
+    }
+    Ok(text)
+}
+
 #[test]
 fn texts_of_terms(rt: HostRuntime) -> Result<(), Fail> {
-    let term = iri(rt.alloc(), "x:a")?;
-    assert!(rt; term_text(rt.alloc(), &term, 7)?.as_slice() == b"<x:a>".as_slice());
-    assert!(rt; term_text(rt.alloc(), &MADE, 7)?.as_slice() == MADE_TEXT);
-    let mut text = Vec::new(rt.alloc());
-    canonical(rt.alloc(), &term, 7, &mut text)?;
-    canonical(rt.alloc(), &MADE, 7, &mut text)?;
+    let terms = [iri(rt.alloc(), "x:a")?, MADE];
+    let text = written(rt.alloc(), &terms)?;
     assert!(rt; text.as_slice() == b"<x:a>_:m7r1o20l0s4294967295".as_slice());
     Ok(())
 }
@@ -71,13 +80,16 @@ fn quads_and_names(rt: HostRuntime) -> Result<(), Fail> {
     Ok(())
 }
 
+/// Names that are put into a table, and the place of each.
+const PLACES: [(&str, u32); 4] = [("x:a", 0), ("x:b", 1), ("x:a", 0), ("x:b", 1)];
+
 #[test]
 fn terms_have_one_place(rt: HostRuntime) -> Result<(), Fail> {
     let mut table = TermTable::new(rt.alloc());
-    assert_eq!(rt; table.place_of(iri(rt.alloc(), "x:a")?)?, 0);
-    assert_eq!(rt; table.place_of(MADE)?, 1);
-    assert_eq!(rt; table.place_of(iri(rt.alloc(), "x:a")?)?, 0);
-    assert_eq!(rt; table.place_of(MADE)?, 1);
+    for (name, place) in &PLACES {
+        let found = table.place_of(iri(rt.alloc(), name)?)?;
+        assert!(rt; found == *place, "{name}");
+    }
     assert!(rt; matches!(table.as_slice(), [first, _] if is_iri(first, "x:a")));
     Ok(())
 }
@@ -154,56 +166,44 @@ fn labels(rt: HostRuntime) -> Result<(), Fail> {
     Ok(())
 }
 
-/// Terms in rising order, as they are written.
-const RISING: &[u8] =
-    b"<x:a><x:b>\"\"^^<x:d>\"a\"^^<x:d>\"a\"^^<x:e>\"b\"@e\"b\"@en_:A_:a_:m7r0o0l0s0_:m7r0o0l0s1";
+/// Objects in rising order.
+const RISING: [&str; 9] = [
+    "<x:a>",
+    "<x:b>",
+    "\"\"^^<x:d>",
+    "\"a\"^^<x:d>",
+    "\"a\"^^<x:e>",
+    "\"b\"@e",
+    "\"b\"@en",
+    "_:A",
+    "_:a",
+];
 
-fn labelled(alloc: Global, label: &str) -> Result<Term, Fail> {
-    Ok(Term::Blank(Blank::check(alloc, label)?.ok_or("no label")?))
-}
+const FIRST: Term = Term::Made {
+    request: 0,
+    op: 20,
+    label: 3,
+    rank: 4,
+};
 
-/// A literal with a tag, or with the datatype that is given in its place.
-fn valued(alloc: Global, lexical: &str, datatype: &str, tag: Option<&str>) -> Result<Term, Fail> {
-    let datatype = Iri::check(alloc, datatype)?.ok_or("no IRI")?;
-    let tag = match tag {
-        None => None,
-        Some(tag) => Some(String::from_str(alloc, tag)?),
-    };
-    let literal = Literal::new(String::from_str(alloc, lexical)?, datatype, tag);
-    Ok(Term::Literal(literal.ok_or("no literal")?))
+/// The object of the only statement of a text.
+fn object_of(alloc: Global, text: &str) -> Result<Term, Fail> {
+    let dataset = read_bytes(alloc, text.as_bytes())?;
+    let parts = dataset.parts();
+    let quad = parts.quads.first().ok_or("no statement")?;
+    let term = parts.terms.get(quad.object as usize).ok_or("no object")?;
+    Ok(term.copied(alloc)?)
 }
 
 #[test]
 fn order(rt: HostRuntime) -> Result<(), Fail> {
-    let alloc = rt.alloc();
-    let mut terms = vec![in alloc;
-        Term::Made {
-            request: 0,
-            op: 0,
-            label: 0,
-            rank: 1
-        },
-        labelled(alloc, "a")?,
-        valued(alloc, "b", LANG_STRING, Some("en"))?,
-        valued(alloc, "a", "x:e", None)?,
-        iri(alloc, "x:b")?,
-        Term::Made {
-            request: 0,
-            op: 0,
-            label: 0,
-            rank: 0
-        },
-        labelled(alloc, "A")?,
-        valued(alloc, "b", LANG_STRING, Some("e"))?,
-        valued(alloc, "a", "x:d", None)?,
-        valued(alloc, "", "x:d", None)?,
-        iri(alloc, "x:a")?,
-    ]?;
-    terms.sort()?;
-    let mut text = Vec::new(alloc);
-    for term in &terms {
-        canonical(alloc, term, 7, &mut text)?;
+    let mut last = object_of(rt.alloc(), "<x:a> <x:p> <x:A> .")?;
+    for object in &RISING {
+        let text = format!(in rt.alloc(); "<x:b> <x:p> {object} .")?;
+        let term = object_of(rt.alloc(), text.as_str())?;
+        assert!(rt; last < term, "{object}");
+        last = term;
     }
-    assert!(rt; text.as_slice() == RISING);
+    assert!(rt; last < FIRST && FIRST < MADE);
     Ok(())
 }

@@ -1,5 +1,5 @@
 //! Readers and writers that are slow, or fail.
-ghost use Rattle.std.specs.Prelude.{◌≡◌, IfOk};
+ghost use Rattle.std.specs.Prelude.{◌≡◌, ◌<◌, ◌-◌, ◌^◌, IfOk};
 
 use crate::made::two_graphs;
 use nquads::{BaseFault, Failed, Watched, WriteFault, canonical_text, read, read_bytes, write};
@@ -138,21 +138,27 @@ fn each_write_fails_once(rt: HostRuntime) -> Result<(), Fail> {
     Ok(())
 }
 
+/// What a read of one byte gave, and how many have failed by then.
+fn read_one(reader: &mut Watched<Slow<'_>>) -> (Option<u8>, u64)
+    requires { reader.old.failures < 2 ^ 64 - 1 }
+{
+    let mut buffer = [0u8; 4];
+    let byte = match reader.read(&mut buffer) {
+        Ok(1) => Some(buffer[0]),
+        _ => None,
+    };
+    (byte, reader.failures)
+}
+
 #[test]
 fn single_reads(rt: HostRuntime) {
     let mut reader = Watched::new(Slow {
         rest: b"ab",
         good_reads: 2,
     });
-    let mut buffer = [0u8; 4];
-    assert!(rt; matches!(reader.read(&mut buffer), Ok(1)));
-    assert_eq!(rt; reader.failures, 0);
-    assert_eq!(rt; buffer[0], b'a');
-    assert!(rt; matches!(reader.read(&mut buffer), Ok(1)));
-    assert_eq!(rt; reader.failures, 0);
-    assert_eq!(rt; buffer[0], b'b');
-    assert!(rt; matches!(reader.read(&mut buffer), Err(Failed)));
-    assert_eq!(rt; reader.failures, 1);
+    assert!(rt; read_one(&mut reader) == (Some(b'a'), 0));
+    assert!(rt; reader.failures == 0 && read_one(&mut reader) == (Some(b'b'), 0));
+    assert!(rt; reader.failures == 0 && read_one(&mut reader) == (None, 1));
 }
 
 #[test]

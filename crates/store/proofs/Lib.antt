@@ -1,6 +1,4 @@
 pub mod Loops
-pub mod PlanLaws
 pub mod Holding
-pub mod Numbers
-pub mod Carried
 pub mod Places
+pub mod Standing

@@ -1,4 +1,3 @@
 pub mod Held
-pub mod Parts
 pub mod Tables
-pub mod Numbered
+pub mod Base

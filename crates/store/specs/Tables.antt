@@ -1,14 +1,9 @@
--- Tables that take places in one list of terms to numbers, or numbers to places.
-use Rattle.std.specs.Prelude.{◌≡◌, ℕ, true, List, map, slice_index_or}
-use Rattle.std.specs.List.{list_all}
+-- The table that takes places in a list of terms to numbers.
+use Rattle.std.specs.Prelude.{ℕ, List, slice_index_or}
 use Rattle.std.specs.Option.{option_map}
 use Rattle.datasets.specs.declared.id.Id.{Id}
 use Rattle.datasets.specs.declared.id.Id.TheVariants.{Known}
 use Rattle.datasets.specs.declared.quad.Quad.{Quad}
-use Rattle.terms.specs.declared.term.Term.{Term}
-use Rattle.terms.specs.Placed.{term_at, quad_at, is_within, is_quad_within}
-use Rattle.dict.specs.Dictionary.{term_of}
-use Rattle.meaning_laws.specs.Renaming.{renamed_quad}
 
 -- the number that stands at a place, and the quad of the numbers at its places
 abbrev pub number_at : List Id → ℕ → Id
@@ -16,18 +11,3 @@ number_at ids place = slice_index_or ids place (Known 0)
 
 abbrev pub numbers_at : List Id → Quad ℕ → Quad Id
 numbers_at ids q = record { subject = number_at ids q.subject; predicate = number_at ids q.predicate; object = number_at ids q.object; graph = option_map (number_at ids) q.graph }
-
--- the places that a dictionary's terms have in a table
-pub record ArePlaces (terms table : List Term) (places : List ℕ) : Type 0 where
-  pub each : map (term_at table) places ≡ terms
-  pub within : list_all (is_within table) places ≡ true
-
--- quads by places of a table stand for these quads of numbers
-pub record StandFor (terms table : List Term) (placed : List (Quad ℕ)) (quads : List (Quad Id)) : Type 0 where
-  pub each : map (quad_at table) placed ≡ map (renamed_quad (term_of terms)) quads
-  pub within : list_all (is_quad_within table) placed ≡ true
-
--- and names for these numbers
-pub record NamesStandFor (terms table : List Term) (placed : List ℕ) (names : List Id) : Type 0 where
-  pub each : map (term_at table) placed ≡ map (term_of terms) names
-  pub within : list_all (is_within table) placed ≡ true

@@ -1,18 +1,10 @@
-//! A base and a block at numbers of terms, and the outcome at terms again.
+//! The base of a block: its terms in a frozen dictionary, its dataset at their numbers, and the tag of its text, in one value.
 //!
-//! The dictionary has the terms of the base and of the block's accepted requests. Numbering takes each term to its number, naming takes
-//! each number to its term, and the run of the numbers is the run of the terms. Stands on `dict`, `reads`, `rules` and the laws of
-//! `meaning`. Used above: what is numbered, run and named is the sequential run of the block on the base.
+//! Stands on `nquads`, `dict` and `reads`. Used above: a base's numbers stand for its dataset, and a base answers what a read says of it.
 #![tactic(auto)]
 
-pub mod laws;
-mod naming;
-mod numbering;
-mod plans;
-mod requests;
+mod base;
+mod numbers;
 
-pub use naming::named;
-pub use numbering::{Numbered, number};
-
-#[cfg(test)]
-mod tests;
+pub use base::Base;
+pub use numbers::number_term;

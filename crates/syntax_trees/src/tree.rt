@@ -1,6 +1,7 @@
 //! The trees of requests, but for groups and expressions.
 
 use crate::group::Group;
+use algebra::{Target, Transfer};
 use lexer::{Digits, IriText, Label, LocalPart, Piece, Quoted, Tag};
 use sets::Items;
 
@@ -62,28 +63,11 @@ pub struct Block<'a> {
     pub triples: Items<SameSubject<'a>>,
 }
 
-/// What DROP and CLEAR name (SPARQL 1.1 Update, 19.8, production 47).
-#[derive(Drop)]
-pub enum Target<'a> {
-    Graph(Name<'a>),
-    Default,
-    Named,
-    All,
-}
-
 /// What COPY, MOVE and ADD name: a graph, or the default graph (SPARQL 1.1 Update, 19.8, production 45).
 #[derive(Drop)]
 pub enum Place<'a> {
     Default,
     Graph(Name<'a>),
-}
-
-/// What is done with two graphs.
-#[derive(Clone, Copy, Debug, Drop, PartialEq, Eq)]
-pub enum Transfer {
-    Copy,
-    Move,
-    Add,
 }
 
 /// An operation (SPARQL 1.1 Update, 19.8, production 30).
@@ -95,11 +79,11 @@ pub enum Operation<'a> {
     },
     Drop {
         silent: bool,
-        target: Target<'a>,
+        target: Target<Name<'a>>,
     },
     Clear {
         silent: bool,
-        target: Target<'a>,
+        target: Target<Name<'a>>,
     },
     Transfer {
         how: Transfer,

@@ -8,8 +8,8 @@ use Rattle.syntax_trees.specs.declared.tree.Node.TheVariants as node
 use Rattle.syntax_trees.specs.declared.tree.Property.{Property}
 use Rattle.syntax_trees.specs.declared.tree.SameSubject.{SameSubject}
 use Rattle.syntax_trees.specs.declared.tree.Block.{Block}
-use Rattle.syntax_trees.specs.declared.tree.Target.{Target}
-use Rattle.syntax_trees.specs.declared.tree.Target.TheVariants as target
+use Rattle.algebra.specs.declared.update.Target.{Target}
+use Rattle.algebra.specs.declared.update.Target.TheVariants as target
 use Rattle.syntax_trees.specs.declared.tree.Place.{Place}
 use Rattle.syntax_trees.specs.declared.tree.Place.TheVariants as place
 use Rattle.syntax_trees.specs.declared.tree.Operation.{Operation}
@@ -59,7 +59,7 @@ abbrev mutual
   nodes_of_groups part.Last = []
   nodes_of_groups (part.Or g gs) = nodes_of_parts g ++ nodes_of_groups gs
 
-abbrev pub nodes_of_target : Target → List Node
+abbrev pub nodes_of_target : Target Name → List Node
 nodes_of_target (target.Graph n) = node.Name n ∷ []
 nodes_of_target target.Default = []
 nodes_of_target target.Named = []

@@ -6,19 +6,13 @@ use Rattle.terms.specs.declared.term.Term.{Term}
 use Rattle.algebra.specs.declared.update.Operation.{Operation as Made}
 use Rattle.algebra.specs.declared.update.Operation.TheVariants as made
 use Rattle.algebra.specs.declared.update.GraphOperation.TheVariants as graphs
-use Rattle.algebra.specs.declared.update.Target.{Target as MadeTarget}
-use Rattle.algebra.specs.declared.update.Target.TheVariants as made_target
-use Rattle.algebra.specs.declared.update.Transfer.{Transfer as MadeTransfer}
-use Rattle.algebra.specs.declared.update.Transfer.TheVariants as made_transfer
+use Rattle.algebra.specs.declared.update.Target.{Target}
+use Rattle.algebra.specs.declared.update.Target.TheVariants as target
 use Rattle.algebra.specs.Plans.{Plan, nothing}
 use Rattle.syntax_trees.specs.declared.tree.Name.{Name}
 use Rattle.syntax_trees.specs.declared.tree.Block.{Block}
-use Rattle.syntax_trees.specs.declared.tree.Target.{Target}
-use Rattle.syntax_trees.specs.declared.tree.Target.TheVariants as target
 use Rattle.syntax_trees.specs.declared.tree.Place.{Place}
 use Rattle.syntax_trees.specs.declared.tree.Place.TheVariants as place
-use Rattle.syntax_trees.specs.declared.tree.Transfer.{Transfer}
-use Rattle.syntax_trees.specs.declared.tree.Transfer.TheVariants as transfer
 use Rattle.syntax_trees.specs.declared.tree.Operation.{Operation}
 use Rattle.syntax_trees.specs.declared.tree.Operation.TheVariants as operation
 use Rattle.syntax_trees.specs.declared.tree.Step.{Step}
@@ -30,21 +24,16 @@ use Rattle.names.specs.Numbers.{Labels, variables_of, labels_of, with_labels}
 use Rattle.translation.specs.Triples.{template_of}
 use Rattle.translation.specs.Groups.{translated_group, quads_pattern}
 
-abbrev pub target_of : Prefixes → Target → MadeTarget Term
-target_of ds (target.Graph n) = made_target.Graph (name_term ds n)
-target_of ds target.Default = made_target.Default
-target_of ds target.Named = made_target.Named
-target_of ds target.All = made_target.All
+abbrev pub target_of : Prefixes → Target Name → Target Term
+target_of ds (target.Graph n) = target.Graph (name_term ds n)
+target_of ds target.Default = target.Default
+target_of ds target.Named = target.Named
+target_of ds target.All = target.All
 
 -- no graph is the default graph
 abbrev pub graph_at : Prefixes → Place → Option Term
 graph_at ds place.Default = None
 graph_at ds (place.Graph n) = Some (name_term ds n)
-
-abbrev pub transfer_of : Transfer → MadeTransfer
-transfer_of transfer.Copy = made_transfer.Copy
-transfer_of transfer.Move = made_transfer.Move
-transfer_of transfer.Add = made_transfer.Add
 
 module _ (ds : Prefixes) (vs : List (List ℕ)) (ls : Labels) where
   -- DELETE and INSERT over a pattern, where WITH names a graph or nothing
@@ -62,7 +51,7 @@ module _ (ds : Prefixes) (vs : List (List ℕ)) (ls : Labels) where
   operation_with (operation.Create silent n) = made.Graphs silent (graphs.Create (name_term ds n))
   operation_with (operation.Drop silent t) = made.Graphs silent (graphs.Drop (target_of ds t))
   operation_with (operation.Clear silent t) = made.Graphs silent (graphs.Clear (target_of ds t))
-  operation_with (operation.Transfer how silent from to) = made.Graphs silent (graphs.Transfer (transfer_of how) (graph_at ds from) (graph_at ds to))
+  operation_with (operation.Transfer how silent from to) = made.Graphs silent (graphs.Transfer how (graph_at ds from) (graph_at ds to))
   operation_with (operation.InsertData qs) = modify_with None [] qs nothing
   operation_with (operation.DeleteData qs) = modify_with None qs [] nothing
   operation_with (operation.DeleteWhere qs) = modify_with None qs [] (quads_pattern ds vs qs)

@@ -6,10 +6,10 @@ ghost use Rattle.syntax_trees.specs.Expressions.{tree_of};
 ghost use Rattle.syntax_trees.specs.Groups.{part_of, parts_of, group};
 ghost use Rattle.translation.specs.Nodes.{nodes_of_property, nodes_of_subject, nodes_of_triples, nodes_of_block, nodes_of_blocks, nodes_of_tree, nodes_of_part, nodes_of_parts, nodes_of_target, nodes_of_place, nodes_of_with, nodes_of_where, nodes_of_operation};
 
+use algebra::Target;
 use std::alloc::{AllocError, Global};
 use syntax_trees::{
     Block, Element, Expression, Literal, Name, Node, Operation, Place, Property, SameSubject,
-    Target,
 };
 
 /// The same name again.
@@ -182,7 +182,7 @@ fn add_name<'a>(found: &mut Vec<Node<'a>>, name: &Name<'a>) -> Result<(), AllocE
     Ok(())
 }
 
-fn add_target<'a>(found: &mut Vec<Node<'a>>, target: &Target<'a>) -> Result<(), AllocError>
+fn add_target<'a>(found: &mut Vec<Node<'a>>, target: &Target<Name<'a>>) -> Result<(), AllocError>
     ensures { OnOk result (found.new.items ≡ found.old.items ++ nodes_of_target target.now) }
 {
     match target {

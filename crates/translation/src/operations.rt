@@ -9,34 +9,31 @@ ghost use Rattle.translation.specs.Groups.{quads_pattern};
 ghost use Rattle.names.specs.Names.{name_term};
 ghost use Rattle.names.specs.Numbers.{variables_of, labels_of, with_labels};
 ghost use Rattle.translation.specs.Nodes.{nodes_of_where, nodes_of_operation};
-ghost use Rattle.translation.specs.Translation.{target_of, graph_at, transfer_of, modify_with, operation_with, operation_of, translated};
+ghost use Rattle.translation.specs.Translation.{target_of, graph_at, modify_with, operation_with, operation_of, translated};
 
 use crate::groups::{empty_group, quads_pattern, translated_group};
 use crate::nodes::{add_operation, add_where};
 use crate::scope::Scope;
 use crate::triples::template_of;
-use algebra::{
-    GraphOperation, Modify, Operation, Pattern, Plan, Target as MadeTarget,
-    Transfer as MadeTransfer,
-};
+use algebra::{GraphOperation, Modify, Operation, Pattern, Plan, Target, Transfer};
 use names::{Labels, Prefixes, Variables};
 use sets::Items;
 use std::alloc::{AllocError, Global};
-use syntax_trees::{Block, Name, Node, Operation as Written, Place, Step, Target, Transfer};
+use syntax_trees::{Block, Name, Node, Operation as Written, Place, Step};
 use terms::Term;
 
 fn target_of<'a>(
     alloc: Global,
     prefixes: &Prefixes<'a>,
-    target: &Target<'a>,
-) -> Result<MadeTarget<Term>, AllocError>
+    target: &Target<Name<'a>>,
+) -> Result<Target<Term>, AllocError>
     ensures { IfOk result (λ made. made ≡ target_of prefixes.now target.now) }
 {
     match target {
-        Target::Graph(name) => Ok(MadeTarget::Graph(prefixes.name_term(alloc, name)?)),
-        Target::Default => Ok(MadeTarget::Default),
-        Target::Named => Ok(MadeTarget::Named),
-        Target::All => Ok(MadeTarget::All),
+        Target::Graph(name) => Ok(Target::Graph(prefixes.name_term(alloc, name)?)),
+        Target::Default => Ok(Target::Default),
+        Target::Named => Ok(Target::Named),
+        Target::All => Ok(Target::All),
     }
 }
 
@@ -50,16 +47,6 @@ fn graph_at<'a>(
     match place {
         Place::Default => Ok(None),
         Place::Graph(name) => Ok(Some(prefixes.name_term(alloc, name)?)),
-    }
-}
-
-fn transfer_of(how: Transfer) -> MadeTransfer
-    ensures { result ≡ transfer_of how }
-{
-    match how {
-        Transfer::Copy => MadeTransfer::Copy,
-        Transfer::Move => MadeTransfer::Move,
-        Transfer::Add => MadeTransfer::Add,
     }
 }
 
@@ -117,7 +104,7 @@ fn dropped<'a>(
     alloc: Global,
     prefixes: &Prefixes<'a>,
     silent: bool,
-    target: &Target<'a>,
+    target: &Target<Name<'a>>,
 ) -> Result<Operation<Term>, AllocError>
     ensures { IfOk result (λ operation. operation ≡ made.Graphs silent (graphs.Drop (target_of prefixes.now target.now))) }
 {
@@ -132,7 +119,7 @@ fn cleared<'a>(
     alloc: Global,
     prefixes: &Prefixes<'a>,
     silent: bool,
-    target: &Target<'a>,
+    target: &Target<Name<'a>>,
 ) -> Result<Operation<Term>, AllocError>
     ensures { IfOk result (λ operation. operation ≡ made.Graphs silent (graphs.Clear (target_of prefixes.now target.now))) }
 {
@@ -150,10 +137,10 @@ fn between<'a>(
     from: &Place<'a>,
     to: &Place<'a>,
 ) -> Result<GraphOperation<Term>, AllocError>
-    ensures { IfOk result (λ operation. operation ≡ graphs.Transfer (transfer_of how) (graph_at prefixes.now from.now) (graph_at prefixes.now to.now)) }
+    ensures { IfOk result (λ operation. operation ≡ graphs.Transfer how (graph_at prefixes.now from.now) (graph_at prefixes.now to.now)) }
 {
     Ok(GraphOperation::Transfer {
-        how: transfer_of(how),
+        how,
         from: graph_at(alloc, prefixes, from)?,
         to: graph_at(alloc, prefixes, to)?,
     })

@@ -52,7 +52,7 @@ as_it_was false = refl
 -- ---- sets
 
 module _ {A : Type 0} {R : A → A → Ordering} (total : IsTotalOrder R) (exact : (x y : A) → R x y ≡ Equal → x ≡ y) where
-  has_after : (ds gone come : List A) (x : A) → has R (union R (without R ds gone) come) x ≡ ((has R ds x && not (has R gone x)) || has R come x)
+  pub has_after : (ds gone come : List A) (x : A) → has R (union R (without R ds gone) come) x ≡ ((has R ds x && not (has R gone x)) || has R come x)
   has_after ds gone come x = has-union total x (without R ds gone) come ∙ ap (λ b. b || has R come x) (has-without total exact x ds gone)
 
   -- what really comes
@@ -123,17 +123,17 @@ pub record IsToldOf (change c : Delta) (d : View) : Type 0 where
   pub present : change.present ≡ set_of (quad_order id_order) (without (quad_order id_order) c.present d.quads)
   pub absent : change.absent ≡ set_of (quad_order id_order) (filter (has (quad_order id_order) d.quads) (without (quad_order id_order) c.absent c.present))
   pub there : change.there ≡ set_of id_order (without id_order c.there d.names)
-  pub gone : change.gone ≡ []
+  pub gone : change.gone ≡ set_of id_order (filter (has id_order d.names) (without id_order c.gone c.there))
 
 -- what a change really changes
-pub least_is : (change c : Delta) (d : View) → IsDataset d → c.gone ≡ [] → IsToldOf change c d → change ≡ difference d (applied c d)
+pub least_is : (change c : Delta) (d : View) → IsDataset d → IsToldOf change c d → change ≡ difference d (applied c d)
 unfolding applied
-least_is change c d h none told =
+least_is change c d h told =
     let Q = quad_order id_order in
     let qt = quad_total id_total in
     let qe = quad_exact id_order id_exact in
     let present = told.present ∙ new_is qt qe d.quads c.absent c.present in
     let absent = told.absent ∙ lost_is qt qe d.quads c.absent c.present h.quads in
     let there = told.there ∙ new_is id_total id_exact d.names c.gone c.there in
-    let gone = told.gone ∙ lost_is id_total id_exact d.names [] c.there h.names ∙ ap (λ g. without id_order d.names (union id_order (without id_order d.names g) c.there)) (sym none) in
+    let gone = told.gone ∙ lost_is id_total id_exact d.names c.gone c.there h.names in
     λ i. record { present = present i; absent = absent i; there = there i; gone = gone i }

@@ -10,7 +10,7 @@ use Rattle.meaning.specs.Template.{instances}
 use Rattle.meaning.specs.Run.{Failure, then_next, performed}
 use Rattle.meaning.specs.declared.reply.Cause.{Cause}
 use Rattle.meaning.specs.declared.reply.Cause.TheVariants.{TooManySolutions}
-use Rattle.meaning.specs.declared.update.Operation.{Operation}
+use Rattle.algebra.specs.declared.update.Operation.{Operation}
 use Rattle.algebra.specs.declared.template.QuadTemplate.{QuadTemplate}
 
 not_above : (n m : ℕ) (b : Bool) → nat_lt m n ≡ b → n ≤ m → b ≡ false

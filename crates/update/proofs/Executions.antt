@@ -10,7 +10,8 @@ use Rattle.meaning.specs.declared.reply.Reply.{Reply}
 use Rattle.meaning_laws.specs.Answers.{IsExactOrder}
 use Rattle.meaning_laws.proofs.Answers.{answers_with_datasets}
 use Rattle.reads.specs.Reads.{View, Delta, IsDataset, applied}
-use Rattle.reads.specs.Runs.{Agrees, IsSoundFor}
+use Rattle.reads.specs.Runs.{Agrees}
+use Rattle.delta.specs.Sound.{IsSoundFor}
 use Rattle.reads.specs.declared.note.Note.{Note}
 use Rattle.asking.specs.Goes.{AllAllowed}
 use Rattle.update.specs.Asked.{operations_of}

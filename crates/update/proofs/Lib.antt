@@ -5,3 +5,7 @@ pub mod Differences
 pub mod Effects
 pub mod Nearness
 pub mod Executions
+pub mod GraphLaws
+pub mod GraphEffects
+pub mod GraphNearness
+pub mod KnownQuads

@@ -1,6 +1,6 @@
 -- What holds of each member of a list.
 use Rattle.std.specs.Prelude.{filter, filter_map, if◌then◌else◌}
-use Rattle.std.specs.List.{AllByRecursion, cons_option}
+use Rattle.std.specs.List.{AllByRecursion, cons_option, flat_map}
 use Rattle.std.proofs.Common.{◌≡◌, ℕ, zero, suc, ◌<◌, Bool, true, false, List, [], ◌∷◌, ◌++◌, length, drop, get_or, sym, ap, ◌∙◌, append_assoc, drop-cons, add-one, ◌+◌, Option, Some, None, refl, arith}
 use Rattle.std.specs.declared.cmp.Ordering.{Ordering}
 use Rattle.std.specs.declared.cmp.Ordering.TheVariants.{Less, Equal, Greater}
@@ -69,3 +69,13 @@ filtered_more {A} p xs i d b now next all h e pushed before =
     one : {A : Type 0} (b : Bool) (ys : List A) (x : A) → (if b then x ∷ [] else []) ++ ys ≡ (if b then x ∷ ys else ys)
     one true ys x = refl
     one false ys x = refl
+
+-- a loop's step, where a list for each member is put at the end
+pub listed_more : {X A : Type 0} (f : X → List A) (xs : List X) (i : ℕ) (x : X) (now next all : List A) → i < length xs → x ≡ get_or xs i x
+    → next ≡ now ++ f x → now ++ flat_map f (drop i xs) ≡ all → next ++ flat_map f (drop (i + 1) xs) ≡ all
+listed_more {X} f xs i x now next all h is pushed before =
+    let split : drop i xs ≡ x ∷ drop (i + 1) xs = rw add-one (drop-cons xs i x h ∙ ap (λ y. y ∷ drop (suc i) xs) (sym is)) in
+    ap (λ z. z ++ flat_map f (drop (i + 1) xs)) pushed
+    ∙ append_assoc now (f x) (flat_map f (drop (i + 1) xs))
+    ∙ ap (λ z. now ++ flat_map f z) (sym split)
+    ∙ before

@@ -18,17 +18,15 @@ use Rattle.meaning.specs.Mapping.{Mapping}
 use Rattle.meaning.specs.Near.{is_written, is_graph_written, is_near_quad, is_for_plan, is_near, is_near_request}
 use Rattle.meaning.specs.Template.{term_at, graph_at, is_legal, legal_quad, instance_of, instances_from, instances}
 use Rattle.algebra.specs.declared.update.Modify.{Modify}
-use Rattle.meaning.specs.declared.update.Operation.{Operation}
-use Rattle.meaning.specs.declared.update.Operation.TheVariants as operation
+use Rattle.algebra.specs.declared.update.Operation.{Operation}
+use Rattle.algebra.specs.declared.update.Operation.TheVariants as operation
 use Rattle.algebra.specs.declared.template.QuadTemplate.{QuadTemplate}
 use Rattle.algebra.specs.declared.template.Slot.{Slot}
 use Rattle.algebra.specs.declared.template.Slot.TheVariants as slot
 use Rattle.eval.specs.Changes.{replaced_change}
 use Rattle.reads.specs.Reads.{Read, Delta, no_change}
-use Rattle.sets.specs.Sets.{set_of}
 use Rattle.update.specs.Asked.{scan_for, AskedQuads, IsWithin}
-use Rattle.update.specs.Failures.{modification_of}
-use Rattle.update.proofs.Members.{all-append, all-filter, all-union, all-cons_option, always}
+use Rattle.update.proofs.Members.{all-append, all-filter, all-set_of, all-union, all-cons_option, always}
 
 -- ---- one quad
 
@@ -114,7 +112,7 @@ module _ (terms : List Term) (request op : ℕ) (m : Modify Id) (allowed : Read 
         present = all-union P (quad_order id_order) _ _ (all-filter P _ c.present h.present) (inserted_near found);
         absent = all-union P (quad_order id_order) _ _ h.absent (deleted_near found);
         there = all-union N id_order _ _ h.there (always N (λ g. near (GraphIs g) refl) _);
-        gone = ap (set_of id_order) h.gone;
+        gone = all-set_of N id_order _ h.gone;
       }
 
 -- what is for the pattern is near the operation
@@ -136,7 +134,4 @@ pub request_near : (ops : List (Operation Id)) (i : ℕ) (op : Operation Id) →
 request_near ops i op h is r e = any_at (λ o. is_near id_order o r) ops i op h (ap (λ o. is_near id_order o r) (sym is) ∙ e)
 
 pub no_change_within : (allowed : Read → Bool) → IsWithin allowed no_change
-no_change_within allowed = record { present = tt; absent = tt; there = tt; gone = refl }
-
-pub modification_is : (op : Operation Id) → operation.Modify (modification_of op) ≡ op
-modification_is (operation.Modify m) = refl
+no_change_within allowed = record { present = tt; absent = tt; there = tt; gone = tt }

@@ -1,5 +1,5 @@
 -- What a run asks at its end, and what it makes of the answers.
-use Rattle.std.specs.Prelude.{◌≡◌, ◌<◌, ◌^◌, length, Bool, true, false, List, [], ◌∷◌, Some, Ok, Err}
+use Rattle.std.specs.Prelude.{◌≡◌, ℕ, ◌<◌, ◌^◌, length, slice_get, Bool, true, false, List, [], ◌∷◌, Some, Ok, Err}
 use Rattle.std.specs.List.{AllByRecursion}
 use Rattle.datasets.specs.declared.id.Id.{Id}
 use Rattle.datasets.specs.declared.quad.Quad.{Quad}
@@ -8,7 +8,7 @@ use Rattle.datasets.specs.declared.read.Read as reading
 use Rattle.datasets.specs.declared.read.Read.TheVariants.{Scan, GraphIs}
 use Rattle.datasets.specs.Dataset.{Told, Quads, Is, Names}
 use Rattle.meaning.specs.Run.{Request}
-use Rattle.meaning.specs.declared.update.Operation.{Operation}
+use Rattle.algebra.specs.declared.update.Operation.{Operation}
 use Rattle.reads.specs.Reads.{Delta, Read}
 
 -- the scan for one quad
@@ -33,6 +33,10 @@ abbrev pub IsShort : {K : Type 0} → Request K → Type 0
 IsShort (Ok ops) = length ops < 2 ^ 32
 IsShort (Err refusal) = Unit {0}
 
+-- no request of a block has too many operations
+abbrev pub AreShort : {K : Type 0} → List (Request K) → Type 0
+AreShort {K} block = (i : ℕ) (r : Request K) → slice_get block i ≡ Some r → IsShort r
+
 -- the operations, none where the request is refused
 abbrev pub operations_of : {K : Type 0} → Request K → List (Operation K)
 operations_of (Ok ops) = ops
@@ -45,9 +49,9 @@ AskedQuads allowed quads = AllByRecursion (λ q. allowed (scan_for q) ≡ true) 
 abbrev pub AskedNames : (Read → Bool) → List Id → Type 0
 AskedNames allowed names = AllByRecursion (λ g. allowed (GraphIs g) ≡ true) names
 
--- what asks for all that a change speaks of is allowed, and no graph goes
+-- what asks for all that a change speaks of is allowed
 pub record IsWithin (allowed : Read → Bool) (c : Delta) : Type 0 where
   pub present : AskedQuads allowed c.present
   pub absent : AskedQuads allowed c.absent
   pub there : AskedNames allowed c.there
-  pub gone : c.gone ≡ []
+  pub gone : AskedNames allowed c.gone

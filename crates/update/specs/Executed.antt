@@ -7,8 +7,9 @@ use Rattle.meaning.specs.Near.{is_near_request}
 use Rattle.meaning.specs.Run.{Request, answer_of}
 use Rattle.meaning.specs.declared.reply.Reply.{Reply}
 use Rattle.reads.specs.Reads.{View, Delta, IsDataset}
-use Rattle.reads.specs.Runs.{Agrees, IsSoundFor}
-use Rattle.reads.specs.declared.finished.Finished.{Finished}
+use Rattle.reads.specs.Runs.{Agrees}
+use Rattle.delta.specs.Sound.{IsSoundFor}
+use Rattle.delta.specs.declared.finished.Finished.{Finished}
 use Rattle.reads.specs.declared.note.Note.{Note}
 use Rattle.asking.specs.Goes.{AllAllowed}
 use Rattle.terms.specs.declared.term.Term.{Term}

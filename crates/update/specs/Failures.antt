@@ -1,10 +1,6 @@
 -- What operations come to, as the code tells of it.
 use Rattle.std.specs.Prelude.{Result, Ok, Err}
 use Rattle.meaning.specs.Run.{Failure}
-use Rattle.datasets.specs.declared.id.Id.{Id}
-use Rattle.algebra.specs.declared.update.Modify.{Modify}
-use Rattle.meaning.specs.declared.update.Operation.{Operation}
-use Rattle.meaning.specs.declared.update.Operation.TheVariants as operation
 use Rattle.reads.specs.Reads.{View, Delta, applied}
 use Rattle.update.specs.declared.operations.Failed.{Failed}
 
@@ -12,7 +8,3 @@ use Rattle.update.specs.declared.operations.Failed.{Failed}
 abbrev pub performed_so : View → Result Delta Failed → Result View Failure
 performed_so d (Ok c) = Ok (applied c d)
 performed_so d (Err f) = Err (record { operation = f.operation; cause = f.cause })
-
--- what an operation deletes and inserts, and where
-abbrev pub modification_of : Operation Id → Modify Id
-modification_of (operation.Modify m) = m

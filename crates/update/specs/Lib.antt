@@ -2,3 +2,5 @@ pub mod Asked
 pub mod Changed
 pub mod Failures
 pub mod Executed
+pub mod Graphs
+pub mod Known

@@ -5,17 +5,19 @@ ghost use Rattle.dict.specs.Dictionary.{numbers};
 ghost use Rattle.meaning.specs.Near.{is_near_request};
 ghost use Rattle.meaning.specs.Run.{answer_of};
 ghost use Rattle.reads.specs.Reads.{View, Read as Reading, Answer, IsDataset};
-ghost use Rattle.reads.specs.Runs.{Agrees, IsSoundFor};
+ghost use Rattle.reads.specs.Runs.{Agrees};
+ghost use Rattle.delta.specs.Sound.{IsSoundFor};
 ghost use Rattle.asking.specs.Goes.{Goes, AllMay, AllAllowed};
 ghost use Rattle.update.specs.Asked.{IsShort, operations_of};
 ghost use Rattle.update.specs.Executed.{IsLeastFor};
 
-use crate::Request;
 use crate::least::least_of;
 use crate::operations::perform;
+use algebra::Operation;
+use delta::{Delta, Finished};
 use dict::{Dict, Id};
-use meaning::{Operation, Reply};
-use reads::{Delta, Finished, Note, Source, Stop};
+use meaning::{Reply, Request};
+use reads::{Note, Source, Stop};
 use sets::Items;
 use std::alloc::Global;
 use std::marker::Model;
@@ -26,7 +28,7 @@ use std::marker::Model;
 pub struct Execution<'a> {
     dict: &'a Dict,
     place: u32,
-    request: &'a Request,
+    request: &'a Request<Id>,
     finished: Finished,
 }
 
@@ -91,7 +93,7 @@ fn outcome_of<S: Source>(
     alloc: Global,
     dict: &Dict,
     place: u32,
-    request: &Request,
+    request: &Request<Id>,
     source: &mut S,
     notes: &mut Vec<Note>,
 ) -> Result<Outcome, Stop>
@@ -116,7 +118,7 @@ pub fn execute<'a, S: Source>(
     alloc: Global,
     dict: &'a Dict,
     place: u32,
-    request: &'a Request,
+    request: &'a Request<Id>,
     source: &mut S,
 ) -> Result<Execution<'a>, Stop>
     requires { IsShort request.now }

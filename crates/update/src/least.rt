@@ -1,32 +1,36 @@
 //! What a change really changes.
-ghost use Rattle.std.specs.Prelude.{◌≡◌, [], Bool, IfOk};
+ghost use Rattle.std.specs.Prelude.{◌≡◌, Bool, IfOk};
 ghost use Rattle.reads.specs.Reads.{View, Read as Reading, applied, IsDataset};
 ghost use Rattle.reads.specs.Runs.{Agrees};
 ghost use Rattle.asking.specs.Goes.{Goes};
 ghost use Rattle.update.specs.Asked.{IsWithin};
 ghost use Rattle.update.specs.Changed.{difference};
 
-use crate::presence::{names_missing, quads_that};
-use eval::quads_lacking;
-use reads::{Delta, Note, Source, Stop};
+use crate::known::known_of;
+use crate::presence::{names_that, quads_that};
+use delta::Delta;
+use eval::{names_lacking, quads_lacking};
+use reads::{Note, Source, Stop};
 use std::alloc::Global;
 
-/// What a change really changes, in each dataset that agrees with the notes: each quad that it speaks of is asked for, and each graph
-/// name that would come. No graph goes by it.
+/// What a change really changes, in each dataset that agrees with the notes: each quad that it speaks of is asked for, unless the notes
+/// tell all of its graph, and each graph name, unless they tell those of all graphs.
 pub fn least_of<S: Source>(
     alloc: Global,
     changes: &Delta,
     source: &mut S,
     notes: &mut Vec<Note>,
 ) -> Result<Delta, Stop>
-    requires { changes.now.gone ≡ [] }
     ensures about { S.subject source.new ≡ S.subject source.old }
     ensures goes { (allowed : Reading → Bool) → IsWithin allowed changes.now → Goes allowed (S.may source.old) (S.may source.new) notes.old.items notes.new.items }
     ensures least { IfOk result (λ change. (d : View) → IsDataset d → Agrees notes.new.items d → change ≡ difference d (applied changes.now d)) }
 {
     let others = quads_lacking(alloc, changes.absent(), changes.present())?;
-    let present = quads_that(alloc, false, changes.present(), source, notes)?;
-    let absent = quads_that(alloc, true, &others, source, notes)?;
-    let there = names_missing(alloc, changes.there(), source, notes)?;
-    Ok(Delta::from_parts(present, absent, there, Vec::new(alloc)))
+    let other_names = names_lacking(alloc, changes.gone(), changes.there())?;
+    let known = known_of(alloc, notes.as_slice())?;
+    let present = quads_that(alloc, &known, false, changes.present(), source, notes)?;
+    let absent = quads_that(alloc, &known, true, &others, source, notes)?;
+    let there = names_that(alloc, &known, false, changes.there(), source, notes)?;
+    let gone = names_that(alloc, &known, true, &other_names, source, notes)?;
+    Ok(Delta::from_parts(present, absent, there, gone))
 }

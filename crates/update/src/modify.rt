@@ -5,7 +5,7 @@ ghost use Rattle.dict.specs.Dictionary.{numbers};
 ghost use Rattle.meaning.specs.Effect.{effect_of};
 ghost use Rattle.meaning.specs.Near.{is_near};
 ghost use Rattle.meaning.specs.Solutions.{solutions};
-ghost use Rattle.meaning.specs.declared.update.Operation.TheVariants as operation;
+ghost use Rattle.algebra.specs.declared.update.Operation.TheVariants as operation;
 ghost use Rattle.reads.specs.Reads.{View, Read as Reading, applied};
 ghost use Rattle.reads.specs.Runs.{Agrees};
 ghost use Rattle.asking.specs.Goes.{Goes};
@@ -14,11 +14,12 @@ ghost use Rattle.update.specs.Changed.{changed};
 
 use crate::template::instances;
 use algebra::Modify;
+use delta::Delta;
 use dict::{Dict, Id};
 use eval::{Query, replaced, solve};
 use expr::Filtering;
 use meaning::Cause;
-use reads::{Delta, Note, Source, Stop};
+use reads::{Note, Source, Stop};
 use solution::Solutions;
 use std::alloc::Global;
 

@@ -3,6 +3,7 @@ ghost use Rattle.std.specs.Prelude.{◌≡◌, ◌<◌, ◌^◌, length, Bool, t
 ghost use Rattle.datasets.specs.Id.{id_order};
 ghost use Rattle.dict.specs.Dictionary.{numbers};
 ghost use Rattle.meaning.specs.Effect.{effect_of};
+ghost use Rattle.meaning.specs.GraphOperations.{silently};
 ghost use Rattle.meaning.specs.Near.{is_near, is_near_request};
 ghost use Rattle.meaning.specs.Run.{performed};
 ghost use Rattle.reads.specs.Reads.{View, Read as Reading, applied, IsDataset};
@@ -10,14 +11,16 @@ ghost use Rattle.reads.specs.Runs.{Agrees};
 ghost use Rattle.asking.specs.Goes.{Goes};
 ghost use Rattle.update.specs.Asked.{IsWithin};
 ghost use Rattle.update.specs.Changed.{changed};
-ghost use Rattle.update.specs.Failures.{performed_so, modification_of as the_modification_of};
+ghost use Rattle.update.specs.Failures.{performed_so};
 
+use crate::graphs::graphs;
 use crate::modify::modify;
-use algebra::Modify;
+use algebra::Operation;
+use delta::Delta;
 use dict::{Dict, Id};
-use meaning::{Cause, Operation};
-use reads::{Delta, Note, Source, Stop};
-use std::alloc::Global;
+use meaning::Cause;
+use reads::{Note, Source, Stop};
+use std::alloc::{AllocError, Global};
 
 /// The failing operation, counted from 1, and why it failed.
 #[derive(Clone, Copy, Drop)]
@@ -26,12 +29,36 @@ pub struct Failed {
     pub cause: Cause,
 }
 
-// What the operation deletes and inserts, and where.
-fn modification_of(operation: &Operation<Id>) -> &Modify<Id>
-    ensures { result.now ≡ the_modification_of operation.now }
+// Why an operation failed, or no change where SILENT was said.
+fn excused(
+    alloc: Global,
+    silent: bool,
+    changes: &Delta,
+    cause: Cause,
+) -> Result<Result<Delta, Cause>, AllocError>
+    ensures effect { IfOk result (λ kept. (d : View) → changed d kept ≡ silently id_order silent (applied changes.now d) (Err cause)) }
+    ensures within { (allowed : Reading → Bool) → IsWithin allowed changes.now → IfOk result (λ kept. IfOk kept (λ change. IsWithin allowed change)) }
 {
-    match operation {
-        Operation::Modify(modification) => modification,
+    if !silent {
+        return Ok(Err(cause));
+    }
+    let unchanged = changes.copied(alloc)?;
+    Ok(Ok(unchanged))
+}
+
+// The outcome, or no change where it failed and SILENT was said.
+fn heard(
+    alloc: Global,
+    silent: bool,
+    changes: &Delta,
+    outcome: Result<Delta, Cause>,
+) -> Result<Result<Delta, Cause>, AllocError>
+    ensures effect { IfOk result (λ kept. (d : View) → changed d kept ≡ silently id_order silent (applied changes.now d) (changed d outcome)) }
+    ensures within { (allowed : Reading → Bool) → IsWithin allowed changes.now → IfOk outcome (λ change. IsWithin allowed change) → IfOk result (λ kept. IfOk kept (λ change. IsWithin allowed change)) }
+{
+    match outcome {
+        Ok(change) => Ok(Ok(change)),
+        Err(cause) => excused(alloc, silent, changes, cause),
     }
 }
 
@@ -51,8 +78,16 @@ fn perform_one<S: Source>(
     ensures effect { IfOk result (λ outcome. (d : View) → Agrees notes.new.items d → changed d outcome ≡ effect_of (numbers dict.now) place op operation.now (applied changes.now d)) }
     ensures within { (allowed : Reading → Bool) → ((r : Reading) → is_near id_order operation.now r ≡ true → allowed r ≡ true) → IsWithin allowed changes.now → IfOk result (λ outcome. IfOk outcome (λ change. IsWithin allowed change)) }
 {
-    let modification = modification_of(operation);
-    modify(alloc, dict, place, op, modification, changes, source, notes)
+    match operation {
+        Operation::Modify(modification) => {
+            modify(alloc, dict, place, op, modification, changes, source, notes)
+        }
+        Operation::Graphs { silent, operation } => {
+            let outcome = graphs(alloc, operation, changes, source, notes)?;
+            let kept = heard(alloc, *silent, changes, outcome)?;
+            Ok(kept)
+        }
+    }
 }
 
 /// The change that the operations make, each from where those before it led, or the first that fails.

@@ -9,7 +9,9 @@ ghost use Rattle.reads.specs.Runs.{Agrees};
 ghost use Rattle.reads.specs.Same.{bool_eq};
 ghost use Rattle.asking.specs.Goes.{Goes};
 ghost use Rattle.update.specs.Asked.{scan_for as the_scan_for, has_quads as the_has_quads, has_name as the_has_name, AskedQuads, AskedNames};
+ghost use Rattle.update.specs.Known.{Knows};
 
+use crate::known::Known;
 use datasets::{GraphPlace, Id, Quad, QuadPattern, Read};
 use reads::same::same_bool;
 use reads::{Answered, Note, Source, Stop};
@@ -77,6 +79,41 @@ pub fn is_named<S: Source>(name: Id, source: &mut S, notes: &mut Vec<Note>) -> R
     Ok(so)
 }
 
+// Whether a quad is there, in each dataset that agrees with the notes and with what is known. It is asked for only where it isn't known.
+fn is_known_or_present<S: Source>(
+    known: &Known,
+    quad: Quad<Id>,
+    source: &mut S,
+    notes: &mut Vec<Note>,
+) -> Result<bool, Stop>
+    ensures about { S.subject source.new ≡ S.subject source.old }
+    ensures goes { (allowed : Reading → Bool) → allowed (the_scan_for quad) ≡ true → Goes allowed (S.may source.old) (S.may source.new) notes.old.items notes.new.items }
+    ensures told { IfOk result (λ so. (d : View) → Knows known.now d → Agrees notes.new.items d → so ≡ has (quad_order id_order) d.quads quad) }
+{
+    if known.is_known(quad.graph) {
+        return Ok(known.has(&quad));
+    }
+    is_present(quad, source, notes)
+}
+
+// Whether a graph name is there, in each dataset that agrees with the notes and with what is known. It is asked for only where it isn't
+// known.
+fn is_known_or_named<S: Source>(
+    known: &Known,
+    name: Id,
+    source: &mut S,
+    notes: &mut Vec<Note>,
+) -> Result<bool, Stop>
+    ensures about { S.subject source.new ≡ S.subject source.old }
+    ensures goes { (allowed : Reading → Bool) → allowed (read.GraphIs name) ≡ true → Goes allowed (S.may source.old) (S.may source.new) notes.old.items notes.new.items }
+    ensures told { IfOk result (λ so. (d : View) → Knows known.now d → Agrees notes.new.items d → so ≡ has id_order d.names name) }
+{
+    if known.has_graphs() {
+        return Ok(known.is_graph(&name));
+    }
+    is_named(name, source, notes)
+}
+
 // One more at the end, if it is so.
 fn push_if<T: Copy>(found: &mut Vec<T>, so: bool, item: T) -> Result<(), AllocError>
     ensures { OnOk result (found.new.items ≡ found.old.items ++ (if so then item ∷ [] else [])) }
@@ -87,41 +124,48 @@ fn push_if<T: Copy>(found: &mut Vec<T>, so: bool, item: T) -> Result<(), AllocEr
     Ok(())
 }
 
-/// Of the quads those that are there, or those that are not, in each dataset that agrees with the notes. Each is asked for.
+/// Of the quads those that are there, or those that are not, in each dataset that agrees with the notes. Each that isn't known from
+/// them is asked for.
 pub fn quads_that<S: Source>(
     alloc: Global,
+    known: &Known,
     are_there: bool,
     quads: &[Quad<Id>],
     source: &mut S,
     notes: &mut Vec<Note>,
 ) -> Result<Vec<Quad<Id>>, Stop>
+    requires { (d : View) → Agrees notes.old.items d → Knows known.now d }
     ensures about { S.subject source.new ≡ S.subject source.old }
     ensures goes { (allowed : Reading → Bool) → AskedQuads allowed quads.now → Goes allowed (S.may source.old) (S.may source.new) notes.old.items notes.new.items }
     ensures told { IfOk result (λ found. (d : View) → Agrees notes.new.items d → found.items ≡ filter (λ q. bool_eq are_there (has (quad_order id_order) d.quads q)) quads.now) }
 {
     let mut found = Vec::new(alloc);
     for quad in quads {
-        let is_there = is_present(*quad, source, notes)?;
+        let is_there = is_known_or_present(known, *quad, source, notes)?;
         push_if(&mut found, same_bool(are_there, is_there), *quad)?;
     }
     Ok(found)
 }
 
-/// Of the graph names those that are not there, in each dataset that agrees with the notes. Each is asked for.
-pub fn names_missing<S: Source>(
+/// Of the graph names those that are there, or those that are not, in each dataset that agrees with the notes. Each that isn't known from
+/// them is asked for.
+pub fn names_that<S: Source>(
     alloc: Global,
+    known: &Known,
+    are_there: bool,
     names: &[Id],
     source: &mut S,
     notes: &mut Vec<Note>,
 ) -> Result<Vec<Id>, Stop>
+    requires { (d : View) → Agrees notes.old.items d → Knows known.now d }
     ensures about { S.subject source.new ≡ S.subject source.old }
     ensures goes { (allowed : Reading → Bool) → AskedNames allowed names.now → Goes allowed (S.may source.old) (S.may source.new) notes.old.items notes.new.items }
-    ensures told { IfOk result (λ found. (d : View) → Agrees notes.new.items d → found.items ≡ filter (λ g. bool_eq false (has id_order d.names g)) names.now) }
+    ensures told { IfOk result (λ found. (d : View) → Agrees notes.new.items d → found.items ≡ filter (λ g. bool_eq are_there (has id_order d.names g)) names.now) }
 {
     let mut found = Vec::new(alloc);
     for name in names {
-        let is_there = is_named(*name, source, notes)?;
-        push_if(&mut found, same_bool(false, is_there), *name)?;
+        let is_there = is_known_or_named(known, *name, source, notes)?;
+        push_if(&mut found, same_bool(are_there, is_there), *name)?;
     }
     Ok(found)
 }

@@ -10,11 +10,11 @@ use crate::numbers::{numbered, tell_quads};
 use crate::run::play;
 use book::Book;
 use meaning::Reply;
+use numbering::Numbered;
 use reads::View;
 use std::alloc::{AllocError, Global};
 use std::process::Abort;
 use std::test::Fail;
-use store::Numbered;
 
 /// A walk through the book of a block over an empty base.
 struct Walk {
@@ -132,7 +132,12 @@ fn walked<'a>(
 ) -> Result<Book<'a>, AllocError>
     requires { IsDataset base.now }
 {
-    let mut book = Book::new(alloc, &numbered.terms, base, numbered.block.as_slice())?;
+    let mut book = Book::new(
+        alloc,
+        numbered.base.terms(),
+        base,
+        numbered.block.as_slice(),
+    )?;
     for (worker, step, told) in lines {
         let (after, reply) = play(alloc, book, *worker, *step)?;
         book = after;
@@ -157,7 +162,7 @@ fn is_come_to(
     let mut quads = Vec::new(alloc);
     tell_quads(
         alloc,
-        &numbered.terms,
+        numbered.base.terms(),
         b'+',
         outcome.dataset.quads(),
         &mut quads,

@@ -1,9 +1,11 @@
-//! Walks: requests over plain sources, blocks run through a book event by event, in orders that workers side by side may take, and blocks
+//! Walks: requests over a base, blocks run one request after another, blocks run through a book event by event, in orders that workers side by side may take, and blocks
 //! run through a shared book, by one worker alone and by four on threads of their own. It has tests alone.
 #![tactic(auto)]
 
 #[cfg(test)]
 mod alone;
+#[cfg(test)]
+mod blocks;
 #[cfg(test)]
 mod books;
 #[cfg(test)]

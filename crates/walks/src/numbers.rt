@@ -2,14 +2,14 @@
 ghost use Rattle.std.specs.Prelude.{◌≡◌, ◌<◌, Some, IfSome, slice_get};
 ghost use Rattle.update.specs.Asked.{IsShort};
 
-use book::Request;
 use datasets::{Id, Quad};
 use dict::Dict;
+use meaning::Request;
 use nquads::read_bytes;
+use numbering::{Numbered, number};
 use rules::split;
 use std::alloc::{AllocError, Global};
 use std::test::Fail;
-use store::{Numbered, number};
 use terms::{Term, canonical};
 
 /// A base and a block at numbers.
@@ -20,7 +20,7 @@ pub fn numbered(alloc: Global, base: &str, block: &str) -> Result<Numbered, Fail
 }
 
 /// The request at one of the first thousand places, which has few operations.
-pub fn request_at(block: &[Request], place: usize) -> Option<&Request>
+pub fn request_at(block: &[Request<Id>], place: usize) -> Option<&Request<Id>>
     ensures is { IfSome result (λ request. slice_get block.now place ≡ Some request.now) }
     ensures low { IfSome result (λ request. place < 1000) }
     ensures short { IfSome result (λ request. IsShort request.now) }

@@ -1,37 +1,14 @@
-//! Requests over a plain dataset, and over a source whose answers are of the wrong kind.
+//! Requests over a base, and over a source whose answers are of the wrong kind.
 use crate::numbers::{numbered, request_at, tell, tell_quads};
-use book::Request;
 use datasets::{Answer, Read};
+use delta::{Delta, Finished};
 use dict::{Dict, Id};
-use meaning::{Refusal, Reply};
-use reads::{Answered, Delta, Finished, Source, Stop, View};
+use meaning::{Cause, Refusal, Reply, Request};
+use numbering::Numbered;
+use reads::{Answered, Source, Stop};
 use std::alloc::{AllocError, Global};
 use std::test::Fail;
-use store::Numbered;
 use update::execute;
-
-// It answers what its dataset says.
-#[derive(Drop)]
-struct Plain {
-    alloc: Global,
-    view: View,
-}
-
-impl Source for Plain {
-    ghost use Rattle.std.specs.Prelude.{◌≡◌};
-    ghost use Rattle.reads.specs.Reads.{says};
-
-    ghost may = { λ s r a. a ≡ says r s.view };
-
-    // Nothing is asked of it beyond its answers.
-    ghost Subject = { Unit {0} };
-
-    ghost subject = { λ s. tt };
-
-    fn ask(&mut self, read: &Read<Id>) -> Result<Answered, Stop> {
-        Ok(self.view.answer(self.alloc, read)?)
-    }
-}
 
 // It answers anything but what was asked for, until it stops.
 #[derive(Drop)]
@@ -63,7 +40,7 @@ impl Source for Liar {
 fn run<S: Source>(
     alloc: Global,
     terms: &Dict,
-    block: &[Request],
+    block: &[Request<Id>],
     source: &mut S,
 ) -> Result<Finished, Stop> {
     let Some(request) = request_at(block, 0) else {
@@ -72,7 +49,7 @@ fn run<S: Source>(
     Ok(execute(alloc, terms, 7, request, source)?.into_finished())
 }
 
-// A line for each quad that comes or goes, and for each name that comes.
+// A line for each quad and for each name that comes or goes.
 fn told(alloc: Global, terms: &Dict, delta: &Delta) -> Result<Vec<u8>, AllocError> {
     let mut text = Vec::new(alloc);
     tell_quads(alloc, terms, b'+', delta.present(), &mut text)?;
@@ -80,26 +57,35 @@ fn told(alloc: Global, terms: &Dict, delta: &Delta) -> Result<Vec<u8>, AllocErro
     for name in delta.there() {
         tell(alloc, terms, b'#', &[*name], &mut text)?;
     }
+    for name in delta.gone() {
+        tell(alloc, terms, b'~', &[*name], &mut text)?;
+    }
     Ok(text)
 }
 
-/// A request, and what its run over the base comes to.
+/// A request, and what its run over a base comes to.
 struct Row {
+    base: &'static str,
     request: &'static str,
-    added: u64,
-    removed: u64,
+    reply: Reply,
     reads: usize,
     delta: &'static str,
 }
 
 const BASE: &str = "<x:a> <x:p> <x:b> .\n<x:a> <x:p> <x:c> .\n";
 
-const ROWS: [Row; 4] = [
+// A quad in the default graph, one in the graph c, and an empty graph b.
+const GRAPHS: &str = "<x:a> <x:p> <x:b> .\n<x:a> <x:p> <x:c> <x:c> .\n#@graph <x:b>\n";
+
+const ROWS: [Row; 16] = [
     // New nodes are numbered by the rank of their solution.
     Row {
+        base: BASE,
         request: "DELETE { ?s <x:p> ?o } INSERT { ?s <x:q> ?o ; <x:q> _:l } WHERE { ?s <x:p> ?o }",
-        added: 4,
-        removed: 2,
+        reply: Reply::Done {
+            added: 4,
+            removed: 2,
+        },
         reads: 7,
         delta: "+ <x:a> <x:q> <x:b>\n+ <x:a> <x:q> <x:c>\n\
             + <x:a> <x:q> _:m1r7o0l0s0\n+ <x:a> <x:q> _:m1r7o0l0s1\n\
@@ -107,9 +93,12 @@ const ROWS: [Row; 4] = [
     },
     // Each operation reads what those before it left.
     Row {
+        base: BASE,
         request: MANY,
-        added: 6,
-        removed: 2,
+        reply: Reply::Done {
+            added: 6,
+            removed: 2,
+        },
         reads: 10,
         delta: "+ <x:a> <x:q> <x:b>\n+ <x:a> <x:q> <x:c>\n\
             + <x:a> <x:q> _:m1r7o1l0s0\n+ <x:a> <x:q> _:m1r7o1l0s1\n\
@@ -118,41 +107,168 @@ const ROWS: [Row; 4] = [
     },
     // What comes back is no change.
     Row {
+        base: BASE,
         request: "DELETE DATA { <x:a> <x:p> <x:b> } ; INSERT DATA { <x:a> <x:p> <x:b> }",
-        added: 0,
-        removed: 0,
+        reply: Reply::Done {
+            added: 0,
+            removed: 0,
+        },
         reads: 1,
         delta: "",
     },
     // Graphs come with their quads.
     Row {
+        base: BASE,
         request: "INSERT DATA { GRAPH <x:c> { <x:a> <x:p> <x:a> } }",
-        added: 1,
-        removed: 0,
+        reply: Reply::Done {
+            added: 1,
+            removed: 0,
+        },
         reads: 2,
         delta: "+ <x:a> <x:p> <x:a> <x:c>\n# <x:c>\n",
+    },
+    // CLEAR keeps the names of graphs, DROP takes them away.
+    Row {
+        base: GRAPHS,
+        request: "CLEAR ALL",
+        reply: Reply::Done {
+            added: 0,
+            removed: 2,
+        },
+        reads: 1,
+        delta: "- <x:a> <x:p> <x:b>\n- <x:a> <x:p> <x:c> <x:c>\n",
+    },
+    Row {
+        base: GRAPHS,
+        request: "DROP NAMED",
+        reply: Reply::Done {
+            added: 0,
+            removed: 1,
+        },
+        reads: 2,
+        delta: "- <x:a> <x:p> <x:c> <x:c>\n~ <x:b>\n~ <x:c>\n",
+    },
+    // What goes and comes back is no change, of names either.
+    Row {
+        base: GRAPHS,
+        request: "DROP GRAPH <x:b> ; CREATE GRAPH <x:b>",
+        reply: Reply::Done {
+            added: 0,
+            removed: 0,
+        },
+        reads: 4,
+        delta: "",
+    },
+    Row {
+        base: GRAPHS,
+        request: "CREATE GRAPH <x:b>",
+        reply: Reply::Failed {
+            operation: 1,
+            cause: Cause::GraphExists,
+        },
+        reads: 1,
+        delta: "",
+    },
+    Row {
+        base: GRAPHS,
+        request: "CREATE GRAPH <x:d>",
+        reply: Reply::Done {
+            added: 0,
+            removed: 0,
+        },
+        reads: 2,
+        delta: "# <x:d>\n",
+    },
+    // The graph that quads go to is there afterwards, whatever it got.
+    Row {
+        base: GRAPHS,
+        request: "ADD <x:b> TO <x:d>",
+        reply: Reply::Done {
+            added: 0,
+            removed: 0,
+        },
+        reads: 3,
+        delta: "# <x:d>\n",
+    },
+    Row {
+        base: GRAPHS,
+        request: "COPY DEFAULT TO <x:c>",
+        reply: Reply::Done {
+            added: 1,
+            removed: 1,
+        },
+        reads: 3,
+        delta: "+ <x:a> <x:p> <x:b> <x:c>\n- <x:a> <x:p> <x:c> <x:c>\n",
+    },
+    Row {
+        base: GRAPHS,
+        request: "MOVE <x:c> TO <x:b>",
+        reply: Reply::Done {
+            added: 1,
+            removed: 1,
+        },
+        reads: 5,
+        delta: "+ <x:a> <x:p> <x:c> <x:b>\n- <x:a> <x:p> <x:c> <x:c>\n~ <x:c>\n",
+    },
+    // From a graph that is not there, and from one to itself.
+    Row {
+        base: GRAPHS,
+        request: "MOVE <x:d> TO <x:c>",
+        reply: Reply::Failed {
+            operation: 1,
+            cause: Cause::GraphMissing,
+        },
+        reads: 1,
+        delta: "",
+    },
+    Row {
+        base: GRAPHS,
+        request: "MOVE SILENT <x:d> TO <x:c>",
+        reply: Reply::Done {
+            added: 0,
+            removed: 0,
+        },
+        reads: 1,
+        delta: "",
+    },
+    Row {
+        base: GRAPHS,
+        request: "MOVE <x:d> TO <x:d>",
+        reply: Reply::Done {
+            added: 0,
+            removed: 0,
+        },
+        reads: 0,
+        delta: "",
+    },
+    // An operation that fails undoes those before it.
+    Row {
+        base: GRAPHS,
+        request: "DROP ALL ; CLEAR GRAPH <x:c>",
+        reply: Reply::Failed {
+            operation: 2,
+            cause: Cause::GraphMissing,
+        },
+        reads: 3,
+        delta: "",
     },
 ];
 
 const MANY: &str = "INSERT DATA { <x:b> <x:p> <x:c> } ; \
     DELETE { ?s <x:p> ?o } INSERT { ?s <x:q> ?o ; <x:q> _:l } WHERE { ?s <x:p> ?o }";
 
-fn is_done(run: &Finished, added: u64, removed: u64, reads: usize) -> bool {
-    run.reply == Reply::Done { added, removed } && run.transcript.len() == reads
+fn is_told(run: &Finished, reply: &Reply, reads: usize) -> bool {
+    run.reply == *reply && run.transcript.len() == reads
 }
 
 #[test]
-fn over_a_plain_dataset(rt: HostRuntime) -> Result<(), Fail> {
+fn over_a_base(rt: HostRuntime) -> Result<(), Fail> {
     let alloc = rt.alloc();
     for row in &ROWS {
-        let Numbered { terms, base, block } = numbered(alloc, BASE, row.request)?;
-        let run = run(alloc, &terms, &block, &mut Plain { alloc, view: base })?;
-        assert!(rt;
-            is_done(&run, row.added, row.removed, row.reads),
-            "{}",
-            row.request
-        );
-        let delta = told(alloc, &terms, &run.delta)?;
+        let Numbered { base, block } = numbered(alloc, row.base, row.request)?;
+        let run = run(alloc, base.terms(), &block, &mut &base)?;
+        assert!(rt; is_told(&run, &row.reply, row.reads), "{}", row.request);
+        let delta = told(alloc, base.terms(), &run.delta)?;
         assert!(rt; delta.as_slice() == row.delta.as_bytes(), "{}", row.request);
     }
     Ok(())
@@ -160,15 +276,17 @@ fn over_a_plain_dataset(rt: HostRuntime) -> Result<(), Fail> {
 
 // What the run of a request comes to where the source answers so many reads, and each of them wrongly.
 fn run_on_lies(alloc: Global, request: &str, left: usize) -> Result<Result<Finished, Stop>, Fail> {
-    let Numbered { terms, block, .. } = numbered(alloc, BASE, request)?;
-    Ok(run(alloc, &terms, &block, &mut Liar { alloc, left }))
+    let Numbered { base, block } = numbered(alloc, BASE, request)?;
+    Ok(run(alloc, base.terms(), &block, &mut Liar { alloc, left }))
 }
 
 #[test]
 fn answers_of_the_wrong_kind(rt: HostRuntime) -> Result<(), Fail> {
     let alloc = rt.alloc();
     let through = run_on_lies(alloc, MANY, 100)?;
-    assert!(rt; matches!(&through, Ok(run) if is_done(run, 2, 0, 4)));
+    assert!(rt;
+        matches!(&through, Ok(run) if is_told(run, &Reply::Done { added: 2, removed: 0 }, 4))
+    );
     let stopped = run_on_lies(alloc, MANY, 2)?;
     assert!(rt; matches!(&stopped, Err(Stop::Blocked(3))));
     // A refused request asks nothing.

@@ -123,7 +123,7 @@ fn calls_that_never_wait(rt: HostRuntime) -> Result<(), Fail> {
     let numbered = numbered(alloc, "", BLOCK)?;
     let base = View::new(alloc);
     let topic = Topic {
-        terms: &numbered.terms,
+        terms: numbered.base.terms(),
         base: &base,
         block: &numbered.block,
     };
@@ -224,7 +224,7 @@ fn four_threads(rt: HostRuntime) -> Result<(), Fail> {
     let numbered = numbered(alloc, "", long_block(alloc)?.as_str())?;
     let base = View::new(alloc);
     let topic = Topic {
-        terms: &numbered.terms,
+        terms: numbered.base.terms(),
         base: &base,
         block: &numbered.block,
     };

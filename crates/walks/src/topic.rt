@@ -1,7 +1,8 @@
 //! What the shared book of a walk is about.
 
-use book::Request;
+use datasets::Id;
 use dict::Dict;
+use meaning::Request;
 use reads::View;
 use std::marker::Model;
 
@@ -10,7 +11,7 @@ use std::marker::Model;
 pub struct Topic<'a> {
     pub terms: &'a Dict,
     pub base: &'a View,
-    pub block: &'a [Request],
+    pub block: &'a [Request<Id>],
 }
 
 impl<'a> Model for Topic<'a> {

@@ -1,4 +1,3 @@
-use Rattle.std.proofs.Common.{◌∙◌, refl}
 use Rattle.block_machine.specs.Machine.{touching}
 use Rattle.block_machine.proofs.Along.{touching_more, touching_all}
 use Rattle.block_machine.proofs.version_overlay.touching.Goals as goal

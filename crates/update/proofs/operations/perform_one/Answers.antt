@@ -3,24 +3,41 @@ use Rattle.std.proofs.lemmas.Result.{IfOk-weaker}
 use Rattle.datasets.specs.Id.{id_order}
 use Rattle.dict.specs.Dictionary.{numbers}
 use Rattle.meaning.specs.Effect.{effect_of}
+use Rattle.meaning.specs.GraphOperations.{silently}
 use Rattle.meaning.specs.Near.{is_near}
-use Rattle.meaning.specs.declared.update.Operation.TheVariants as operation
 use Rattle.reads.specs.Reads.{applied}
 use Rattle.asking.proofs.Notes.{goes_within}
-use Rattle.update.proofs.Nearness.{modification_is}
 use Rattle.update.proofs.operations.perform_one.Goals as goal
 
-pub returns-clause-goes : goal.returns-clause-goes
-returns-clause-goes g c = goes_within (λ r e. ap (λ o. is_near id_order o r) (sym (ap operation.Modify c.modification_of-modification.ensures ∙ modification_is c.args.operation.now)) ∙ e) c.modify.ensures.goes
+pub returns-in-Modify-clause-goes : goal.returns-in-Modify-clause-goes
+returns-in-Modify-clause-goes g c = goes_within (λ r e. ap (λ o. is_near id_order o r) c.in-Modify.is ∙ e) c.modify.ensures.goes
 
-pub returns-clause-effect : goal.returns-clause-effect
-returns-clause-effect g c =
+pub returns-in-Modify-clause-effect : goal.returns-in-Modify-clause-effect
+returns-in-Modify-clause-effect g c =
     IfOk-weaker c.modify.result _ _
-    (λ outcome h d a.
-    h d a
-    ∙ ap (λ o. effect_of (numbers c.args.dict.now) c.args.place c.args.op o (applied c.args.changes.now d)) (ap operation.Modify c.modification_of-modification.ensures ∙ modification_is c.args.operation.now))
+    (λ outcome h d a. h d a ∙ ap (λ o. effect_of (numbers c.args.dict.now) c.args.place c.args.op o (applied c.args.changes.now d)) (sym c.in-Modify.is))
     c.modify.ensures.effect
 
-pub returns-clause-within : goal.returns-clause-within
-returns-clause-within g c allowed near h =
-    c.modify.ensures.within allowed (λ r e. near r (ap (λ o. is_near id_order o r) (sym (ap operation.Modify c.modification_of-modification.ensures ∙ modification_is c.args.operation.now)) ∙ e)) h
+pub returns-in-Modify-clause-within : goal.returns-in-Modify-clause-within
+returns-in-Modify-clause-within g c allowed near h = c.modify.ensures.within allowed (λ r e. near r (ap (λ o. is_near id_order o r) c.in-Modify.is ∙ e)) h
+
+pub returns-in_err-outcome-in-Graphs-clause-goes : goal.returns-in_err-outcome-in-Graphs-clause-goes
+returns-in_err-outcome-in-Graphs-clause-goes g c = goes_within (λ r e. ap (λ o. is_near id_order o r) c.in-Graphs.is ∙ e) c.graphs.ensures.goes
+
+pub returns-in_err-kept-in-Graphs-clause-goes : goal.returns-in_err-kept-in-Graphs-clause-goes
+returns-in_err-kept-in-Graphs-clause-goes g c = goes_within (λ r e. ap (λ o. is_near id_order o r) c.in-Graphs.is ∙ e) c.graphs.ensures.goes
+
+pub returns-in_ok-kept-in-Graphs-clause-goes : goal.returns-in_ok-kept-in-Graphs-clause-goes
+returns-in_ok-kept-in-Graphs-clause-goes g c = goes_within (λ r e. ap (λ o. is_near id_order o r) c.in-Graphs.is ∙ e) c.graphs.ensures.goes
+
+pub returns-in_ok-kept-in-Graphs-clause-effect : goal.returns-in_ok-kept-in-Graphs-clause-effect
+returns-in_ok-kept-in-Graphs-clause-effect g c d a =
+    let D = applied c.args.changes.now d in
+    c.in_ok-kept-in-Graphs.ensures.effect d
+    ∙ ap (silently id_order c.in-Graphs.silent D) (c.in_ok-outcome-in-Graphs.ensures.effect d a)
+    ∙ ap (λ o. effect_of (numbers c.args.dict.now) c.args.place c.args.op o D) (sym c.in-Graphs.is)
+
+pub returns-in_ok-kept-in-Graphs-clause-within : goal.returns-in_ok-kept-in-Graphs-clause-within
+returns-in_ok-kept-in-Graphs-clause-within g c allowed near h =
+    c.in_ok-kept-in-Graphs.ensures.within allowed h
+    (c.in_ok-outcome-in-Graphs.ensures.within allowed (λ r e. near r (ap (λ o. is_near id_order o r) c.in-Graphs.is ∙ e)) h)

@@ -1,0 +1,50 @@
+//! The engine of the command `serial`.
+ghost use Rattle.std.specs.Prelude.{◌≡◌, ◌≢◌, ◌<◌, ◌-◌, ◌^◌, IfErr, IfSome, OnOk, IsErrOf};
+ghost use Rattle.cli.specs.Inputs.{IsFaultOf};
+ghost use Rattle.cli.specs.Outputs.{Wrote, WroteInPart};
+
+use crate::engine::{Runs, run_by};
+use command_line::{Fault, File};
+use delta::Outcome;
+use nquads::Watched;
+use numbering::Numbered;
+use serial::run;
+use std::alloc::{AllocError, Global};
+use std::io::{Read, Write};
+
+/// One request after another.
+#[derive(Drop)]
+struct OneByOne;
+
+impl Runs for OneByOne {
+    fn outcome(&self, alloc: Global, numbered: &Numbered) -> Result<Outcome, AllocError> {
+        run(alloc, &numbered.base, numbered.block.as_slice())
+    }
+}
+
+/// Reads a base and a block, runs the block by one thread, one request after another, and writes the canonical text of the new dataset and
+/// one line a request. The base is read before the block, and all texts are made before a writer is touched; then the dataset and the
+/// replies are written in this order, each flushed, also where it is empty. A fault is the first that comes: of the base, of the block,
+/// want of memory, or of a writer.
+pub fn serial_engine<B: Read, K: Read, D: Write, A: Write>(
+    alloc: Global,
+    base: &mut Watched<B>,
+    block: &mut Watched<K>,
+    dataset: &mut Watched<D>,
+    replies: &mut Watched<A>,
+) -> Result<(), Fault>
+    requires base { base.old.failures < 2 ^ 64 - 1 }
+    requires block { block.old.failures < 2 ^ 64 - 1 }
+    requires dataset { dataset.old.failures < 2 ^ 64 - 1 }
+    requires replies { replies.old.failures < 2 ^ 64 - 1 }
+    // What was written is the output of what was read.
+    ensures answer { OnOk result (IfSome (B.remaining base.old.inner) (λ b. IfSome (K.remaining block.old.inner) (λ k. Wrote b k (D.contents dataset.old.inner) (D.contents dataset.new.inner) (A.contents replies.old.inner) (A.contents replies.new.inner)))) }
+    // After a failed write the texts before it are whole, and of its own a beginning was written.
+    ensures part { IsErrOf result (Fault.CannotWrite File.Answer) → IfSome (B.remaining base.old.inner) (λ b. IfSome (K.remaining block.old.inner) (λ k. WroteInPart b k (D.contents dataset.old.inner) (D.contents dataset.new.inner) (A.contents replies.old.inner) (A.contents replies.new.inner))) }
+    // Any other fault comes before a writer is touched.
+    ensures untouched { IfErr result (λ fault. fault ≢ Fault.CannotWrite File.Answer → (dataset.new ≡ dataset.old) × (replies.new ≡ replies.old)) }
+    // Each fault is told only where it is there.
+    ensures fault { IfErr result (λ fault. IfSome (B.remaining base.old.inner) (λ b. IfSome (K.remaining block.old.inner) (λ k. IsFaultOf b k fault))) }
+{
+    run_by(&OneByOne, alloc, base, block, dataset, replies)
+}

@@ -1,0 +1,3 @@
+pub mod Equal
+pub mod Asked
+pub mod Composed

@@ -1,0 +1,5 @@
+pub mod PlanLaws
+pub mod Holding
+pub mod Numbers
+pub mod Carried
+pub mod Places

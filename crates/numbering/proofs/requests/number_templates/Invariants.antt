@@ -1,0 +1,9 @@
+use Rattle.std.proofs.Common.{drop}
+use Rattle.dict.specs.Dictionary.{term_of, is_known}
+use Rattle.meaning_laws.specs.Renaming.{renamed_template, template_known}
+use Rattle.store.specs.Held.{is_held}
+use Rattle.store.proofs.Loops.{SoFar}
+use Rattle.numbering.proofs.requests.number_templates.Given as goal
+
+abbrev pub invariant-loop-template : goal.invariant-loop-template
+invariant-loop-template l = SoFar (renamed_template (term_of l.dict)) (template_known (is_known l.dict)) (template_known (is_held l.dict)) l.list.items (drop l.template-index l.templates) l.templates

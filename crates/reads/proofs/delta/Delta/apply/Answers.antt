@@ -1,6 +1,0 @@
-use Rattle.std.proofs.Common.{◌++◌}
-use Rattle.reads.proofs.Rising.{rises-sets}
-use Rattle.reads.proofs.delta.Delta.apply.Goals as goal
-
-pub invariant_of-result : goal.invariant_of-result
-invariant_of-result c = rises-sets _ _ (c.quads_without.result.items ++ c.in_ok-present.present.items) (c.names_without.result.items ++ c.in_ok-there.there.items) c.in_ok-quads.ensures c.in_ok-names.ensures

@@ -1,5 +1,0 @@
-use Rattle.reads.proofs.Equal.{delta_eq-true}
-use Rattle.reads.proofs.laws.equal_deltas_are_one.Goals as goal
-
-pub returns : goal.returns
-returns c = delta_eq-true

@@ -1,0 +1,426 @@
+//! Texts and blocks with the answers that the standard and this program's limits give them.
+
+use algebra::{Expression, GraphOperation, Link, Modify, Operation, Place, Plan, Slot};
+use meaning::Refusal;
+use rules::{BlockFault, split, verdicts};
+use std::alloc::{AllocError, Global};
+use terms::Term;
+
+const RDF_TYPE: &str = "http://www.w3.org/1999/02/22-rdf-syntax-ns#type";
+
+/// Texts after the prologue of `ex:`, and how many operations each has, or why it is refused.
+const TEXTS: [(&str, Result<usize, Refusal>); 75] = [
+    ("INSERT DATA { ?x nope:p 1 }", Err(Refusal::Prefix)),
+    (
+        "INSERT DATA { GRAPH ?g { ex:a ex:p 1 } }",
+        Err(Refusal::VariableInData),
+    ),
+    ("DELETE WHERE { _:x ex:p ?o }", Err(Refusal::BlankInDelete)),
+    (
+        "INSERT DATA { _:x ex:p 1 } ; INSERT DATA { _:x ex:p 2 }",
+        Err(Refusal::LabelReused),
+    ),
+    ("INSERT DATA { ex:a ex:p -1 }", Err(Refusal::Syntax)),
+    ("INSERT DATA { ex:a ex:p 1.5 }", Err(Refusal::Syntax)),
+    ("INSERT DATA { ex:a ex:p 1. }", Ok(1)),
+    ("INSERT DATA { ex:a a ex:C }", Ok(1)),
+    ("INSERT DATA { ex:a A ex:C }", Err(Refusal::Syntax)),
+    ("insert data { } ;", Ok(1)),
+    (";", Err(Refusal::Syntax)),
+    (
+        "INSERT { ?x ex:p 1 } WHERE { _:b ex:p ?x }",
+        Err(Refusal::Syntax),
+    ),
+    ("", Ok(0)),
+    (" # nothing", Ok(0)),
+    (
+        "insert data { } ; PREFIX : <a:> insert data { :a :b :, <b:c> ; ; . }",
+        Ok(2),
+    ),
+    ("insert data { } ; ;", Err(Refusal::Syntax)),
+    ("insert data { . }", Err(Refusal::Syntax)),
+    ("INSERT DATA { <b> <a:b> <a:b> }", Err(Refusal::Syntax)),
+    ("INSERT DATA { a:b:c <a:d> }", Err(Refusal::Prefix)),
+    (
+        "INSERT DATA { a:b a:b a:b } ; PREFIX a: <a:>",
+        Err(Refusal::Prefix),
+    ),
+    (
+        "PREFIX a: <a:> INSERT DATA { a:b a:b a:b } ; PREFIX a: <b:>",
+        Ok(1),
+    ),
+    ("PREFIX:<a:> INSERT DATA { }", Err(Refusal::Syntax)),
+    ("# c\rINSERT DATA { } # }", Ok(1)),
+    ("DELETE DATA { <a:b> <a:c> <a:d> }", Ok(1)),
+    ("DELETE { ?s ?p ?o } WHERE { ?s ?p ?o }", Ok(1)),
+    ("DELETE { ?s ?p ?o }", Err(Refusal::Syntax)),
+    ("DELETE WHERE { ?s ?p ?o }", Ok(1)),
+    ("INSERT { ?s ?p ?o } WHERE { }", Ok(1)),
+    (
+        "INSERT { ?s ?p ?o } WHERE { ?s ?p ?o , ?q ; ?p ?q . ?s ?p ?q }",
+        Ok(1),
+    ),
+    (
+        "INSERT { ?s ?p ?o } DELETE { ?s ?p ?o } WHERE { ?s ?p ?o }",
+        Err(Refusal::Syntax),
+    ),
+    (
+        "INSERT { ? <a:b> <a:c> } WHERE { ?s ?p ?o }",
+        Err(Refusal::Syntax),
+    ),
+    (
+        "INSERT DATA { ?s <a:b> <a:c> }",
+        Err(Refusal::VariableInData),
+    ),
+    (
+        "DELETE DATA { <a:b> <a:c> $o }",
+        Err(Refusal::VariableInData),
+    ),
+    ("INSERT DATA { GRAPH ?g { } }", Err(Refusal::VariableInData)),
+    (
+        "INSERT DATA { ?s <a:b> <a:c> } ; INSERT { x:y ?p ?o } WHERE { ?s ?p ?o }",
+        Err(Refusal::Prefix),
+    ),
+    ("DELETE DATA { _:x ?p ex:b }", Err(Refusal::VariableInData)),
+    ("DELETE DATA { _:x ex:p ex:b }", Err(Refusal::BlankInDelete)),
+    (
+        "DELETE { _:x ex:p ex:b } WHERE { ?s ?p ?o }",
+        Err(Refusal::BlankInDelete),
+    ),
+    (
+        "DELETE { GRAPH ex:g { ?s ex:p _:x } } WHERE { ?s ?p ?o }",
+        Err(Refusal::BlankInDelete),
+    ),
+    ("INSERT { _:x ex:p ex:b } WHERE { ?s ?p ?o }", Ok(1)),
+    (
+        "INSERT DATA { _:x ex:p 1 } ; INSERT { _:x ex:p 2 } WHERE { }",
+        Ok(2),
+    ),
+    (
+        "INSERT DATA { _:x ex:p 1 GRAPH ex:g { _:x ex:p 2 } }",
+        Ok(1),
+    ),
+    (
+        "INSERT DATA { _:x ex:p 1 } ; INSERT DATA { GRAPH ex:g { ex:a ex:p _:x } }",
+        Err(Refusal::LabelReused),
+    ),
+    (
+        "INSERT DATA { ex:a ex:p \"x\"^^<http://www.w3.org/1999/02/22-rdf-syntax-ns#langString> }",
+        Err(Refusal::Syntax),
+    ),
+    (
+        "PREFIX r: <http://www.w3.org/1999/02/22-rdf-syntax-ns#lang> INSERT DATA { nope:a ex:p \"x\"^^r:String }",
+        Err(Refusal::Syntax),
+    ),
+    (
+        "INSERT DATA { ex:a ex:p \"x\"^^rdf:langString }",
+        Err(Refusal::Prefix),
+    ),
+    (
+        "INSERT { } WHERE { FILTER(\"x\"^^<http://www.w3.org/1999/02/22-rdf-syntax-ns#langString> = 1) }",
+        Err(Refusal::Syntax),
+    ),
+    (
+        "INSERT { } WHERE { ?s ?p ?o FILTER(nope:x = ?o) }",
+        Err(Refusal::Prefix),
+    ),
+    (
+        "INSERT DATA { ex:a ex:p \"x\"@EN, 'y'^^ex:t, true, FALSE, 01 }",
+        Ok(1),
+    ),
+    ("CREATE GRAPH ex:g", Ok(1)),
+    ("CREATE SILENT GRAPH nope:g", Err(Refusal::Prefix)),
+    ("CREATE ex:g", Err(Refusal::Syntax)),
+    (
+        "DROP ALL ; CLEAR DEFAULT ; DROP SILENT NAMED ; CLEAR GRAPH ex:g",
+        Ok(4),
+    ),
+    (
+        "COPY ex:g TO DEFAULT ; MOVE SILENT DEFAULT TO GRAPH ex:g ; ADD ex:g TO ex:h",
+        Ok(3),
+    ),
+    ("COPY DEFAULT DEFAULT", Err(Refusal::Syntax)),
+    (
+        "WITH ex:g DELETE { ?s ex:p ?o } INSERT { ?s ex:q ?o } WHERE { ?s ex:p ?o }",
+        Ok(1),
+    ),
+    (
+        "WITH ex:g DELETE WHERE { ?s ex:p ?o }",
+        Err(Refusal::Syntax),
+    ),
+    ("WITH ex:g INSERT DATA { }", Err(Refusal::Syntax)),
+    (
+        "INSERT { ?s ex:q 1 } USING ex:g WHERE { ?s ex:p 1 }",
+        Err(Refusal::Syntax),
+    ),
+    (
+        "INSERT { } WHERE { { ?s ex:p ?o } UNION { ?s ex:q ?o } UNION { } }",
+        Ok(1),
+    ),
+    (
+        "INSERT { } WHERE { ?s ex:p ?o OPTIONAL { ?s ex:q ?v FILTER(?o = 1) } }",
+        Ok(1),
+    ),
+    (
+        "INSERT { } WHERE { ?s ex:p ?o MINUS { ?x ex:q ?y } . GRAPH ?g { } }",
+        Ok(1),
+    ),
+    (
+        "INSERT { } WHERE { FILTER(BOUND(?x) && !isIRI(?x) || STRLEN(?x) * 2 + 1 - 3 >= 4) }",
+        Ok(1),
+    ),
+    (
+        "INSERT { } WHERE { FILTER sameTerm(?x, ?y) FILTER(?o<2||?s>1) }",
+        Ok(1),
+    ),
+    (
+        "INSERT { } WHERE { FILTER(?o<2&&?s>1) }",
+        Err(Refusal::Syntax),
+    ),
+    ("INSERT { } WHERE { FILTER(?o < 2 && ?s > 1) }", Ok(1)),
+    (
+        "INSERT { } WHERE { FILTER(?a = ?b = ?c) }",
+        Err(Refusal::Syntax),
+    ),
+    ("INSERT { } WHERE { FILTER(!!?a) }", Err(Refusal::Syntax)),
+    ("INSERT { } WHERE { FILTER ?a }", Err(Refusal::Syntax)),
+    ("INSERT { } WHERE { FILTER(-1) }", Err(Refusal::Syntax)),
+    ("INSERT { } WHERE { FILTER(?x -1) }", Ok(1)),
+    ("INSERT { } WHERE { . }", Err(Refusal::Syntax)),
+    ("INSERT { } WHERE { { } . ?s ?p ?o }", Ok(1)),
+    (
+        "INSERT { } WHERE { { } . . ?s ?p ?o }",
+        Err(Refusal::Syntax),
+    ),
+    ("INSERT { } WHERE { SELECT * { } }", Err(Refusal::Syntax)),
+];
+
+/// How many operations the only request of a block has, or why it is refused.
+fn answer(alloc: Global, text: &str) -> Result<Option<Result<usize, Refusal>>, BlockFault> {
+    let block = split(alloc, text.as_bytes())?;
+    Ok(match block.as_slice() {
+        [Ok(operations)] => Some(Ok(operations.len())),
+        [Err(refusal)] => Some(Err(*refusal)),
+        _ => None,
+    })
+}
+
+#[test]
+fn texts(rt: HostRuntime) -> Result<(), BlockFault> {
+    for (text, want) in TEXTS {
+        let whole = format!(in rt.alloc(); "PREFIX ex: <http://e/> {text}")?;
+        assert!(rt; answer(rt.alloc(), whole.as_str())? == Some(want), "{text}");
+    }
+    Ok(())
+}
+
+/// Two parts, how often each stands in turn, what follows, and the answer.
+const LIMITS: [(&str, &str, usize, &str, Result<usize, Refusal>); 7] = [
+    ("{", "}", 64, "", Ok(1)),
+    ("{", "}", 65, "", Err(Refusal::Syntax)),
+    ("INSERT DATA { } ;", "", 256, "", Ok(256)),
+    ("INSERT DATA { } ;", "", 257, "", Err(Refusal::Limit)),
+    (" ", "", 1 << 20, "", Ok(0)),
+    (" ", "", 1 << 20, " ", Err(Refusal::Limit)),
+    (" ", "", 1 << 20, " ;", Err(Refusal::Syntax)),
+];
+
+/// A part so many times.
+fn add(text: &mut String, part: &str, count: usize) -> Result<(), AllocError> {
+    for _ in 0..count {
+        text.push_str(part)?;
+    }
+    Ok(())
+}
+
+#[test]
+fn limits(rt: HostRuntime) -> Result<(), BlockFault> {
+    for (open, close, count, end, want) in LIMITS {
+        let front = if close.is_empty() {
+            ""
+        } else {
+            "INSERT { } WHERE "
+        };
+        let mut text = String::from_str(rt.alloc(), front)?;
+        add(&mut text, open, count)?;
+        add(&mut text, close, count)?;
+        add(&mut text, end, 1)?;
+        assert!(rt;
+            answer(rt.alloc(), text.as_str())? == Some(want),
+            "{count} of {open:?}"
+        );
+    }
+    Ok(())
+}
+
+/// Blocks, and how many requests each has.
+const BLOCKS: [(&str, usize); 6] = [
+    ("", 0),
+    ("\n", 1),
+    ("----\n", 2),
+    ("----", 1),
+    ("----\r\n ----\n", 1),
+    ("a\n----\n----\nb", 3),
+];
+
+#[test]
+fn blocks(rt: HostRuntime) -> Result<(), BlockFault> {
+    for (block, want) in BLOCKS {
+        let requests = split(rt.alloc(), block.as_bytes())?;
+        let verdicts = verdicts(rt.alloc(), block.as_bytes())?;
+        assert!(rt;
+            requests.len() == want && verdicts.len() == want,
+            "{block:?}"
+        );
+    }
+    let no_text = (split(rt.alloc(), &[255]), verdicts(rt.alloc(), &[255]));
+    assert!(rt;
+        matches!(
+            no_text,
+            (Err(BlockFault::BadUtf8), Err(BlockFault::BadUtf8))
+        )
+    );
+    Ok(())
+}
+
+#[test]
+fn terms_of_blocks(rt: HostRuntime) -> Result<(), BlockFault> {
+    let block = split(
+        rt.alloc(),
+        b"PREFIX e: <http://e/> INSERT DATA { e:b a <a:c> }\n----\nINSERT DATA { ",
+    )?;
+    let terms = block.terms(rt.alloc())?;
+    assert!(rt;
+        matches!(terms.as_slice(), [Term::Iri(subject), Term::Iri(predicate), _]
+            if subject.as_str() == "http://e/b" && predicate.as_str() == RDF_TYPE)
+    );
+    Ok(())
+}
+
+/// Operations on whole graphs, and how many terms each has.
+const GRAPHS_NAMED: [(&str, usize); 8] = [
+    ("CREATE GRAPH <a:g>", 1),
+    ("DROP SILENT GRAPH <a:g>", 1),
+    ("DROP ALL", 0),
+    ("CLEAR GRAPH <a:g>", 1),
+    ("CLEAR DEFAULT ; CLEAR NAMED", 0),
+    ("COPY <a:g> TO <a:h>", 2),
+    ("MOVE DEFAULT TO <a:g>", 1),
+    ("ADD <a:g> TO DEFAULT", 1),
+];
+
+#[test]
+fn names_of_graphs(rt: HostRuntime) -> Result<(), BlockFault> {
+    for (text, want) in GRAPHS_NAMED {
+        let block = split(rt.alloc(), text.as_bytes())?;
+        assert!(rt; block.terms(rt.alloc())?.len() == want, "{text}");
+    }
+    Ok(())
+}
+
+fn is_variable(slot: &Slot<Term>, number: u32) -> bool {
+    matches!(slot, Slot::Variable(found) if *found == number)
+}
+
+fn is_label(slot: &Slot<Term>, number: u32) -> bool {
+    matches!(slot, Slot::Label(found) if *found == number)
+}
+
+const NUMBERED: &str =
+    "DELETE { ?b <a:p> ?a } INSERT { $a a ?c . _:y a _:x . _:x a _:y } WHERE { $b <a:p> ?a }";
+
+// Variables are numbered by their first place in the WHERE, then in the templates, and labels by theirs in the templates.
+fn is_numbered(modify: &Modify<Term>) -> bool {
+    let delete = matches!(modify.delete.as_slice(), [quad]
+        if is_variable(&quad.subject, 1) && is_variable(&quad.object, 0));
+    let insert = matches!(modify.insert.as_slice(), [first, second, third]
+        if is_variable(&first.subject, 0) && is_variable(&first.object, 2)
+            && is_label(&second.subject, 0) && is_label(&second.object, 1)
+            && is_label(&third.subject, 1) && is_label(&third.object, 0));
+    modify.width == 2 && modify.active.is_none() && delete && insert
+}
+
+const OPTIONAL: &str =
+    "INSERT { } WHERE { ?s <a:p> ?o OPTIONAL { ?s <a:q> ?v FILTER(?o = 1) } FILTER BOUND(?v) }";
+
+fn is_optional(modify: &Modify<Term>) -> bool {
+    let is_group = match modify.pattern.plan() {
+        Plan::Group(parts, filters) => {
+            matches!(filters.as_slice(), [Expression::Bound(2)])
+                && matches!(parts.as_slice(), [(Link::Join, Plan::Basic(_)), (Link::LeftJoin(condition), _)]
+                    if condition.len() == 1)
+        }
+        _ => false,
+    };
+    modify.width == 3 && is_group
+}
+
+const IN_GRAPH: &str = "DELETE WHERE { ?s <a:p> ?o GRAPH ?g { } }";
+
+// Behind a GRAPH block more of the default graph may stand, here nothing.
+fn is_in_graph(modify: &Modify<Term>) -> bool {
+    let is_group = match modify.pattern.plan() {
+        Plan::Group(parts, filters) => {
+            filters.is_empty()
+                && matches!(parts.as_slice(), [_, (_, Plan::InGraph(Place::Variable(0), _)), (_, Plan::Basic(triples))]
+                    if triples.is_empty())
+        }
+        _ => false,
+    };
+    modify.width == 3 && modify.delete.len() == 1 && modify.insert.is_empty() && is_group
+}
+
+fn is_move(silent: bool, operation: &GraphOperation<Term>) -> bool {
+    silent
+        && matches!(
+            operation,
+            GraphOperation::Transfer {
+                from: None,
+                to: Some(Term::Iri(_)),
+                ..
+            }
+        )
+}
+
+/// What is looked for in the only operation of a text.
+#[derive(Clone, Copy)]
+enum Sought {
+    Numbers,
+    Optional,
+    InGraph,
+    Move,
+}
+
+/// Texts, and what the only operation of each has.
+const SOUGHT: [(&str, Sought); 4] = [
+    (NUMBERED, Sought::Numbers),
+    (OPTIONAL, Sought::Optional),
+    (IN_GRAPH, Sought::InGraph),
+    ("MOVE SILENT DEFAULT TO <a:g>", Sought::Move),
+];
+
+fn has(operation: &Operation<Term>, sought: Sought) -> bool {
+    match (operation, sought) {
+        (Operation::Modify(modify), Sought::Numbers) => is_numbered(modify),
+        (Operation::Modify(modify), Sought::Optional) => is_optional(modify),
+        (Operation::Modify(modify), Sought::InGraph) => is_in_graph(modify),
+        (Operation::Graphs { silent, operation }, Sought::Move) => is_move(*silent, operation),
+        _ => false,
+    }
+}
+
+fn is_found(alloc: Global, text: &str, sought: Sought) -> Result<bool, BlockFault> {
+    let block = split(alloc, text.as_bytes())?;
+    Ok(match block.as_slice() {
+        [Ok(operations)] => matches!(operations.as_slice(), [only] if has(only, sought)),
+        _ => false,
+    })
+}
+
+#[test]
+fn operations(rt: HostRuntime) -> Result<(), BlockFault> {
+    for (text, sought) in SOUGHT {
+        assert!(rt; is_found(rt.alloc(), text, sought)?, "{text}");
+    }
+    Ok(())
+}

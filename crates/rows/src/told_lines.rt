@@ -1,0 +1,115 @@
+//! Command lines and the jobs that they ask for, and the lines that are told of replies, verdicts and faults.
+use command_line::{
+    Fault, File, Job, LineFault, Message, read_job, replies_text, told, verdicts_text,
+};
+use meaning::{Cause, Refusal, Reply};
+use std::alloc::{AllocError, Global};
+use std::test::Fail;
+
+/// What the words come to: the exit status, and the job's fields one a word.
+fn tell(alloc: Global, line: &str) -> Result<String, Fail> {
+    let mut words = Vec::new(alloc);
+    for word in line.split(' ') {
+        words.push(String::from_str(alloc, word)?)?;
+    }
+    Ok(match read_job(alloc, words.as_slice()) {
+        Ok(
+            Job::Run {
+                base,
+                block,
+                out,
+                workers,
+            },
+        ) => format!(in alloc; "{base} {block} {out} {workers}")?,
+        Ok(Job::Serial { base, block, out }) => format!(in alloc; "serial {base} {block} {out}")?,
+        Ok(Job::Check { block }) => format!(in alloc; "check {block}")?,
+        Err(fault) => format!(in alloc; "{}", Fault::Line(fault).status())?,
+    })
+}
+
+/// Command lines, and what each comes to.
+const COMMANDS: [(&str, &str); 30] = [
+    ("x run a b c", "a b c 4"),
+    ("x run a b c --workers 64", "a b c 64"),
+    ("x run --workers=1 a b c", "a b c 1"),
+    ("x run a b c --workers 0", "2"),
+    ("x run a b c --workers 65", "2"),
+    ("x run a b c --workers x", "2"),
+    ("x run a b c --workers", "2"),
+    ("x run a b c --journal never", "2"),
+    ("x run a b c --shards 2", "2"),
+    ("x run a b c d", "2"),
+    ("x run a b", "2"),
+    ("x serial a b c", "serial a b c"),
+    ("x serial a b c --workers 1", "2"),
+    ("x serial a b", "2"),
+    ("x serial --help", "0"),
+    ("x check b", "check b"),
+    ("x check run", "check run"),
+    ("x check", "2"),
+    ("x check a b", "2"),
+    ("x check b --workers 1", "2"),
+    ("x check --workers 1", "2"),
+    ("x check b --journal never", "2"),
+    ("x run check b", "2"),
+    ("x walk a b c", "2"),
+    ("x checks b", "2"),
+    ("x help", "2"),
+    ("x", "2"),
+    ("x --help", "0"),
+    ("x run --help", "0"),
+    ("x check --help", "0"),
+];
+
+#[test]
+fn command_lines(rt: HostRuntime) -> Result<(), Fail> {
+    for (line, want) in COMMANDS {
+        assert!(rt; tell(rt.alloc(), line)?.as_str() == want, "{line}");
+    }
+    Ok(())
+}
+
+const DONE: Reply = Reply::Done {
+    added: 12,
+    removed: 3,
+};
+
+const FAILED: Reply = Reply::Failed {
+    operation: 2,
+    cause: Cause::GraphExists,
+};
+
+#[test]
+fn lines_of_replies(rt: HostRuntime) -> Result<(), Fail> {
+    let replies = [DONE, FAILED, Reply::Refused(Refusal::VariableInData)];
+    let text = replies_text(rt.alloc(), replies.as_slice())?;
+    assert!(rt;
+        text.as_str() == "0 ok +12 -3\n1 failed 2 graph-exists\n2 refused variable-in-data\n"
+    );
+    Ok(())
+}
+
+#[test]
+fn lines_of_verdicts(rt: HostRuntime) -> Result<(), Fail> {
+    let verdicts = [None, Some(Refusal::Limit)];
+    let text = verdicts_text(rt.alloc(), verdicts.as_slice())?;
+    assert!(rt; text.as_str() == "0 accepted\n1 refused limit\n");
+    Ok(())
+}
+
+fn is_told(alloc: Global, fault: &Fault, status: u8, line: &str) -> Result<bool, AllocError> {
+    let (found, text) = told(alloc, fault)?;
+    Ok(found == status && text.as_str() == line)
+}
+
+#[test]
+fn lines_of_faults(rt: HostRuntime) -> Result<(), Fail> {
+    let alloc = rt.alloc();
+    assert!(rt; is_told(alloc, &Fault::BadLine(17), 3, "base: bad line 17")?);
+    let no_block = Fault::CannotRead(File::Block);
+    assert!(rt; is_told(alloc, &no_block, 6, "file: cannot read block")?);
+    let message = Message::new(String::from_str(alloc, "no such command")?);
+    let wrong = Fault::Line(LineFault::Wrong(message));
+    assert!(rt; is_told(alloc, &wrong, 2, "no such command")?);
+    Ok(())
+}

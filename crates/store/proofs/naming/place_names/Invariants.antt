@@ -1,7 +1,0 @@
-use Rattle.std.proofs.Common.{take}
-use Rattle.terms.specs.Placed.{GoesOn}
-use Rattle.store.specs.Tables.{ArePlaces, NamesStandFor}
-use Rattle.store.proofs.naming.place_names.Given as goal
-
-abbrev pub invariant-loop-name : goal.invariant-loop-name
-invariant-loop-name l = ArePlaces l.dict l.table l.places × GoesOn l.fn.table l.table × NamesStandFor l.dict l.table l.list.items (take l.name-index l.names)

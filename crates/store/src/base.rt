@@ -1,0 +1,110 @@
+//! The base of a block.
+ghost use Rattle.std.specs.Prelude.{◌≡◌, ◌++◌, true, IfOk};
+ghost use Rattle.std.specs.List.{list_all};
+ghost use Rattle.reads.specs.Reads.{IsDataset};
+ghost use Rattle.store.specs.Base.{IsBaseOf};
+ghost use Rattle.store.specs.Held.{is_held};
+
+use crate::numbers::{name_numbers, number_terms, quad_numbers};
+use datasets::{Id, Read};
+use dict::Dict;
+use dict::laws::is_renaming;
+use nquads::tag;
+use reads::{Answered, Source, Stop, View};
+use std::alloc::{AllocError, Global};
+use std::marker::Model;
+use terms::{DataSet, Term};
+
+/// A base: the dictionary of its terms and of others, its dataset at their numbers, and the tag that made nodes are written with.
+#[derive(Drop)]
+pub struct Base {
+    alloc: Global,
+    terms: Dict,
+    dataset: View,
+    tag: u32,
+}
+
+impl Model for Base {
+    ghost use Rattle.store.specs.Base.{Base as Viewed};
+
+    ghost Value = { Viewed };
+
+    ghost view = { λ b. record { terms = b.terms; dataset = b.dataset; tag = b.tag } };
+
+    ghost use Rattle.reads.specs.Reads.{IsDataset};
+
+    ghost invariant = { λ b. IsDataset b.dataset };
+}
+
+// These terms and then those.
+fn collected(alloc: Global, mut found: Vec<Term>, terms: &[Term]) -> Result<Vec<Term>, AllocError>
+    ensures { IfOk result (λ all. all.items ≡ found.items ++ terms.now) }
+{
+    found.reserve(terms.len())?;
+    for term in terms {
+        found.push(term.copied(alloc)?)?;
+    }
+    Ok(found)
+}
+
+impl Base {
+    /// The base of a dataset, with the dictionary of its terms and of more. Each term is looked up once. An error comes only where memory
+    /// runs out.
+    pub fn new(alloc: Global, dataset: &DataSet, more: Vec<Term>) -> Result<Base, AllocError>
+        ensures base { IfOk result (λ base. IsBaseOf dataset.now base) }
+        ensures held { IfOk result (λ base. list_all (is_held base.terms) more.items ≡ true) }
+    {
+        is_renaming();
+        let tag = tag(alloc, dataset)?;
+        let parts = dataset.parts();
+        let terms = Dict::freeze(collected(alloc, more, parts.terms)?);
+        let ids = number_terms(alloc, &terms, parts.terms)?;
+        let quads = quad_numbers(alloc, ids.as_slice(), parts.quads)?;
+        let names = name_numbers(alloc, ids.as_slice(), parts.names)?;
+        Ok(Base {
+            alloc,
+            terms,
+            dataset: View::from_parts(quads, names),
+            tag,
+        })
+    }
+
+    /// Its dictionary.
+    pub fn terms(&self) -> &Dict
+        ensures { result.now ≡ self.now.terms }
+    {
+        &self.terms
+    }
+
+    /// Its dataset.
+    pub fn dataset(&self) -> &View
+        ensures value { result.now ≡ self.now.dataset }
+        ensures dataset { IsDataset result.now }
+    {
+        &self.dataset
+    }
+
+    /// Its tag.
+    pub fn tag(&self) -> u32
+        ensures { result ≡ self.now.tag }
+    {
+        self.tag
+    }
+}
+
+/// It answers what a read says of its dataset. It waits for nobody, and stops for want of memory alone.
+impl<'a> Source for &'a Base {
+    ghost use Rattle.std.specs.Prelude.{◌≡◌};
+    ghost use Rattle.reads.specs.Reads.{View as Dataset, says};
+
+    ghost may = { λ base read answer. answer ≡ says read base.now.dataset };
+
+    ghost Subject = { Dataset };
+
+    ghost subject = { λ base. base.now.dataset };
+
+    fn ask(&mut self, read: &Read<Id>) -> Result<Answered, Stop> {
+        let base: &Base = self;
+        Ok(base.dataset.answer(base.alloc, read)?)
+    }
+}

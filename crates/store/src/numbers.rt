@@ -1,0 +1,92 @@
+//! Terms, quads and names at numbers.
+ghost use Rattle.std.specs.Prelude.{◌≡◌, true, map, IfOk};
+ghost use Rattle.std.specs.List.{list_all};
+ghost use Rattle.std.specs.Option.{option_map};
+ghost use Rattle.terms.specs.Placed.{is_within, is_name_within, is_quad_within};
+ghost use Rattle.dict.specs.Dictionary.{term_of, is_known};
+ghost use Rattle.store.specs.Held.{is_held};
+ghost use Rattle.store.specs.Tables.{number_at, numbers_at};
+
+use datasets::Quad;
+use dict::{Dict, Id};
+use std::alloc::{AllocError, Global};
+use terms::Term;
+
+/// The number of a term that the dictionary holds.
+pub fn number_term(dict: &Dict, term: &Term) -> Id
+    requires { is_held dict.now term.now ≡ true }
+    ensures renamed { term_of dict.now result ≡ term.now }
+    ensures known { is_known dict.now result ≡ true }
+{
+    match dict.id_of(term) {
+        Some(id) => id,
+        None => unreachable!(),
+    }
+}
+
+pub(crate) fn number_terms(
+    alloc: Global,
+    dict: &Dict,
+    terms: &[Term],
+) -> Result<Vec<Id>, AllocError>
+    requires { list_all (is_held dict.now) terms.now ≡ true }
+    ensures renamed { IfOk result (λ list. map (term_of dict.now) list.items ≡ terms.now) }
+    ensures known { IfOk result (λ list. list_all (is_known dict.now) list.items ≡ true) }
+{
+    let mut list = Vec::new(alloc);
+    for term in terms {
+        list.push(number_term(dict, term))?;
+    }
+    Ok(list)
+}
+
+fn name_number(ids: &[Id], name: Option<u32>) -> Option<Id>
+    requires { is_name_within ids.now name ≡ true }
+    ensures { result ≡ option_map (number_at ids.now) name }
+{
+    match name {
+        Some(place) => Some(ids[place as usize]),
+        None => None,
+    }
+}
+
+fn quad_number(ids: &[Id], quad: &Quad<u32>) -> Quad<Id>
+    requires { is_quad_within ids.now quad.now ≡ true }
+    ensures { result ≡ numbers_at ids.now quad.now }
+{
+    Quad {
+        subject: ids[quad.subject as usize],
+        predicate: ids[quad.predicate as usize],
+        object: ids[quad.object as usize],
+        graph: name_number(ids, quad.graph),
+    }
+}
+
+/// Quads by places, at the numbers that stand there.
+pub(crate) fn quad_numbers(
+    alloc: Global,
+    ids: &[Id],
+    quads: &[Quad<u32>],
+) -> Result<Vec<Quad<Id>>, AllocError>
+    requires { list_all (is_quad_within ids.now) quads.now ≡ true }
+    ensures { IfOk result (λ list. list.items ≡ map (numbers_at ids.now) quads.now) }
+{
+    let mut list = Vec::new(alloc);
+    list.reserve(quads.len())?;
+    for quad in quads {
+        list.push(quad_number(ids, quad))?;
+    }
+    Ok(list)
+}
+
+/// Names by places, at the numbers that stand there.
+pub(crate) fn name_numbers(alloc: Global, ids: &[Id], names: &[u32]) -> Result<Vec<Id>, AllocError>
+    requires { list_all (is_within ids.now) names.now ≡ true }
+    ensures { IfOk result (λ list. list.items ≡ map (number_at ids.now) names.now) }
+{
+    let mut list = Vec::new(alloc);
+    for place in names {
+        list.push(ids[*place as usize])?;
+    }
+    Ok(list)
+}

@@ -1,0 +1,54 @@
+use Rattle.std.proofs.Common.{◌≡◌, [], ◌∷◌, Ok, refl, sym, ap, subst, ◌∙◌}
+use Rattle.sets.specs.Sets.{set_of}
+use Rattle.datasets.specs.Id.{id_order}
+use Rattle.datasets.specs.Dataset.{quad_order}
+use Rattle.algebra.specs.declared.update.GraphOperation.TheVariants as graphs
+use Rattle.meaning.specs.Near.{is_near_graphs}
+use Rattle.reads.specs.Reads.{Delta, applied}
+use Rattle.update.specs.Asked.{IsWithin}
+use Rattle.update.proofs.GraphEffects.{rises_after, created_is, exists_is}
+use Rattle.update.proofs.GraphNearness.{names_near, parts_within}
+use Rattle.update.proofs.graphs.created.Goals as goal
+
+pub returns-in_err-exists-clause-goes : goal.returns-in_err-exists-clause-goes
+returns-in_err-exists-clause-goes g c = c.is_graph.ensures.goes (is_near_graphs id_order (graphs.Create c.args.name)) refl
+
+pub returns-then-exists-clause-goes : goal.returns-then-exists-clause-goes
+returns-then-exists-clause-goes g c = c.is_graph.ensures.goes (is_near_graphs id_order (graphs.Create c.args.name)) refl
+
+pub returns-then-exists-clause-effect : goal.returns-then-exists-clause-effect
+returns-then-exists-clause-effect g c d a = exists_is c.args.name (applied c.args.changes.now d) (sym (c.in_ok-exists.ensures.seen d a) ∙ c.if-exists.true)
+
+pub returns-in_err-there-clause-goes : goal.returns-in_err-there-clause-goes
+returns-in_err-there-clause-goes g c = c.is_graph.ensures.goes (is_near_graphs id_order (graphs.Create c.args.name)) refl
+
+pub returns-clause-goes : goal.returns-clause-goes
+returns-clause-goes g c = c.is_graph.ensures.goes (is_near_graphs id_order (graphs.Create c.args.name)) refl
+
+pub returns-clause-effect : goal.returns-clause-effect
+returns-clause-effect g c d a =
+    let D = applied c.args.changes.now d in
+    let Q = quad_order id_order in
+    let made = c.from_parts-own.ensures in
+    let own : c.from_parts-own.result ≡ record { present = []; absent = []; there = set_of id_order (c.args.name ∷ []); gone = [] } =
+    λ i. record {
+      present = (made.present ∙ ap (set_of Q) c.new.ensures.items) i;
+      absent = (made.absent ∙ ap (set_of Q) c.new-2.ensures.items) i;
+      there = (made.there ∙ ap (set_of id_order) c.in_ok-there.ensures) i;
+      gone = (made.gone ∙ ap (set_of id_order) c.new-3.ensures.items) i;
+    } in
+    ap (λ (z : Delta). Ok (applied z D)) own ∙ created_is c.args.name D (rises_after c.args.changes.now d) (sym (c.in_ok-exists.ensures.seen d a) ∙ c.if-exists.false)
+
+pub returns-clause-within : goal.returns-clause-within
+returns-clause-within g c =
+    let near = is_near_graphs id_order (graphs.Create c.args.name) in
+    let Q = quad_order id_order in
+    let made = c.from_parts-own.ensures in
+    let own : c.from_parts-own.result ≡ record { present = []; absent = []; there = set_of id_order c.in_ok-there.there.items; gone = [] } =
+    λ i. record {
+      present = (made.present ∙ ap (set_of Q) c.new.ensures.items) i;
+      absent = (made.absent ∙ ap (set_of Q) c.new-2.ensures.items) i;
+      there = made.there i;
+      gone = (made.gone ∙ ap (set_of id_order) c.new-3.ensures.items) i;
+    } in
+    subst (IsWithin near) (sym own) (parts_within near [] [] c.in_ok-there.there.items [] tt tt (names_near (graphs.Create c.args.name) c.in_ok-there.there.items) tt)

@@ -1,0 +1,56 @@
+use Rattle.std.proofs.Common.{◌≡◌, [], Ok, sym, ap, subst, ◌∙◌}
+use Rattle.sets.specs.Sets.{set_of}
+use Rattle.datasets.specs.Id.{id_order}
+use Rattle.datasets.specs.Dataset.{quad_order}
+use Rattle.meaning.specs.Near.{is_near_target}
+use Rattle.reads.specs.Reads.{Delta, applied}
+use Rattle.asking.proofs.Notes.{goes_on}
+use Rattle.update.specs.Asked.{IsWithin}
+use Rattle.update.specs.Graphs.{quads_of, names_of}
+use Rattle.update.proofs.GraphEffects.{rises_after, dropped_is, not_dropped}
+use Rattle.update.proofs.GraphNearness.{target_names_near, parts_within}
+use Rattle.update.proofs.graphs.dropped.Goals as goal
+
+pub returns-then-not-exists-clause-effect : goal.returns-then-not-exists-clause-effect
+returns-then-not-exists-clause-effect g c d a = not_dropped c.args.target.now (applied c.args.changes.now d) (sym (c.in_ok-exists.ensures.seen d a) ∙ c.if-not-exists.true)
+
+pub returns-in_err-quads-clause-goes : goal.returns-in_err-quads-clause-goes
+returns-in_err-quads-clause-goes g c = goes_on c.is_there.ensures.goes c.quads_of.ensures.goes
+
+pub returns-in_err-names-clause-goes : goal.returns-in_err-names-clause-goes
+returns-in_err-names-clause-goes g c = goes_on c.is_there.ensures.goes (goes_on c.quads_of.ensures.goes c.names_of.ensures.goes)
+
+pub returns-clause-goes : goal.returns-clause-goes
+returns-clause-goes g c = goes_on c.is_there.ensures.goes (goes_on c.quads_of.ensures.goes c.names_of.ensures.goes)
+
+pub returns-clause-effect : goal.returns-clause-effect
+returns-clause-effect g c d a =
+    let t = c.args.target.now in
+    let D = applied c.args.changes.now d in
+    let Q = quad_order id_order in
+    let made = c.from_parts-own.ensures in
+    let second = c.names_of.ensures.goes.agrees d a in
+    let own : c.from_parts-own.result ≡ record { present = []; absent = set_of Q (quads_of t D.quads); there = []; gone = set_of id_order (names_of t D.names) } =
+    λ i. record {
+      present = (made.present ∙ ap (set_of Q) c.new.ensures.items) i;
+      absent = (made.absent ∙ ap (set_of Q) (c.in_ok-quads.ensures.seen d second)) i;
+      there = (made.there ∙ ap (set_of id_order) c.new-2.ensures.items) i;
+      gone = (made.gone ∙ ap (set_of id_order) (c.in_ok-names.ensures.seen d a)) i;
+    } in
+    ap (λ (z : Delta). Ok (applied z D)) own
+    ∙ dropped_is t D (rises_after c.args.changes.now d) (sym (c.in_ok-exists.ensures.seen d (c.quads_of.ensures.goes.agrees d second)) ∙ c.if-not-exists.false)
+
+pub returns-clause-within : goal.returns-clause-within
+returns-clause-within g c =
+    let near = is_near_target id_order c.args.target.now in
+    let Q = quad_order id_order in
+    let made = c.from_parts-own.ensures in
+    let own : c.from_parts-own.result ≡ record { present = []; absent = set_of Q c.in_ok-quads.quads.items; there = []; gone = set_of id_order c.in_ok-names.names.items } =
+    λ i. record {
+      present = (made.present ∙ ap (set_of Q) c.new.ensures.items) i;
+      absent = made.absent i;
+      there = (made.there ∙ ap (set_of id_order) c.new-2.ensures.items) i;
+      gone = made.gone i;
+    } in
+    subst (IsWithin near) (sym own)
+    (parts_within near [] c.in_ok-quads.quads.items [] c.in_ok-names.names.items tt c.in_ok-quads.ensures.within tt (target_names_near c.args.target.now c.in_ok-names.names.items))

@@ -1,0 +1,137 @@
+use Rattle.std.proofs.Common.{◌≡◌, Ok, map, sym, ap, subst, ◌∙◌}
+use Rattle.sets.specs.Sets.{set_of}
+use Rattle.datasets.specs.Id.{id_order}
+use Rattle.datasets.specs.Dataset.{quad_order, quads_in}
+use Rattle.algebra.specs.declared.update.GraphOperation.TheVariants as graphs
+use Rattle.meaning.specs.GraphOperations.{in_graph}
+use Rattle.meaning.specs.Near.{is_near_graphs, is_near_target}
+use Rattle.reads.specs.Reads.{Delta, Read, applied}
+use Rattle.asking.proofs.Notes.{goes_on, goes_within}
+use Rattle.update.specs.Asked.{AskedQuads, IsWithin}
+use Rattle.update.specs.Graphs.{quads_of, leaving, is_target_there}
+use Rattle.update.proofs.GraphEffects.{rises_after, nothing_happens, same_is, not_transferred, transferred_is, transfer_change, quads_of_one}
+use Rattle.update.proofs.GraphNearness.{first_near, second_near, names_near, put_near, asked_more, parts_within, nothing_within}
+use Rattle.update.proofs.graphs.transferred.Goals as goal
+
+pub returns-then-is_same_graph-clause-effect : goal.returns-then-is_same_graph-clause-effect
+returns-then-is_same_graph-clause-effect g c d a =
+    let D = applied c.args.changes.now d in
+    ap (λ (z : Delta). Ok (applied z D)) c.new.ensures ∙ ap Ok (nothing_happens D (rises_after c.args.changes.now d))
+    ∙ same_is c.args.how c.args.from c.args.to D (sym c.is_same_graph.ensures ∙ c.if-is_same_graph.true)
+
+pub returns-then-is_same_graph-clause-within : goal.returns-then-is_same_graph-clause-within
+returns-then-is_same_graph-clause-within g c =
+    let near = is_near_graphs id_order (graphs.Transfer c.args.how c.args.from c.args.to) in
+    subst (IsWithin near) (sym c.new.ensures) (nothing_within near)
+
+pub returns-in_err-exists-clause-goes : goal.returns-in_err-exists-clause-goes
+returns-in_err-exists-clause-goes g c =
+    let how = c.args.how in
+    let from = c.args.from in
+    let to = c.args.to in
+    goes_within (λ r e. first_near how from to r (ap (λ t. is_near_target id_order t r) (sym c.target_of-first.ensures) ∙ e)) c.is_there.ensures.goes
+
+pub returns-then-not-exists-clause-goes : goal.returns-then-not-exists-clause-goes
+returns-then-not-exists-clause-goes g c =
+    let how = c.args.how in
+    let from = c.args.from in
+    let to = c.args.to in
+    goes_within (λ r e. first_near how from to r (ap (λ t. is_near_target id_order t r) (sym c.target_of-first.ensures) ∙ e)) c.is_there.ensures.goes
+
+pub returns-then-not-exists-clause-effect : goal.returns-then-not-exists-clause-effect
+returns-then-not-exists-clause-effect g c d a =
+    let D = applied c.args.changes.now d in
+    not_transferred c.args.how c.args.from c.args.to D (sym c.is_same_graph.ensures ∙ c.if-is_same_graph.false)
+    (ap (is_target_there D) (sym c.target_of-first.ensures) ∙ sym (c.in_ok-exists.ensures.seen d a) ∙ c.if-not-exists.true)
+
+pub returns-in_err-found-clause-goes : goal.returns-in_err-found-clause-goes
+returns-in_err-found-clause-goes g c =
+    let how = c.args.how in
+    let from = c.args.from in
+    let to = c.args.to in
+    goes_on (goes_within (λ r e. first_near how from to r (ap (λ t. is_near_target id_order t r) (sym c.target_of-first.ensures) ∙ e)) c.is_there.ensures.goes)
+    (goes_within (λ r e. first_near how from to r (ap (λ t. is_near_target id_order t r) (sym c.target_of-first.ensures) ∙ e)) c.quads_of.ensures.goes)
+
+pub returns-in_err-come-clause-goes : goal.returns-in_err-come-clause-goes
+returns-in_err-come-clause-goes g c =
+    let how = c.args.how in
+    let from = c.args.from in
+    let to = c.args.to in
+    goes_on (goes_within (λ r e. first_near how from to r (ap (λ t. is_near_target id_order t r) (sym c.target_of-first.ensures) ∙ e)) c.is_there.ensures.goes)
+    (goes_within (λ r e. first_near how from to r (ap (λ t. is_near_target id_order t r) (sym c.target_of-first.ensures) ∙ e)) c.quads_of.ensures.goes)
+
+pub returns-in_err-gone-clause-goes : goal.returns-in_err-gone-clause-goes
+returns-in_err-gone-clause-goes g c =
+    let how = c.args.how in
+    let from = c.args.from in
+    let to = c.args.to in
+    goes_on (goes_within (λ r e. first_near how from to r (ap (λ t. is_near_target id_order t r) (sym c.target_of-first.ensures) ∙ e)) c.is_there.ensures.goes)
+    (goes_on (goes_within (λ r e. first_near how from to r (ap (λ t. is_near_target id_order t r) (sym c.target_of-first.ensures) ∙ e)) c.quads_of.ensures.goes)
+    (goes_within (λ r e. second_near how from to r (ap (λ t. is_near_target id_order t r) (sym c.target_of-second.ensures) ∙ e)) c.leaving.ensures.goes))
+
+pub returns-in_err-there-clause-goes : goal.returns-in_err-there-clause-goes
+returns-in_err-there-clause-goes g c =
+    let how = c.args.how in
+    let from = c.args.from in
+    let to = c.args.to in
+    goes_on (goes_within (λ r e. first_near how from to r (ap (λ t. is_near_target id_order t r) (sym c.target_of-first.ensures) ∙ e)) c.is_there.ensures.goes)
+    (goes_on (goes_within (λ r e. first_near how from to r (ap (λ t. is_near_target id_order t r) (sym c.target_of-first.ensures) ∙ e)) c.quads_of.ensures.goes)
+    (goes_within (λ r e. second_near how from to r (ap (λ t. is_near_target id_order t r) (sym c.target_of-second.ensures) ∙ e)) c.leaving.ensures.goes))
+
+pub returns-in_err-names-clause-goes : goal.returns-in_err-names-clause-goes
+returns-in_err-names-clause-goes g c =
+    let how = c.args.how in
+    let from = c.args.from in
+    let to = c.args.to in
+    goes_on (goes_within (λ r e. first_near how from to r (ap (λ t. is_near_target id_order t r) (sym c.target_of-first.ensures) ∙ e)) c.is_there.ensures.goes)
+    (goes_on (goes_within (λ r e. first_near how from to r (ap (λ t. is_near_target id_order t r) (sym c.target_of-first.ensures) ∙ e)) c.quads_of.ensures.goes)
+    (goes_within (λ r e. second_near how from to r (ap (λ t. is_near_target id_order t r) (sym c.target_of-second.ensures) ∙ e)) c.leaving.ensures.goes))
+
+pub returns-clause-goes : goal.returns-clause-goes
+returns-clause-goes g c =
+    let how = c.args.how in
+    let from = c.args.from in
+    let to = c.args.to in
+    goes_on (goes_within (λ r e. first_near how from to r (ap (λ t. is_near_target id_order t r) (sym c.target_of-first.ensures) ∙ e)) c.is_there.ensures.goes)
+    (goes_on (goes_within (λ r e. first_near how from to r (ap (λ t. is_near_target id_order t r) (sym c.target_of-first.ensures) ∙ e)) c.quads_of.ensures.goes)
+    (goes_within (λ r e. second_near how from to r (ap (λ t. is_near_target id_order t r) (sym c.target_of-second.ensures) ∙ e)) c.leaving.ensures.goes))
+
+pub returns-clause-effect : goal.returns-clause-effect
+returns-clause-effect g c d a =
+    let how = c.args.how in
+    let from = c.args.from in
+    let to = c.args.to in
+    let D = applied c.args.changes.now d in
+    let Q = quad_order id_order in
+    let made = c.from_parts-own.ensures in
+    let second = c.leaving.ensures.goes.agrees d a in
+    let found = c.in_ok-found.ensures.seen d second ∙ ap (λ t. quads_of t D.quads) c.target_of-first.ensures ∙ quads_of_one from D.quads in
+    let others = ap (λ t. quads_of t D.quads) c.target_of-second.ensures ∙ quads_of_one to D.quads in
+    let come = c.in_ok-come.ensures ∙ ap (map (in_graph id_order to)) (c.deref.ensures.value ∙ found) in
+    let gone = c.in_ok-gone.ensures.seen d a ∙ (λ i. leaving how (found i) (others i)) in
+    let own : c.from_parts-own.result ≡ transfer_change how from to D =
+    λ i. record {
+      present = (made.present ∙ ap (set_of Q) come) i;
+      absent = (made.absent ∙ ap (set_of Q) gone) i;
+      there = (made.there ∙ ap (set_of id_order) c.in_ok-there.ensures) i;
+      gone = (made.gone ∙ ap (set_of id_order) c.in_ok-names.ensures) i;
+    } in
+    ap (λ (z : Delta). Ok (applied z D)) own
+    ∙ transferred_is how from to D (rises_after c.args.changes.now d) (sym c.is_same_graph.ensures ∙ c.if-is_same_graph.false)
+    (ap (is_target_there D) (sym c.target_of-first.ensures) ∙ sym (c.in_ok-exists.ensures.seen d (c.quads_of.ensures.goes.agrees d second)) ∙ c.if-not-exists.false)
+
+pub returns-clause-within : goal.returns-clause-within
+returns-clause-within g c =
+    let how = c.args.how in
+    let from = c.args.from in
+    let to = c.args.to in
+    let op = graphs.Transfer how from to in
+    let near = is_near_graphs id_order op in
+    let made = c.from_parts-own.ensures in
+    let own : c.from_parts-own.result ≡ record { present = set_of (quad_order id_order) c.in_ok-come.come.items; absent = set_of (quad_order id_order) c.in_ok-gone.gone.items; there = set_of id_order c.in_ok-there.there.items; gone = set_of id_order c.in_ok-names.names.items } =
+    λ i. record { present = made.present i; absent = made.absent i; there = made.there i; gone = made.gone i } in
+    let come = subst (AskedQuads near) (sym c.in_ok-come.ensures) (put_near how from to c.deref.result.now) in
+    let found = asked_more (is_near_target id_order c.target_of-first.result) near (λ r e. first_near how from to r (ap (λ t. is_near_target id_order t r) (sym c.target_of-first.ensures) ∙ e)) c.in_ok-found.found.items c.in_ok-found.ensures.within in
+    let gone = c.in_ok-gone.ensures.within near (λ r e. second_near how from to r (ap (λ t. is_near_target id_order t r) (sym c.target_of-second.ensures) ∙ e)) found in
+    subst (IsWithin near) (sym own)
+    (parts_within near c.in_ok-come.come.items c.in_ok-gone.gone.items c.in_ok-there.there.items c.in_ok-names.names.items come gone (names_near op c.in_ok-there.there.items) (names_near op c.in_ok-names.names.items))

@@ -1,0 +1,28 @@
+use Rattle.std.proofs.Common.{sym, ap, ◌∙◌}
+use Rattle.std.proofs.lemmas.Result.{IfOk-weaker}
+use Rattle.datasets.specs.declared.read.Read.TheVariants.{Graphs}
+use Rattle.datasets.specs.Id.{id_order}
+use Rattle.meaning.specs.Near.{is_near_target}
+use Rattle.reads.specs.Reads.{applied}
+use Rattle.update.specs.Graphs.{names_of}
+use Rattle.update.proofs.targets.names_of.Goals as goal
+
+pub returns-in_ok-names-in-Graph-clause-seen : goal.returns-in_ok-names-in-Graph-clause-seen
+returns-in_ok-names-in-Graph-clause-seen g c d a = c.in_ok-names-in-Graph.ensures ∙ ap (λ t. names_of t (applied c.args.changes.now d).names) (sym c.in-Graph.is)
+
+pub returns-in-Default-clause-seen : goal.returns-in-Default-clause-seen
+returns-in-Default-clause-seen g c d a = c.new.ensures.items ∙ ap (λ t. names_of t (applied c.args.changes.now d).names) (sym c.in-Default.is)
+
+pub returns-in-Named-clause-goes : goal.returns-in-Named-clause-goes
+returns-in-Named-clause-goes g c = c.graphs.ensures.goes (is_near_target id_order c.args.target.now) (ap (λ t. is_near_target id_order t Graphs) c.in-Named.is)
+
+pub returns-in-Named-clause-seen : goal.returns-in-Named-clause-seen
+returns-in-Named-clause-seen g c =
+    IfOk-weaker c.graphs.result _ _ (λ names h d a. h d a ∙ ap (λ t. names_of t (applied c.args.changes.now d).names) (sym c.in-Named.is)) c.graphs.ensures.seen
+
+pub returns-in-All-clause-goes : goal.returns-in-All-clause-goes
+returns-in-All-clause-goes g c = c.graphs-in-All.ensures.goes (is_near_target id_order c.args.target.now) (ap (λ t. is_near_target id_order t Graphs) c.in-All.is)
+
+pub returns-in-All-clause-seen : goal.returns-in-All-clause-seen
+returns-in-All-clause-seen g c =
+    IfOk-weaker c.graphs-in-All.result _ _ (λ names h d a. h d a ∙ ap (λ t. names_of t (applied c.args.changes.now d).names) (sym c.in-All.is)) c.graphs-in-All.ensures.seen
