@@ -3,6 +3,7 @@ use mathlib.Core.List.{[], ◌∷◌}
 use denote.RattleType.{RattleType}
 use denote.Struct.Tuple.{Tuple}
 use Rattle.std.proofs.Crossing.{crosses, Box-sync, Vec-sync}
+use Rattle.std.proofs.MapsCrossing as maps
 use Rattle.std.specs.contracts.vec.Vec as Vec
 use Rattle.std.specs.contracts.alloc.Global as Global
 use Rattle.std.specs.contracts.impls.GlobalAllocator.TheImpl.{ghosts}
@@ -24,7 +25,6 @@ use Rattle.algebra.proofs.pattern.TriplePattern.TheSendSync as triple
 use Rattle.algebra.proofs.template.QuadTemplate.TheSendSync as template
 use Rattle.algebra.proofs.update.GraphOperation.TheSendSync as graphs
 use Rattle.algebra.proofs.plan.Plan.TheLaws.TheKnot.{sync-Plan}
-use Rattle.std.proofs.Crossing.{crosses}
 use Rattle.std.specs.contracts.result.Result as Result
 use Rattle.meaning.specs.contracts.reply.Refusal as Refusal
 use Rattle.meaning.proofs.reply.Refusal.TheSendSync as refusal
@@ -186,7 +186,7 @@ hints : IsSend (Hints.the_row)
 hints = let s = sorted_hints in search (sendable, crosses) depth 20
 
 spoken : IsSend (Spoken.the_field).row
-spoken = let h = hints in let i = id.the_send in search (sendable, crosses) depth 20
+spoken = let h = hints in let i = id.the_send in search (sendable, crosses, maps.crosses) depth 20
 
 machine : IsSend (Machine.the_row)
 machine = let s = slot in let p = spoken in search (sendable, crosses) depth 20
