@@ -1,6 +1,7 @@
 -- What a term feeds a hasher.
 use Rattle.std.specs.Prelude.{◌≡◌, true, ℕ, List, [], ◌∷◌, ◌++◌, IsTrue}
 use Rattle.std.proofs.Common.{ap}
+use Rattle.std.specs.Option.{option_to_list}
 use Rattle.std.specs.Hash as fed
 use Rattle.std.specs.Ordering.{eq_by_cmp}
 use Rattle.std.specs.Cmp.{Equal-is}
@@ -9,10 +10,9 @@ use Rattle.terms.specs.declared.term.Term.TheVariants.{Iri, Literal, Blank, Made
 use Rattle.terms.specs.Term.{term_order}
 use Rattle.terms.specs.TermLaws.{term_exact}
 
--- a literal's tag is left out: few literals differ by it alone
 abbrev pub hashed : Term → List (List ℕ)
 hashed (Iri i) = i ∷ []
-hashed (Literal l) = l.lexical ∷ l.datatype ∷ []
+hashed (Literal l) = l.lexical ∷ l.datatype ∷ option_to_list l.tag
 hashed (Blank b) = b ∷ []
 hashed (Made r o l s) = fed.u32 r ++ fed.u32 o ++ fed.u32 l ++ fed.u32 s
 

@@ -16,6 +16,9 @@ impl Hash for Term {
             Term::Literal(literal) => {
                 state.write(literal.lexical().as_bytes());
                 state.write(literal.datatype().as_str().as_bytes());
+                if let Some(tag) = literal.tag() {
+                    state.write(tag.as_bytes());
+                }
             }
             Term::Blank(blank) => state.write(blank.as_str().as_bytes()),
             Term::Made {
