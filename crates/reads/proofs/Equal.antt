@@ -3,7 +3,7 @@ use Rattle.std.proofs.Common.{◌≡◌, Bool, true, false, ◌&&◌, List, [], 
 use Rattle.std.proofs.lemmas.Bool.{and_parts, and_from}
 use Rattle.std.specs.Ordering.{eq_by_cmp, is_eq}
 use Rattle.std.specs.Cmp.{tied_itself}
-use Rattle.std.specs.Cmp.Lexicographic.{options_total}
+use Rattle.std.specs.Cmp.Lexicographic.{pointwise, options_total}
 use Rattle.sets.proofs.SetLaws.{exact_by}
 use Rattle.datasets.specs.declared.id.Id.{Id}
 use Rattle.datasets.specs.declared.quad.Quad.{Quad}
@@ -106,3 +106,10 @@ read_eq-same (Scan a) =
     and_from (same_graph id_order a.subject a.subject) (same_graph id_order a.predicate a.predicate && (same_graph id_order a.object a.object && graph_place_eq a.graph a.graph)) (place_same a.subject) p
 read_eq-same (GraphIs a) = name_same a
 read_eq-same Graphs = refl
+
+-- std's test for equal lists
+pub pointwise_is : {A : Type 0} (E F : A → A → Bool) → ((x y : A) → E x y ≡ F x y) → (xs ys : List A) → pointwise E xs ys ≡ list_eq F xs ys
+pointwise_is E F same [] [] = refl
+pointwise_is E F same [] (y ∷ ys) = refl
+pointwise_is E F same (x ∷ xs) [] = refl
+pointwise_is E F same (x ∷ xs) (y ∷ ys) = λ t. same x y t && pointwise_is E F same xs ys t

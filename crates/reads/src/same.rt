@@ -2,15 +2,15 @@
 ghost use Rattle.std.specs.Prelude.{◌≡◌, ◌↔◌, IsTrue};
 ghost use Rattle.std.specs.Ordering.{eq_by_cmp};
 ghost use Rattle.datasets.specs.Id.{id_order};
-ghost use Rattle.datasets.specs.Dataset.{quad_order, same_graph};
+ghost use Rattle.datasets.specs.Dataset.{same_graph};
 ghost use Rattle.reads.specs.Same.{list_eq, bool_eq, quads_eq, names_eq, graph_place_eq, pattern_eq, read_eq};
 
 use datasets::{GraphPlace, Id, Quad, QuadPattern, Read};
 
-fn same_quad(a: &Quad<Id>, b: &Quad<Id>) -> bool
-    ensures { result ≡ eq_by_cmp (quad_order id_order) a.now b.now }
+fn same_lists<T: Ord>(left: &[T], right: &[T]) -> bool
+    ensures { result ≡ list_eq (eq_by_cmp T.cmp) left.now right.now }
 {
-    a.cmp(b).is_eq()
+    left == right
 }
 
 fn same_name(a: &Id, b: &Id) -> bool
@@ -36,26 +36,14 @@ pub fn same_bool(a: bool, b: bool) -> bool
 pub fn same_quads(a: &[Quad<Id>], b: &[Quad<Id>]) -> bool
     ensures { result ≡ quads_eq a.now b.now }
 {
-    match a {
-        [] => b.is_empty(),
-        [x, xs @ ..] => match b {
-            [] => false,
-            [y, ys @ ..] => same_quad(x, y) && same_quads(xs, ys),
-        },
-    }
+    same_lists(a, b)
 }
 
 /// Whether two lists of names are the same.
 pub fn same_names(a: &[Id], b: &[Id]) -> bool
     ensures { result ≡ names_eq a.now b.now }
 {
-    match a {
-        [] => b.is_empty(),
-        [x, xs @ ..] => match b {
-            [] => false,
-            [y, ys @ ..] => same_name(x, y) && same_names(xs, ys),
-        },
-    }
+    same_lists(a, b)
 }
 
 fn same_graph_places(a: GraphPlace<Id>, b: GraphPlace<Id>) -> bool
