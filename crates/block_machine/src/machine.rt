@@ -418,13 +418,15 @@ fn has_transcript(slot: &Slot, finished: &Finished) -> bool
 fn is_transcript(notes: &[Noted], transcript: &[Note]) -> bool
     ensures { IsTrue result ↔ (transcript.now ≡ transcript_of notes.now) }
 {
-    match transcript {
-        [] => notes.is_empty(),
-        [entry, rest @ ..] => match notes {
-            [] => false,
-            [note, others @ ..] => { is_entry(note, entry) && is_transcript(others, rest) }
-        },
+    if notes.len() != transcript.len() {
+        return false;
     }
+    for at in 0..notes.len() {
+        if !is_entry(&notes[at], &transcript[at]) {
+            return false;
+        }
+    }
+    true
 }
 
 // Whether this is the noted read with its answer.

@@ -79,13 +79,15 @@ pub fn check_list(
 fn is_same_list(a: &[(usize, u64)], b: &[(usize, u64)]) -> bool
     ensures { IsTrue result ↔ (a.now ≡ b.now) }
 {
-    match a {
-        [] => b.is_empty(),
-        [x, xs @ ..] => match b {
-            [] => false,
-            [y, ys @ ..] => is_same_pair(x, y) && is_same_list(xs, ys),
-        },
+    if a.len() != b.len() {
+        return false;
     }
+    for at in 0..a.len() {
+        if !is_same_pair(&a[at], &b[at]) {
+            return false;
+        }
+    }
+    true
 }
 
 fn is_same_pair(x: &(usize, u64), y: &(usize, u64)) -> bool

@@ -1,5 +1,0 @@
-use Rattle.std.proofs.Common.{length}
-use Rattle.block_machine.proofs.validate.+is_same_list.Given as goal
-
-abbrev pub decreases-is_same_list : goal.decreases-is_same_list
-decreases-is_same_list l = length l.a.now
