@@ -4,6 +4,7 @@
 #![tactic(auto)]
 
 mod among;
+mod disjoint;
 mod filters;
 mod lookup;
 mod mapping;

@@ -8,6 +8,7 @@ ghost use Rattle.meaning.specs.Solutions.{passes_all, solutions_among as the_sol
 ghost use Rattle.sets.specs.Sets.{has, set_of as the_set_of};
 
 use crate::among::solutions_among;
+use crate::disjoint::share_some;
 use crate::filters::Filters;
 use crate::lookup::Lookup;
 use crate::mapping::Mapping;
@@ -160,6 +161,9 @@ impl Solutions {
     pub fn minus(self, alloc: Global, right: Solutions) -> Result<Solutions, AllocError>
         ensures { IfOk result (λ found. found ≡ operators.minus id_order self right) }
     {
+        if !share_some(&self.mappings, &right.mappings) {
+            return Ok(self);
+        }
         let right = Lookup::new(alloc, &self.mappings, right.mappings)?;
         let mappings = apart_from(alloc, self.mappings, &right)?;
         Ok(Solutions { mappings })
