@@ -1,8 +1,7 @@
 -- What a pattern matches begins as the pattern does, as far as its places are bound in an order.
 use Rattle.std.specs.List.{list_any}
-use Rattle.std.specs.Cmp.{IsTotalOrder, tied_itself}
+use Rattle.std.specs.Cmp.{tied_itself}
 use Rattle.std.specs.Cmp.Lexicographic.{options_total}
-use Rattle.sets.specs.Sets.{has}
 use Rattle.sets.proofs.SetLaws.{exact_by}
 use Rattle.std.specs.Prelude.{Bool, filter, ◌&&◌, ◌||◌, Option, Some, None}
 use Rattle.std.proofs.Common.{◌≡◌, true, false, cond, List, [], ◌∷◌, refl, sym, ap, ◌∙◌}
@@ -18,10 +17,9 @@ use Rattle.datasets.specs.declared.read.QuadPattern.{QuadPattern}
 use Rattle.datasets.specs.Dataset.{quad_order, matches, free_or, in_place}
 use Rattle.datasets.specs.Id.{id_order, id_total, id_exact, quad_total, quad_exact}
 use Rattle.quad_index.specs.declared.key.Key.{Key}
-use Rattle.quad_index.specs.declared.key.Bounds.{Bounds}
 use Rattle.quad_index.specs.declared.key.Arrangement.{Arrangement}
 use Rattle.quad_index.specs.declared.key.Arrangement.TheVariants.{Spog, Pogs, Ogsp, Gspo, Gpso, Ospg}
-use Rattle.quad_index.specs.Keys.{place_order, order_at, key_of, bound_term, bound_graph, bounds_of, depth_by, depth_of, bound_or_none, target_of, is_sought}
+use Rattle.quad_index.specs.Keys.{place_order, order_at, key_of, bound_term, bound_graph, bounds_of, depth_by, bound_or_none, is_sought}
 
 -- a place's term is the one that it is bound to
 agrees : Option (Option Id) → Option Id → Bool

@@ -1,5 +1,5 @@
 //! Sorted runs of hints.
-ghost use Rattle.std.specs.Prelude.{◌≡◌, Bool, ◌||◌, IfOk, filter};
+ghost use Rattle.std.specs.Prelude.{◌≡◌, ◌+◌, Bool, ◌||◌, IfOk, filter, length};
 ghost use Rattle.std.specs.List.{list_any};
 ghost use Rattle.std.specs.List.Sorted.{IsSortedByKey};
 ghost use Rattle.datasets.specs.Id.{id_order};
@@ -38,7 +38,8 @@ pub struct Run {
 impl Run {
     /// These hints, sorted.
     pub fn new(arrangement: Arrangement, mut entries: Vec<Hint>) -> Run
-        ensures { (p : Hint → Bool) → list_any p result.entries.items ≡ list_any p entries.items }
+        ensures members { (p : Hint → Bool) → list_any p result.entries.items ≡ list_any p entries.items }
+        ensures count { length result.entries.items ≡ length entries.items }
     {
         entries.sort_unstable_by_key(|hint| arrangement.key_of(&hint.quad));
         Run {
@@ -55,14 +56,15 @@ impl Run {
     }
 }
 
-/// One run of the hints of two.
+/// One run of the hints of two: as many as both have.
 pub fn joined(
     alloc: Global,
     arrangement: Arrangement,
     first: &[Hint],
     second: &[Hint],
 ) -> Result<Run, AllocError>
-    ensures { IfOk result (λ run. (p : Hint → Bool) → list_any p run.entries.items ≡ (list_any p first.now || list_any p second.now)) }
+    ensures members { IfOk result (λ run. (p : Hint → Bool) → list_any p run.entries.items ≡ (list_any p first.now || list_any p second.now)) }
+    ensures count { IfOk result (λ run. length run.entries.items ≡ length first.now + length second.now) }
 {
     let mut entries = Vec::from_slice(alloc, first)?;
     entries.extend_from_slice(second)?;

@@ -1,8 +1,7 @@
 use Rattle.std.specs.Prelude.{◌||◌}
-use Rattle.std.proofs.Common.{◌≡◌, ◌≤◌, ◌<◌, ◌∙◌, ◌+◌, ◌-◌, ℕ, ap, length, get_or, arith}
+use Rattle.std.proofs.Common.{◌≡◌, ◌≤◌, ◌<◌, ◌∙◌, ◌+◌, ◌-◌, ap, length, get_or, arith}
 use Rattle.std.proofs.lemmas.List.{get_or_default}
 use Rattle.std.specs.List.{list_any}
-use Rattle.std.specs.Vec.{vec_len}
 use Rattle.quad_index.specs.declared.run.Run.{Run}
 use Rattle.quad_index.proofs.Joined.{popped}
 use Rattle.quad_index.proofs.sorted_hints.SortedHints.join_two.Goals as goal
@@ -22,4 +21,4 @@ returns-in-Ok c p =
     c.index-shorter.ensures ∙ ap (λ k. get_or xs k c.index-shorter.result.now) place ∙ get_or_default xs (n + 1) c.index-shorter.result.now d within in
     let second : c.deref-2.result.now ≡ (get_or xs (n + 1) d).entries.items = c.deref-2.ensures.value ∙ ap (λ (r : Run). r.entries.items) last in
     popped p c.in-Ok.run' d xs _ c.args.self.now.tail.items n (c.args.self.now.runs.len - 1) c.pop.ensures.rest (omega arith) (omega arith)
-    (c.in-Ok.ensures p ∙ (λ i. list_any p (first i) || list_any p (second i)))
+    (c.in-Ok.ensures.members p ∙ (λ i. list_any p (first i) || list_any p (second i)))

@@ -1,6 +1,6 @@
-use Rattle.std.proofs.Common.{refl, ap, ◌∙◌}
-use Rattle.quad_index.proofs.Requests.{run_more, tail_more, named_by, kept_by}
-use Rattle.quad_index.specs.Hints.{all_entries, hints_of}
+use Rattle.std.proofs.Common.{refl, ◌∙◌}
+use Rattle.quad_index.proofs.Requests.{run_more, tail_more, named_by}
+use Rattle.quad_index.specs.Hints.{hints_of}
 use Rattle.quad_index.proofs.sorted_hints.SortedHints.requests.Goals as goal
 
 pub loop-run-preserved : goal.loop-run-preserved

@@ -7,4 +7,4 @@ pub returns-in-Ok : goal.returns-in-Ok
 returns-in-Ok c p =
     c.join_last.ensures p
     ∙ settled p c.args.self.now.runs.items _ c.new-2.result c.args.self.now.tail.items _ c.in-Ok.ensures.items (ap (λ v. v.items) c.replace-entries.ensures.after ∙ c.new.ensures.items)
-    (c.new-2.ensures p ∙ ap (λ v. list_any p v.items) c.replace-entries.ensures.value)
+    (c.new-2.ensures.members p ∙ ap (λ v. list_any p v.items) c.replace-entries.ensures.value)
