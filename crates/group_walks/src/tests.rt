@@ -1,10 +1,10 @@
 //! Tables of texts with their groups.
 use crate::told::told;
+use lexer::Stop;
 use std::alloc::{AllocError, Global};
 use std::process::Abort;
-use std::test::Fail;
 
-fn check_table(rt: &impl Abort, alloc: Global, table: &[(&str, &str)]) -> Result<(), Fail> {
+fn check_table(rt: &impl Abort, alloc: Global, table: &[(&str, &str)]) -> Result<(), Stop> {
     for (text, want) in table {
         let found = told(alloc, 64, text)?;
         assert!(rt; found.as_slice() == want.as_bytes(), "{text:?}");
@@ -41,7 +41,7 @@ const TRIPLES: [(&str, &str); 20] = [
 ];
 
 #[test]
-fn triples(rt: HostRuntime) -> Result<(), Fail> {
+fn triples(rt: HostRuntime) -> Result<(), Stop> {
     check_table(&rt, rt.alloc(), &TRIPLES)
 }
 
@@ -91,7 +91,7 @@ const PARTS: [(&str, &str); 36] = [
 ];
 
 #[test]
-fn parts(rt: HostRuntime) -> Result<(), Fail> {
+fn parts(rt: HostRuntime) -> Result<(), Stop> {
     check_table(&rt, rt.alloc(), &PARTS)
 }
 
@@ -132,7 +132,7 @@ const FILTERS: [(&str, &str); 21] = [
 ];
 
 #[test]
-fn filters(rt: HostRuntime) -> Result<(), Fail> {
+fn filters(rt: HostRuntime) -> Result<(), Stop> {
     check_table(&rt, rt.alloc(), &FILTERS)
 }
 
@@ -154,9 +154,9 @@ const NESTED: [(usize, &str, &str); 14] = [
 ];
 
 #[test]
-fn nested(rt: HostRuntime) -> Result<(), Fail> {
-    for (depth, text, want) in NESTED {
-        let found = told(rt.alloc(), depth, text)?;
+fn nested(rt: HostRuntime) -> Result<(), Stop> {
+    for (depth, text, want) in &NESTED {
+        let found = told(rt.alloc(), *depth, text)?;
         assert!(rt; found.as_slice() == want.as_bytes(), "{depth} {text:?}");
     }
     Ok(())
@@ -181,23 +181,33 @@ fn signs(
     Ok(text)
 }
 
+fn is_read(alloc: Global, depth: usize, text: &str) -> Result<bool, Stop> {
+    Ok(told(alloc, depth, text)?.as_slice() != NONE.as_bytes())
+}
+
+/// Whether so many groups, one in another, are read.
+fn reads_braces(alloc: Global, count: usize) -> Result<bool, Stop> {
+    let braces = signs(alloc, count, '{', "", '}')?;
+    is_read(alloc, 64, braces.as_str())
+}
+
+/// Whether a filter in so many parentheses is read.
+fn reads_parentheses(alloc: Global, count: usize) -> Result<bool, Stop> {
+    let condition = signs(alloc, count, '(', "?x", ')')?;
+    let filter = format!(in alloc; "{{ FILTER {condition} }}")?;
+    is_read(alloc, 65, filter.as_str())
+}
+
+/// How deep a text is, and whether it is read.
+const DEPTHS: [(usize, bool); 4] = [(1, true), (64, true), (65, false), (500, false)];
+
 #[test]
-fn deepest(rt: HostRuntime) -> Result<(), Fail> {
-    let alloc = rt.alloc();
-    for (count, is_read) in [(1, true), (64, true), (65, false), (500, false)] {
-        let braces = signs(alloc, count, '{', "", '}')?;
-        let found = told(alloc, 64, braces.as_str())?;
-        assert!(rt;
-            (found.as_slice() != NONE.as_bytes()) == is_read,
-            "{count} braces"
-        );
-        let parentheses = signs(alloc, count - 1, '(', "?x", ')')?;
-        let filter = format!(in alloc; "{{ FILTER ({parentheses}) }}")?;
-        let found = told(alloc, 65, filter.as_str())?;
-        assert!(rt;
-            (found.as_slice() != NONE.as_bytes()) == is_read,
-            "{count} parentheses"
-        );
+fn deepest(rt: HostRuntime) -> Result<(), Stop> {
+    for (count, want) in &DEPTHS {
+        let is_read = reads_braces(rt.alloc(), *count)?;
+        assert!(rt; is_read == *want, "{count} braces");
+        let is_read = reads_parentheses(rt.alloc(), *count)?;
+        assert!(rt; is_read == *want, "{count} parentheses");
     }
     Ok(())
 }

@@ -3,47 +3,39 @@
 use algebra::{Expression, OneOperator, Place, TwoOperator};
 use dict::{Dict, Id};
 use expr::{Filtering, effective, value};
-use iris::Iri;
+use rules::{BlockFault, split};
 use solution::{Filters, Mapping};
-use std::alloc::{AllocError, Global};
-use std::test::Fail;
-use terms::{Literal, Term};
+use std::alloc::Global;
+use std::process::Abort;
+use terms::Term;
 
-#[derive(Clone, Copy)]
-enum Kind {
-    Iri,
-    Text,
-    Integer,
-    Boolean,
-    English,
-    German,
-}
+/// A term as a request writes it, where `x:` is the prefix of the datatypes of XML Schema.
+type Written = &'static str;
 
-/// A term: its kind, and its IRI or lexical form.
-type Written = (Kind, &'static str);
+const IRI: Written = "<http://e/a>";
 
-const IRI: Written = (Kind::Iri, "http://e/a");
+const YES: Written = "true";
 
-const YES: Written = (Kind::Boolean, "true");
+const NO: Written = "false";
 
-const NO: Written = (Kind::Boolean, "false");
+const ILL: Written = "'yes'^^x:boolean";
 
-const ILL: Written = (Kind::Boolean, "yes");
+const ONE: Written = "1";
 
-const ONE: Written = (Kind::Integer, "1");
+const MOST: Written = "9223372036854775807";
 
-const MOST: Written = (Kind::Integer, "9223372036854775807");
+const LEAST: Written = "'-9223372036854775808'^^x:integer";
 
-const LEAST: Written = (Kind::Integer, "-9223372036854775808");
+const LARGE: Written = "9223372036854775808";
 
-const LARGE: Written = (Kind::Integer, "9223372036854775808");
+const TEXT: Written = "'a'";
 
-const TEXT: Written = (Kind::Text, "a");
+const TAGGED: Written = "'a'@en";
 
-const TAGGED: Written = (Kind::English, "a");
+/// An operator, two constants, and the effective value.
+type Two = (TwoOperator, Written, Written, Option<bool>);
 
-/// Operators on two constants, and the effective values.
-const TWO: [(TwoOperator, Written, Written, Option<bool>); 50] = [
+const LOGIC: [Two; 9] = [
     (TwoOperator::Or, IRI, YES, Some(true)),
     (TwoOperator::Or, YES, IRI, Some(true)),
     (TwoOperator::Or, IRI, NO, None),
@@ -53,249 +45,234 @@ const TWO: [(TwoOperator, Written, Written, Option<bool>); 50] = [
     (TwoOperator::And, YES, IRI, None),
     (TwoOperator::And, LARGE, YES, None),
     (TwoOperator::And, ONE, TAGGED, Some(true)),
-    (TwoOperator::Equal, ONE, (Kind::Integer, "+01"), Some(true)),
-    (
-        TwoOperator::Equal,
-        (Kind::Integer, "-0"),
-        (Kind::Integer, "0"),
-        Some(true),
-    ),
-    (TwoOperator::Equal, ONE, (Kind::Text, "1"), None),
+];
+
+const EQUALITY: [Two; 18] = [
+    (TwoOperator::Equal, ONE, "'+01'^^x:integer", Some(true)),
+    (TwoOperator::Equal, "'-0'^^x:integer", "0", Some(true)),
+    (TwoOperator::Equal, ONE, "'1'", None),
     (TwoOperator::Equal, ONE, IRI, Some(false)),
-    (TwoOperator::Equal, YES, (Kind::Boolean, "1"), Some(true)),
+    (TwoOperator::Equal, YES, "'1'^^x:boolean", Some(true)),
     (TwoOperator::Equal, ILL, YES, None),
     (TwoOperator::Equal, ILL, ILL, Some(true)),
     (TwoOperator::Equal, LARGE, LARGE, Some(true)),
     (TwoOperator::Equal, LARGE, ONE, None),
     (TwoOperator::Equal, TAGGED, TAGGED, Some(true)),
-    (TwoOperator::Equal, TAGGED, (Kind::German, "a"), None),
+    (TwoOperator::Equal, TAGGED, "'a'@de", None),
     (TwoOperator::Equal, TAGGED, TEXT, None),
-    (
-        TwoOperator::Equal,
-        IRI,
-        (Kind::Iri, "http://e/b"),
-        Some(false),
-    ),
+    (TwoOperator::Equal, IRI, "<http://e/b>", Some(false)),
     (TwoOperator::NotEqual, IRI, TEXT, Some(true)),
-    (TwoOperator::NotEqual, TEXT, (Kind::Text, "b"), Some(true)),
+    (TwoOperator::NotEqual, TEXT, "'b'", Some(true)),
     (TwoOperator::NotEqual, LARGE, ONE, None),
-    (
-        TwoOperator::Less,
-        (Kind::Integer, "9"),
-        (Kind::Integer, "10"),
-        Some(true),
-    ),
-    (
-        TwoOperator::Less,
-        (Kind::Text, "9"),
-        (Kind::Text, "10"),
-        Some(false),
-    ),
+    (TwoOperator::SameTerm, ONE, "01", Some(false)),
+    (TwoOperator::SameTerm, TAGGED, TAGGED, Some(true)),
+];
+
+const NUMBERS: [Two; 14] = [
+    (TwoOperator::Less, "9", "10", Some(true)),
+    (TwoOperator::Less, "'9'", "'10'", Some(false)),
     (TwoOperator::Less, NO, YES, Some(true)),
     (TwoOperator::Less, IRI, IRI, None),
     (TwoOperator::LessEqual, TAGGED, TAGGED, None),
     (TwoOperator::LessEqual, LEAST, MOST, Some(true)),
-    (TwoOperator::Greater, (Kind::Integer, "1x"), ONE, None),
+    (TwoOperator::Greater, "'1x'^^x:integer", ONE, None),
     (TwoOperator::GreaterEqual, TEXT, TEXT, Some(true)),
-    (TwoOperator::Plus, ONE, (Kind::Integer, "-1"), Some(false)),
+    (TwoOperator::Plus, ONE, "'-1'^^x:integer", Some(false)),
     (TwoOperator::Plus, MOST, ONE, None),
     (TwoOperator::Plus, ONE, TEXT, None),
     (TwoOperator::Minus, LEAST, ONE, None),
     (TwoOperator::Minus, MOST, ONE, Some(true)),
-    (TwoOperator::Times, LEAST, (Kind::Integer, "-1"), None),
-    (
-        TwoOperator::SameTerm,
-        ONE,
-        (Kind::Integer, "01"),
-        Some(false),
-    ),
-    (TwoOperator::SameTerm, TAGGED, TAGGED, Some(true)),
+    (TwoOperator::Times, LEAST, "'-1'^^x:integer", None),
+];
+
+const PARTS: [Two; 9] = [
     (TwoOperator::StrStarts, TEXT, TAGGED, None),
     (TwoOperator::StrStarts, TAGGED, TEXT, Some(true)),
-    (
-        TwoOperator::StrStarts,
-        (Kind::English, "ab"),
-        TAGGED,
-        Some(true),
-    ),
-    (TwoOperator::StrStarts, (Kind::German, "ab"), TAGGED, None),
-    (
-        TwoOperator::StrStarts,
-        TEXT,
-        (Kind::Text, "ab"),
-        Some(false),
-    ),
-    (TwoOperator::StrEnds, (Kind::Text, "ba"), TEXT, Some(true)),
-    (TwoOperator::Contains, (Kind::Text, "bab"), TEXT, Some(true)),
-    (TwoOperator::Contains, TEXT, (Kind::Text, ""), Some(true)),
+    (TwoOperator::StrStarts, "'ab'@en", TAGGED, Some(true)),
+    (TwoOperator::StrStarts, "'ab'@de", TAGGED, None),
+    (TwoOperator::StrStarts, TEXT, "'ab'", Some(false)),
+    (TwoOperator::StrEnds, "'ba'", TEXT, Some(true)),
+    (TwoOperator::Contains, "'bab'", TEXT, Some(true)),
+    (TwoOperator::Contains, TEXT, "''", Some(true)),
     (TwoOperator::Contains, ONE, TEXT, None),
 ];
 
 /// Functions of a constant, and the terms that they are.
 const FUNCTIONS: [(OneOperator, Written, Option<Written>); 21] = [
-    (OneOperator::Not, (Kind::Text, ""), Some(YES)),
-    (OneOperator::Not, (Kind::Integer, "00"), Some(YES)),
-    (OneOperator::Not, (Kind::Integer, "+"), Some(YES)),
+    (OneOperator::Not, "''", Some(YES)),
+    (OneOperator::Not, "00", Some(YES)),
+    (OneOperator::Not, "'+'^^x:integer", Some(YES)),
     (OneOperator::Not, ILL, Some(YES)),
     (OneOperator::Not, LARGE, None),
-    (OneOperator::Not, (Kind::Boolean, "1"), Some(NO)),
+    (OneOperator::Not, "'1'^^x:boolean", Some(NO)),
     (OneOperator::IsIri, IRI, Some(YES)),
     (OneOperator::IsBlank, IRI, Some(NO)),
     (OneOperator::IsLiteral, TAGGED, Some(YES)),
-    (
-        OneOperator::Str,
-        (Kind::Integer, "01"),
-        Some((Kind::Text, "01")),
-    ),
-    (OneOperator::Str, IRI, Some((Kind::Text, "http://e/a"))),
-    (OneOperator::Lang, TAGGED, Some((Kind::Text, "en"))),
-    (OneOperator::Lang, ONE, Some((Kind::Text, ""))),
+    (OneOperator::Str, "01", Some("'01'")),
+    (OneOperator::Str, IRI, Some("'http://e/a'")),
+    (OneOperator::Lang, TAGGED, Some("'en'")),
+    (OneOperator::Lang, ONE, Some("''")),
     (OneOperator::Lang, IRI, None),
     (
         OneOperator::Datatype,
         ONE,
-        Some((Kind::Iri, "http://www.w3.org/2001/XMLSchema#integer")),
+        Some("<http://www.w3.org/2001/XMLSchema#integer>"),
     ),
     (
         OneOperator::Datatype,
         TAGGED,
-        Some((
-            Kind::Iri,
-            "http://www.w3.org/1999/02/22-rdf-syntax-ns#langString",
-        )),
+        Some("<http://www.w3.org/1999/02/22-rdf-syntax-ns#langString>"),
     ),
     (OneOperator::Datatype, IRI, None),
-    (
-        OneOperator::StrLen,
-        (Kind::Text, "aé"),
-        Some((Kind::Integer, "2")),
-    ),
-    (
-        OneOperator::StrLen,
-        (Kind::English, ""),
-        Some((Kind::Integer, "0")),
-    ),
+    (OneOperator::StrLen, "'aé'", Some("2")),
+    (OneOperator::StrLen, "''@en", Some("0")),
     (OneOperator::StrLen, ONE, None),
     (OneOperator::StrLen, IRI, None),
 ];
 
-fn literal(
-    alloc: Global,
-    text: &str,
-    datatype: &str,
-    tag: Option<&str>,
-) -> Result<Option<Term>, AllocError> {
-    let lexical = String::from_str(alloc, text)?;
-    let tag = match tag {
-        Some(tag) => Some(String::from_str(alloc, tag)?),
-        None => None,
-    };
-    match Iri::check(alloc, datatype)? {
-        Some(datatype) => Ok(Literal::new(lexical, datatype, tag).map(|literal| Term::Literal(
-            literal,
-        ))),
+/// The term that a request writes so.
+fn term(alloc: Global, written: &str) -> Result<Option<Term>, BlockFault> {
+    let text = format!(in alloc;
+        "PREFIX x: <http://www.w3.org/2001/XMLSchema#> INSERT DATA {{ <x:s> <x:p> {written} }}"
+    )?;
+    let block = split(alloc, text.as_bytes())?;
+    match block.terms(alloc)?.pop() {
+        Some(term) => Ok(Some(term)),
         None => Ok(None),
     }
 }
 
-fn term(alloc: Global, written: Written) -> Result<Option<Term>, AllocError> {
-    let lang_string = "http://www.w3.org/1999/02/22-rdf-syntax-ns#langString";
-    let (kind, text) = written;
-    match kind {
-        Kind::Iri => Ok(Iri::check(alloc, text)?.map(|iri| Term::Iri(iri))),
-        Kind::Text => literal(alloc, text, "http://www.w3.org/2001/XMLSchema#string", None),
-        Kind::Integer => literal(
-            alloc,
-            text,
-            "http://www.w3.org/2001/XMLSchema#integer",
-            None,
-        ),
-        Kind::Boolean => literal(
-            alloc,
-            text,
-            "http://www.w3.org/2001/XMLSchema#boolean",
-            None,
-        ),
-        Kind::English => literal(alloc, text, lang_string, Some("en")),
-        Kind::German => literal(alloc, text, lang_string, Some("de")),
-    }
-}
-
-fn dictionary(alloc: Global, all: &[Written]) -> Result<Dict, AllocError> {
+fn dictionary(alloc: Global, all: &[Written]) -> Result<Dict, BlockFault> {
     let mut terms = Vec::new(alloc);
     for written in all {
-        if let Some(term) = term(alloc, *written)? {
+        if let Some(term) = term(alloc, written)? {
             terms.push(term)?;
         }
     }
     Ok(Dict::freeze(terms))
 }
 
-fn constant(alloc: Global, dict: &Dict, written: Written) -> Result<Expression<Id>, AllocError> {
-    let found = term(alloc, written)?.and_then(|term| dict.id_of(&term));
+fn constant(alloc: Global, dict: &Dict, written: Written) -> Result<Expression<Id>, BlockFault> {
+    let found = match term(alloc, written)? {
+        Some(term) => dict.id_of(&term),
+        None => None,
+    };
     Ok(Expression::Constant(found.unwrap_or(Id::Known(usize::MAX))))
 }
 
-/// What an operator says of an expression and a constant, where no variable is bound: the effective value.
+/// An operator on an expression and a constant.
+fn applied(
+    alloc: Global,
+    dict: &Dict,
+    operator: TwoOperator,
+    left: Expression<Id>,
+    right: Written,
+) -> Result<Expression<Id>, BlockFault> {
+    let left = Box::new(alloc, left)?;
+    let right = Box::new(alloc, constant(alloc, dict, right)?)?;
+    Ok(Expression::Two(operator, left, right))
+}
+
+/// What that says, where no variable is bound: the effective value.
 fn compared(
     alloc: Global,
     dict: &Dict,
     operator: TwoOperator,
     left: Expression<Id>,
     right: Written,
-) -> Result<Option<bool>, AllocError> {
-    let right = Box::new(alloc, constant(alloc, dict, right)?)?;
-    let whole = Expression::Two(operator, Box::new(alloc, left)?, right);
+) -> Result<Option<bool>, BlockFault> {
+    let whole = applied(alloc, dict, operator, left, right)?;
     let mapping = Mapping::empty(alloc, 1)?;
     Ok(effective(&value(alloc, dict, &whole, &mapping)?))
 }
 
-#[test]
-fn operators(rt: HostRuntime) -> Result<(), AllocError> {
-    let alloc = rt.alloc();
-    for (operator, left, right, want) in TWO {
-        let dict = dictionary(alloc, &[left, right])?;
-        let left = constant(alloc, &dict, left)?;
-        assert!(rt; compared(alloc, &dict, operator, left, right)? == want);
+/// What an operator says of two constants.
+fn compared_constants(
+    alloc: Global,
+    operator: TwoOperator,
+    left: Written,
+    right: Written,
+) -> Result<Option<bool>, BlockFault> {
+    let dict = dictionary(alloc, &[left, right])?;
+    let left = constant(alloc, &dict, left)?;
+    compared(alloc, &dict, operator, left, right)
+}
+
+fn check_operators(rt: &impl Abort, alloc: Global, rows: &[Two]) -> Result<(), BlockFault> {
+    for (operator, left, right, want) in rows {
+        let found = compared_constants(alloc, *operator, *left, *right)?;
+        assert!(rt; found == *want, "{left} {right}");
     }
     Ok(())
+}
+
+#[test]
+fn logic(rt: HostRuntime) -> Result<(), BlockFault> {
+    check_operators(&rt, rt.alloc(), &LOGIC)
+}
+
+#[test]
+fn equality(rt: HostRuntime) -> Result<(), BlockFault> {
+    check_operators(&rt, rt.alloc(), &EQUALITY)
+}
+
+#[test]
+fn order_and_arithmetic(rt: HostRuntime) -> Result<(), BlockFault> {
+    check_operators(&rt, rt.alloc(), &NUMBERS)
+}
+
+#[test]
+fn parts_of_texts(rt: HostRuntime) -> Result<(), BlockFault> {
+    check_operators(&rt, rt.alloc(), &PARTS)
 }
 
 fn one(
     alloc: Global,
     operator: OneOperator,
     inner: Expression<Id>,
-) -> Result<Expression<Id>, AllocError> {
+) -> Result<Expression<Id>, BlockFault> {
     Ok(Expression::One(operator, Box::new(alloc, inner)?))
 }
 
+fn function(
+    alloc: Global,
+    dict: &Dict,
+    operator: OneOperator,
+    inner: Written,
+) -> Result<Expression<Id>, BlockFault> {
+    let inner = constant(alloc, dict, inner)?;
+    one(alloc, operator, inner)
+}
+
+/// Whether a function of a constant is this term, if it is any.
+fn is_same(
+    alloc: Global,
+    operator: OneOperator,
+    inner: Written,
+    term: Written,
+) -> Result<Option<bool>, BlockFault> {
+    let dict = dictionary(alloc, &[inner, term])?;
+    let found = function(alloc, &dict, operator, inner)?;
+    compared(alloc, &dict, TwoOperator::SameTerm, found, term)
+}
+
 #[test]
-fn functions(rt: HostRuntime) -> Result<(), AllocError> {
-    let alloc = rt.alloc();
-    for (operator, inner, want) in FUNCTIONS {
-        let term = want.unwrap_or(IRI);
-        let dict = dictionary(alloc, &[inner, term])?;
-        let found = one(alloc, operator, constant(alloc, &dict, inner)?)?;
-        let is_it = compared(alloc, &dict, TwoOperator::SameTerm, found, term)?;
-        assert!(rt; is_it == want.map(|_| true));
+fn functions(rt: HostRuntime) -> Result<(), BlockFault> {
+    for (operator, inner, want) in &FUNCTIONS {
+        let found = is_same(rt.alloc(), *operator, *inner, want.unwrap_or(IRI))?;
+        assert!(rt; found == want.is_some().then_some(true), "{inner}");
     }
     Ok(())
 }
 
-/// Numbers, operators on them from left to right, and the number that this is.
-const CHAINS: [(Written, &[(TwoOperator, Written)], Written); 2] = [
+/// Numbers, operators on them from left to right, the number that this is, and its text.
+const CHAINS: [(Written, &[(TwoOperator, Written)], Written, Written); 2] = [
+    ("01", &[(TwoOperator::Plus, "0")], ONE, "'1'"),
     (
-        (Kind::Integer, "01"),
-        &[(TwoOperator::Plus, (Kind::Integer, "0"))],
-        ONE,
-    ),
-    (
-        (Kind::Integer, "-2"),
-        &[
-            (TwoOperator::Plus, ONE),
-            (TwoOperator::Times, (Kind::Integer, "3")),
-        ],
-        (Kind::Integer, "-3"),
+        "'-2'^^x:integer",
+        &[(TwoOperator::Plus, ONE), (TwoOperator::Times, "3")],
+        "'-3'^^x:integer",
+        "'-3'",
     ),
 ];
 
@@ -305,7 +282,7 @@ fn chain(
     dict: &Dict,
     first: Written,
     steps: &[(TwoOperator, Written)],
-) -> Result<Expression<Id>, AllocError> {
+) -> Result<Expression<Id>, BlockFault> {
     let mut more = Vec::new(alloc);
     for (operator, right) in steps {
         more.push((*operator, constant(alloc, dict, *right)?))?;
@@ -314,25 +291,26 @@ fn chain(
     Ok(Expression::Chain(Box::new(alloc, first)?, more))
 }
 
-// What is computed is the wanted term, and its STR the text of that.
+/// Whether a chain of operators is the wanted number, and its STR the text of that.
+fn comes_to(
+    alloc: Global,
+    first: Written,
+    steps: &[(TwoOperator, Written)],
+    want: Written,
+    text: Written,
+) -> Result<bool, BlockFault> {
+    let dict = dictionary(alloc, &[first, ONE, "0", "3", want, text])?;
+    let found = chain(alloc, &dict, first, steps)?;
+    let is_number = compared(alloc, &dict, TwoOperator::SameTerm, found, want)?;
+    let found = one(alloc, OneOperator::Str, chain(alloc, &dict, first, steps)?)?;
+    let is_text = compared(alloc, &dict, TwoOperator::Equal, found, text)?;
+    Ok(is_number == Some(true) && is_text == Some(true))
+}
+
 #[test]
-fn computed(rt: HostRuntime) -> Result<(), AllocError> {
-    let alloc = rt.alloc();
-    for (first, steps, want) in CHAINS {
-        let text = (Kind::Text, want.1);
-        let numbers = [
-            first,
-            ONE,
-            (Kind::Integer, "0"),
-            (Kind::Integer, "3"),
-            want,
-            text,
-        ];
-        let dict = dictionary(alloc, &numbers)?;
-        let found = chain(alloc, &dict, first, steps)?;
-        assert!(rt; compared(alloc, &dict, TwoOperator::SameTerm, found, want)? == Some(true));
-        let found = one(alloc, OneOperator::Str, chain(alloc, &dict, first, steps)?)?;
-        assert!(rt; compared(alloc, &dict, TwoOperator::Equal, found, text)? == Some(true));
+fn computed(rt: HostRuntime) -> Result<(), BlockFault> {
+    for (first, steps, want, text) in &CHAINS {
+        assert!(rt; comes_to(rt.alloc(), first, steps, want, text)?, "{want}");
     }
     Ok(())
 }
@@ -345,21 +323,36 @@ const FILTERS: [(Option<usize>, bool, bool); 4] = [
     (Some(2), true, true),
 ];
 
+/// The mapping that binds the variable to this term, if to any.
+fn binding(alloc: Global, bound: Option<usize>) -> Result<Option<Mapping>, BlockFault> {
+    let mapping = Mapping::empty(alloc, 1)?;
+    Ok(match bound {
+        Some(place) => mapping.fit(Place::Variable(0), Id::Known(place)),
+        None => Some(mapping),
+    })
+}
+
+/// Whether BOUND of the variable, bound to this term, and the variable alone pass.
+fn passed(
+    alloc: Global,
+    filtering: &Filtering<'_>,
+    bound: Option<usize>,
+) -> Result<Option<(bool, bool)>, BlockFault> {
+    let Some(mapping) = binding(alloc, bound)? else {
+        return Ok(None);
+    };
+    let is_bound = filtering.is_passed(alloc, &Expression::Bound(0), &mapping)?;
+    let is_true = filtering.is_passed(alloc, &Expression::Variable(0), &mapping)?;
+    Ok(Some((is_bound, is_true)))
+}
+
 #[test]
-fn filters(rt: HostRuntime) -> Result<(), Fail> {
-    let alloc = rt.alloc();
-    let dict = dictionary(alloc, &[IRI, NO, YES])?;
+fn filters(rt: HostRuntime) -> Result<(), BlockFault> {
+    let dict = dictionary(rt.alloc(), &[IRI, NO, YES])?;
     let filtering = Filtering::new(&dict);
-    for (bound, is_bound, is_true) in FILTERS {
-        let mut mapping = Mapping::empty(alloc, 1)?;
-        if let Some(place) = bound {
-            let fitted = mapping.fit(Place::Variable(0), Id::Known(place));
-            mapping = fitted.ok_or("no mapping")?;
-        }
-        let found = filtering.is_passed(alloc, &Expression::Bound(0), &mapping)?;
-        assert!(rt; found == is_bound, "{bound:?}");
-        let found = filtering.is_passed(alloc, &Expression::Variable(0), &mapping)?;
-        assert!(rt; found == is_true, "{bound:?}");
+    for (bound, is_bound, is_true) in &FILTERS {
+        let found = passed(rt.alloc(), &filtering, *bound)?;
+        assert!(rt; found == Some((*is_bound, *is_true)));
     }
     Ok(())
 }

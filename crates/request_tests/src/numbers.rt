@@ -1,7 +1,7 @@
 //! A dataset of one quad, to numbers and back.
 use datasets::{Id, Quad};
 use meaning::Refusal;
-use nquads::{canonical_text, read_bytes};
+use nquads::{BaseFault, canonical_text, read_bytes};
 use numbering::{Numbered, named, number};
 use rules::{Block, split};
 use std::alloc::{AllocError, Global};
@@ -24,12 +24,14 @@ fn is_numbered(numbered: &Numbered) -> bool {
         && matches!(numbered.block.as_slice(), [Err(Refusal::Syntax)])
 }
 
-#[test]
-fn to_numbers(rt: HostRuntime) -> Result<(), Fail> {
-    let dataset = read_bytes(rt.alloc(), BASE.as_bytes())?;
-    let block = split(rt.alloc(), b"INSERT")?;
-    assert!(rt; is_numbered(&number(rt.alloc(), &dataset, &block)?));
-    Ok(())
+fn base(alloc: Global) -> Result<DataSet, BaseFault> {
+    read_bytes(alloc, BASE.as_bytes())
+}
+
+/// Whether the base comes to its numbers.
+fn comes_to_numbers(alloc: Global, block: &Block) -> Result<bool, BaseFault> {
+    let dataset = base(alloc)?;
+    Ok(is_numbered(&number(alloc, &dataset, block)?))
 }
 
 // To numbers and back.
@@ -39,11 +41,21 @@ fn back(alloc: Global, dataset: &DataSet, block: &Block) -> Result<DataSet, Allo
     named(alloc, numbered.base.terms(), numbered.base.dataset())
 }
 
+fn text_back(alloc: Global, dataset: &DataSet, block: &Block) -> Result<Vec<u8>, AllocError> {
+    let again = back(alloc, dataset, block)?;
+    canonical_text(alloc, &again, 1)
+}
+
+/// Whether the base, to numbers and back, has its text again.
+fn comes_back(alloc: Global, block: &Block) -> Result<bool, BaseFault> {
+    let dataset = base(alloc)?;
+    Ok(text_back(alloc, &dataset, block)?.as_slice() == BASE.as_bytes())
+}
+
 #[test]
-fn to_terms(rt: HostRuntime) -> Result<(), Fail> {
-    let dataset = read_bytes(rt.alloc(), BASE.as_bytes())?;
+fn to_numbers_and_back(rt: HostRuntime) -> Result<(), Fail> {
     let block = split(rt.alloc(), b"INSERT")?;
-    let again = back(rt.alloc(), &dataset, &block)?;
-    assert!(rt; canonical_text(rt.alloc(), &again, 1)?.as_slice() == BASE.as_bytes());
+    assert!(rt; comes_to_numbers(rt.alloc(), &block)?);
+    assert!(rt; comes_back(rt.alloc(), &block)?);
     Ok(())
 }

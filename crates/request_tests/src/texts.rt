@@ -205,11 +205,20 @@ fn answer(alloc: Global, text: &str) -> Result<Option<Result<usize, Refusal>>, B
     })
 }
 
+/// The same of a text after the prologue of `ex:`.
+fn answer_after_prologue(
+    alloc: Global,
+    text: &str,
+) -> Result<Option<Result<usize, Refusal>>, BlockFault> {
+    let whole = format!(in alloc; "PREFIX ex: <http://e/> {text}")?;
+    answer(alloc, whole.as_str())
+}
+
 #[test]
 fn texts(rt: HostRuntime) -> Result<(), BlockFault> {
-    for (text, want) in TEXTS {
-        let whole = format!(in rt.alloc(); "PREFIX ex: <http://e/> {text}")?;
-        assert!(rt; answer(rt.alloc(), whole.as_str())? == Some(want), "{text}");
+    for (text, want) in &TEXTS {
+        let found = answer_after_prologue(rt.alloc(), text)?;
+        assert!(rt; found == Some(*want), "{text}");
     }
     Ok(())
 }
@@ -233,22 +242,30 @@ fn add(text: &mut String, part: &str, count: usize) -> Result<(), AllocError> {
     Ok(())
 }
 
+/// A part so many times, another as often, and an end.
+fn stacked(
+    alloc: Global,
+    open: &str,
+    close: &str,
+    count: usize,
+    end: &str,
+) -> Result<String, AllocError> {
+    let mut text = String::new(alloc);
+    if !close.is_empty() {
+        text.push_str("INSERT { } WHERE ")?;
+    }
+    add(&mut text, open, count)?;
+    add(&mut text, close, count)?;
+    text.push_str(end)?;
+    Ok(text)
+}
+
 #[test]
 fn limits(rt: HostRuntime) -> Result<(), BlockFault> {
-    for (open, close, count, end, want) in LIMITS {
-        let front = if close.is_empty() {
-            ""
-        } else {
-            "INSERT { } WHERE "
-        };
-        let mut text = String::from_str(rt.alloc(), front)?;
-        add(&mut text, open, count)?;
-        add(&mut text, close, count)?;
-        add(&mut text, end, 1)?;
-        assert!(rt;
-            answer(rt.alloc(), text.as_str())? == Some(want),
-            "{count} of {open:?}"
-        );
+    for (open, close, count, end, want) in &LIMITS {
+        let text = stacked(rt.alloc(), open, close, *count, end)?;
+        let found = answer(rt.alloc(), text.as_str())?;
+        assert!(rt; found == Some(*want), "{count} of {open:?}");
     }
     Ok(())
 }
@@ -263,24 +280,24 @@ const BLOCKS: [(&str, usize); 6] = [
     ("a\n----\n----\nb", 3),
 ];
 
+/// Whether a block has so many requests, and as many verdicts.
+fn is_long(alloc: Global, block: &str, count: usize) -> Result<bool, BlockFault> {
+    let requests = split(alloc, block.as_bytes())?.len();
+    Ok(requests == count && verdicts(alloc, block.as_bytes())?.len() == count)
+}
+
 #[test]
 fn blocks(rt: HostRuntime) -> Result<(), BlockFault> {
-    for (block, want) in BLOCKS {
-        let requests = split(rt.alloc(), block.as_bytes())?;
-        let verdicts = verdicts(rt.alloc(), block.as_bytes())?;
-        assert!(rt;
-            requests.len() == want && verdicts.len() == want,
-            "{block:?}"
-        );
+    for (block, want) in &BLOCKS {
+        assert!(rt; is_long(rt.alloc(), block, *want)?, "{block:?}");
     }
-    let no_text = (split(rt.alloc(), &[255]), verdicts(rt.alloc(), &[255]));
-    assert!(rt;
-        matches!(
-            no_text,
-            (Err(BlockFault::BadUtf8), Err(BlockFault::BadUtf8))
-        )
-    );
     Ok(())
+}
+
+#[test]
+fn blocks_that_are_no_text(rt: HostRuntime) {
+    assert!(rt; matches!(split(rt.alloc(), &[255]), Err(BlockFault::BadUtf8)));
+    assert!(rt; matches!(verdicts(rt.alloc(), &[255]), Err(BlockFault::BadUtf8)));
 }
 
 #[test]
@@ -309,11 +326,15 @@ const GRAPHS_NAMED: [(&str, usize); 8] = [
     ("ADD <a:g> TO DEFAULT", 1),
 ];
 
+fn term_count(alloc: Global, text: &str) -> Result<usize, BlockFault> {
+    let block = split(alloc, text.as_bytes())?;
+    Ok(block.terms(alloc)?.len())
+}
+
 #[test]
 fn names_of_graphs(rt: HostRuntime) -> Result<(), BlockFault> {
-    for (text, want) in GRAPHS_NAMED {
-        let block = split(rt.alloc(), text.as_bytes())?;
-        assert!(rt; block.terms(rt.alloc())?.len() == want, "{text}");
+    for (text, want) in &GRAPHS_NAMED {
+        assert!(rt; term_count(rt.alloc(), text)? == *want, "{text}");
     }
     Ok(())
 }
@@ -419,8 +440,8 @@ fn is_found(alloc: Global, text: &str, sought: Sought) -> Result<bool, BlockFaul
 
 #[test]
 fn operations(rt: HostRuntime) -> Result<(), BlockFault> {
-    for (text, sought) in SOUGHT {
-        assert!(rt; is_found(rt.alloc(), text, sought)?, "{text}");
+    for (text, sought) in &SOUGHT {
+        assert!(rt; is_found(rt.alloc(), text, *sought)?, "{text}");
     }
     Ok(())
 }

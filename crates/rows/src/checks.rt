@@ -1,8 +1,7 @@
 //! Blocks through the engine of the command `check`.
-use crate::tests::{Narrow, Slow, line_count, separators, status_of};
+use crate::tests::{Narrow, Slow, line_count, repeated, status_of};
 use cli::{Watched, check_engine};
 use std::alloc::{AllocError, Global};
-use std::test::Fail;
 
 /// What the engine wrote, and its status.
 #[derive(Drop)]
@@ -17,14 +16,19 @@ impl Told {
     }
 }
 
-fn told_of(alloc: Global, block: &[u8]) -> Told {
+/// What the engine wrote of a block behind what the writer held.
+fn told_behind(alloc: Global, held: Vec<u8>, block: &[u8]) -> Told {
     let mut block = Watched::new(block);
-    let mut replies = Watched::new(Vec::new(alloc));
+    let mut replies = Watched::new(held);
     let outcome = check_engine(alloc, &mut block, &mut replies);
     Told {
         status: status_of(&outcome),
         lines: replies.inner,
     }
+}
+
+fn told_of(alloc: Global, block: &[u8]) -> Told {
+    told_behind(alloc, Vec::new(alloc), block)
 }
 
 /// A block, and the lines of its verdicts.
@@ -76,17 +80,8 @@ fn verdicts_of_blocks(rt: HostRuntime) {
     }
 }
 
-/// This many times the bytes.
-fn repeated(alloc: Global, bytes: &[u8], times: u32) -> Result<Vec<u8>, AllocError> {
-    let mut text = Vec::new(alloc);
-    for _time in 0..times {
-        text.extend_from_slice(bytes)?;
-    }
-    Ok(text)
-}
-
 #[test]
-fn limits_of_a_request(rt: HostRuntime) -> Result<(), Fail> {
+fn limits_of_a_request(rt: HostRuntime) -> Result<(), AllocError> {
     let alloc = rt.alloc();
     let mut block = repeated(alloc, b" ", 1 << 20)?;
     assert!(rt; told_of(alloc, &block).is(0, "0 accepted\n"));
@@ -111,26 +106,34 @@ const CHAINS: [Chain; 3] = [
     ("INSERT { } WHERE { {}", "UNION{}", 149_700, " }"),
 ];
 
+fn chained(alloc: Global, chain: &Chain) -> Result<Vec<u8>, AllocError> {
+    let (front, link, times, back) = *chain;
+    let mut block = repeated(alloc, front.as_bytes(), 1)?;
+    block.extend_from_slice(repeated(alloc, link.as_bytes(), times)?.as_slice())?;
+    block.extend_from_slice(back.as_bytes())?;
+    Ok(block)
+}
+
 #[test]
-fn long_chains(rt: HostRuntime) -> Result<(), Fail> {
-    let alloc = rt.alloc();
-    for (front, link, times, back) in &CHAINS {
-        let mut block = repeated(alloc, front.as_bytes(), 1)?;
-        let links = repeated(alloc, link.as_bytes(), *times)?;
-        block.extend_from_slice(links.as_slice())?;
-        block.extend_from_slice(back.as_bytes())?;
-        assert!(rt; told_of(alloc, &block).is(0, "0 accepted\n"), "{front:?}");
+fn long_chains(rt: HostRuntime) -> Result<(), AllocError> {
+    for chain in &CHAINS {
+        let block = chained(rt.alloc(), chain)?;
+        assert!(rt;
+            told_of(rt.alloc(), &block).is(0, "0 accepted\n"),
+            "{}",
+            chain.0
+        );
     }
     Ok(())
 }
 
 #[test]
-fn faults_of_blocks(rt: HostRuntime) -> Result<(), Fail> {
+fn faults_of_blocks(rt: HostRuntime) -> Result<(), AllocError> {
     let alloc = rt.alloc();
-    let most = told_of(alloc, &separators(alloc, 4095)?);
+    let most = told_of(alloc, &repeated(alloc, b"----\n", 4095)?);
     assert!(rt; most.status == 0 && line_count(&most.lines) == 4096);
     assert!(rt; most.lines.ends_with(b"\n4094 accepted\n4095 accepted\n"));
-    let mut block = separators(alloc, 4096)?;
+    let mut block = repeated(alloc, b"----\n", 4096)?;
     assert!(rt; told_of(alloc, &block).is(4, ""));
     // Too many requests are told before bytes that are no text.
     block.push(0xff)?;
@@ -161,33 +164,38 @@ fn narrow(alloc: Global, block: &str, good_reads: usize, good_calls: usize) -> T
     }
 }
 
-#[test]
-fn verdicts_over_slow_devices(rt: HostRuntime) {
-    let alloc = rt.alloc();
-    assert!(rt; narrow(alloc, BLOCK, 1000, 1000).is(0, LINES));
-    for reads in 0..=BLOCK.len() {
-        assert!(rt; narrow(alloc, BLOCK, reads, 1000).is(6, ""), "{reads}");
-    }
-    for writes in 0..=LINES.len() {
-        let told = narrow(alloc, BLOCK, 1000, writes);
-        assert_eq!(rt; told.status, 6);
-        assert_eq!(rt; told.lines.len(), writes);
-        assert!(rt; LINES.as_bytes().starts_with(&told.lines));
-    }
-    // An empty answer is flushed.
-    assert!(rt; narrow(alloc, "", 1000, 0).is(6, ""));
-    assert!(rt; narrow(alloc, "", 1000, 1).is(0, ""));
+/// Whether a device failed when so much was written.
+fn is_cut_at(told: &Told, length: usize) -> bool {
+    told.status == 6 && told.lines.len() == length && LINES.as_bytes().starts_with(&told.lines)
 }
 
 #[test]
-fn what_the_writer_held_stays(rt: HostRuntime) -> Result<(), Fail> {
-    let alloc = rt.alloc();
-    let mut held = Vec::new(alloc);
-    held.extend_from_slice(b"held\n")?;
-    let mut block = Watched::new("\n".as_bytes());
-    let mut replies = Watched::new(held);
-    let outcome = check_engine(alloc, &mut block, &mut replies);
-    assert_eq!(rt; status_of(&outcome), 0);
-    assert!(rt; replies.inner.as_slice() == b"held\n0 accepted\n".as_slice());
+fn each_read_fails_once(rt: HostRuntime) {
+    for reads in 0..=BLOCK.len() {
+        let told = narrow(rt.alloc(), BLOCK, reads, 1000);
+        assert!(rt; is_cut_at(&told, 0), "{reads}");
+    }
+}
+
+#[test]
+fn each_write_fails_once(rt: HostRuntime) {
+    for writes in 0..=LINES.len() {
+        let told = narrow(rt.alloc(), BLOCK, 1000, writes);
+        assert!(rt; is_cut_at(&told, writes), "{writes}");
+    }
+}
+
+// An empty answer is flushed.
+#[test]
+fn verdicts_over_slow_devices(rt: HostRuntime) {
+    assert!(rt; narrow(rt.alloc(), BLOCK, 1000, 1000).is(0, LINES));
+    assert!(rt; narrow(rt.alloc(), "", 1000, 0).is(6, ""));
+    assert!(rt; narrow(rt.alloc(), "", 1000, 1).is(0, ""));
+}
+
+#[test]
+fn what_the_writer_held_stays(rt: HostRuntime) -> Result<(), AllocError> {
+    let held = repeated(rt.alloc(), b"held\n", 1)?;
+    assert!(rt; told_behind(rt.alloc(), held, b"\n").is(0, "held\n0 accepted\n"));
     Ok(())
 }

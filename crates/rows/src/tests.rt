@@ -4,8 +4,8 @@ use cli::{Fault, Watched, run_engine, serial_engine};
 use std::alloc::{AllocError, Global};
 use std::io;
 use std::io::{Read, Write};
+use std::process::Abort;
 use std::sync::Wait;
-use std::test::Fail;
 
 /// What the engine wrote, and its status.
 #[derive(Drop)]
@@ -258,23 +258,16 @@ fn is_right<T: Wait>(rt: &T, alloc: Global, row: &Row) -> bool {
     )
 }
 
-/// The base and the block of the first row that does not come out.
-pub(crate) fn first_wrong<T: Wait>(
-    rt: &T,
-    alloc: Global,
-    rows: &[Row],
-) -> Option<(&'static str, &'static str)> {
+/// Each row comes out.
+pub(crate) fn check_rows<T: Wait + Abort>(rt: &T, alloc: Global, rows: &[Row]) {
     for row in rows {
-        if !is_right(rt, alloc, row) {
-            return Some((row.0, row.1));
-        }
+        assert!(rt; is_right(rt, alloc, row), "{}", row.1);
     }
-    None
 }
 
 #[test]
 fn rows(rt: HostRuntime) {
-    assert_eq!(rt; first_wrong(&rt, rt.alloc(), &ROWS), None);
+    check_rows(&rt, rt.alloc(), &ROWS);
 }
 
 /// A base, the status of a run of no request, and the new dataset.
@@ -328,13 +321,13 @@ fn bases(rt: HostRuntime) {
     }
 }
 
-/// A block of this many separator lines.
-pub(crate) fn separators(alloc: Global, count: u32) -> Result<Vec<u8>, AllocError> {
-    let mut block = Vec::new(alloc);
-    for _line in 0..count {
-        block.extend_from_slice(b"----\n")?;
+/// This many times the bytes.
+pub(crate) fn repeated(alloc: Global, bytes: &[u8], times: u32) -> Result<Vec<u8>, AllocError> {
+    let mut text = Vec::new(alloc);
+    for _time in 0..times {
+        text.extend_from_slice(bytes)?;
     }
-    Ok(block)
+    Ok(text)
 }
 
 pub(crate) fn line_count(text: &[u8]) -> usize {
@@ -342,15 +335,13 @@ pub(crate) fn line_count(text: &[u8]) -> usize {
 }
 
 #[test]
-fn many_requests(rt: HostRuntime) -> Result<(), Fail> {
-    let block = separators(rt.alloc(), 4095)?;
-    let answer = answer_to(&rt, rt.alloc(), b"", &block, 2);
-    assert_eq!(rt; answer.status, 0);
-    assert_eq!(rt; line_count(&answer.replies), 4096);
-    let block = separators(rt.alloc(), 4096)?;
-    let answer = answer_to(&rt, rt.alloc(), b"", &block, 2);
-    assert_eq!(rt; answer.status, 4);
-    assert!(rt; answer.dataset.is_empty());
+fn many_requests(rt: HostRuntime) -> Result<(), AllocError> {
+    let block = repeated(rt.alloc(), b"----\n", 4095)?;
+    let most = answer_to(&rt, rt.alloc(), b"", &block, 2);
+    assert!(rt; most.status == 0 && line_count(&most.replies) == 4096);
+    let block = repeated(rt.alloc(), b"----\n", 4096)?;
+    let more = answer_to(&rt, rt.alloc(), b"", &block, 2);
+    assert!(rt; more.status == 4 && more.dataset.is_empty());
     Ok(())
 }
 
@@ -474,52 +465,53 @@ fn one_byte_at_a_time(rt: HostRuntime) {
     assert!(rt; is_as_expected(&answer, 0, DATASET, REPLIES));
 }
 
+/// Whether a device failed when so much of the dataset and of the replies was written.
+fn stops_at<T: Wait>(rt: &T, alloc: Global, good: Good, dataset: usize, replies: usize) -> bool {
+    let answer = narrow_answer(rt, alloc, good);
+    answer.status == 6
+        && answer.dataset.len() == dataset
+        && answer.replies.len() == replies
+        && DATASET.as_bytes().starts_with(&answer.dataset)
+        && REPLIES.as_bytes().starts_with(&answer.replies)
+}
+
 #[test]
-fn each_read_fails_once(rt: HostRuntime) {
-    for reads in 0..=BASE.len() {
-        let good = Good {
-            base: reads,
-            ..ALL_GOOD
-        };
-        assert!(rt;
-            is_as_expected(&narrow_answer(&rt, rt.alloc(), good), 6, "", ""),
-            "base, {reads}"
-        );
-    }
-    for reads in 0..=BLOCK.len() {
-        let good = Good {
-            block: reads,
-            ..ALL_GOOD
-        };
-        assert!(rt;
-            is_as_expected(&narrow_answer(&rt, rt.alloc(), good), 6, "", ""),
-            "block, {reads}"
-        );
+fn each_read_of_the_base_fails_once(rt: HostRuntime) {
+    for base in 0..=BASE.len() {
+        let good = Good { base, ..ALL_GOOD };
+        assert!(rt; stops_at(&rt, rt.alloc(), good, 0, 0), "{base}");
     }
 }
 
 #[test]
-fn each_write_fails_once(rt: HostRuntime) {
-    for writes in 0..=DATASET.len() {
-        let good = Good {
-            dataset: writes,
-            ..ALL_GOOD
-        };
-        let answer = narrow_answer(&rt, rt.alloc(), good);
-        assert_eq!(rt; answer.status, 6);
-        assert_eq!(rt; answer.dataset.len(), writes);
-        assert!(rt; DATASET.as_bytes().starts_with(&answer.dataset));
-        assert!(rt; answer.replies.is_empty());
+fn each_read_of_the_block_fails_once(rt: HostRuntime) {
+    for block in 0..=BLOCK.len() {
+        let good = Good { block, ..ALL_GOOD };
+        assert!(rt; stops_at(&rt, rt.alloc(), good, 0, 0), "{block}");
     }
-    for writes in 0..=REPLIES.len() {
+}
+
+#[test]
+fn each_write_of_the_dataset_fails_once(rt: HostRuntime) {
+    for dataset in 0..=DATASET.len() {
         let good = Good {
-            replies: writes,
+            dataset,
             ..ALL_GOOD
         };
-        let answer = narrow_answer(&rt, rt.alloc(), good);
-        assert_eq!(rt; answer.status, 6);
-        assert!(rt; answer.dataset.as_slice() == DATASET.as_bytes());
-        assert_eq!(rt; answer.replies.len(), writes);
-        assert!(rt; REPLIES.as_bytes().starts_with(&answer.replies));
+        assert!(rt; stops_at(&rt, rt.alloc(), good, dataset, 0), "{dataset}");
+    }
+}
+
+#[test]
+fn each_write_of_the_replies_fails_once(rt: HostRuntime) {
+    for replies in 0..=REPLIES.len() {
+        let good = Good {
+            replies,
+            ..ALL_GOOD
+        };
+        assert!(rt;
+            stops_at(&rt, rt.alloc(), good, DATASET.len(), replies),
+            "{replies}"
+        );
     }
 }

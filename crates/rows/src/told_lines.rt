@@ -4,27 +4,36 @@ use command_line::{
 };
 use meaning::{Cause, Refusal, Reply};
 use std::alloc::{AllocError, Global};
-use std::test::Fail;
 
-/// What the words come to: the exit status, and the job's fields one a word.
-fn tell(alloc: Global, line: &str) -> Result<String, Fail> {
+fn words_of(alloc: Global, line: &str) -> Result<Vec<String>, AllocError> {
     let mut words = Vec::new(alloc);
     for word in line.split(' ') {
         words.push(String::from_str(alloc, word)?)?;
     }
-    Ok(match read_job(alloc, words.as_slice()) {
-        Ok(
-            Job::Run {
-                base,
-                block,
-                out,
-                workers,
-            },
-        ) => format!(in alloc; "{base} {block} {out} {workers}")?,
-        Ok(Job::Serial { base, block, out }) => format!(in alloc; "serial {base} {block} {out}")?,
-        Ok(Job::Check { block }) => format!(in alloc; "check {block}")?,
-        Err(fault) => format!(in alloc; "{}", Fault::Line(fault).status())?,
-    })
+    Ok(words)
+}
+
+/// A job's fields, one a word.
+fn told_job(alloc: Global, job: &Job) -> Result<String, AllocError> {
+    match job {
+        Job::Run {
+            base,
+            block,
+            out,
+            workers,
+        } => format!(in alloc; "{base} {block} {out} {workers}"),
+        Job::Serial { base, block, out } => format!(in alloc; "serial {base} {block} {out}"),
+        Job::Check { block } => format!(in alloc; "check {block}"),
+    }
+}
+
+/// What the words come to: a job, or the exit status.
+fn tell(alloc: Global, line: &str) -> Result<String, AllocError> {
+    let words = words_of(alloc, line)?;
+    match read_job(alloc, words.as_slice()) {
+        Ok(job) => told_job(alloc, &job),
+        Err(fault) => format!(in alloc; "{}", Fault::Line(fault).status()),
+    }
 }
 
 /// Command lines, and what each comes to.
@@ -62,9 +71,9 @@ const COMMANDS: [(&str, &str); 30] = [
 ];
 
 #[test]
-fn command_lines(rt: HostRuntime) -> Result<(), Fail> {
-    for (line, want) in COMMANDS {
-        assert!(rt; tell(rt.alloc(), line)?.as_str() == want, "{line}");
+fn command_lines(rt: HostRuntime) -> Result<(), AllocError> {
+    for (line, want) in &COMMANDS {
+        assert!(rt; tell(rt.alloc(), line)?.as_str() == *want, "{line}");
     }
     Ok(())
 }
@@ -80,7 +89,7 @@ const FAILED: Reply = Reply::Failed {
 };
 
 #[test]
-fn lines_of_replies(rt: HostRuntime) -> Result<(), Fail> {
+fn lines_of_replies(rt: HostRuntime) -> Result<(), AllocError> {
     let replies = [DONE, FAILED, Reply::Refused(Refusal::VariableInData)];
     let text = replies_text(rt.alloc(), replies.as_slice())?;
     assert!(rt;
@@ -90,7 +99,7 @@ fn lines_of_replies(rt: HostRuntime) -> Result<(), Fail> {
 }
 
 #[test]
-fn lines_of_verdicts(rt: HostRuntime) -> Result<(), Fail> {
+fn lines_of_verdicts(rt: HostRuntime) -> Result<(), AllocError> {
     let verdicts = [None, Some(Refusal::Limit)];
     let text = verdicts_text(rt.alloc(), verdicts.as_slice())?;
     assert!(rt; text.as_str() == "0 accepted\n1 refused limit\n");
@@ -102,14 +111,18 @@ fn is_told(alloc: Global, fault: &Fault, status: u8, line: &str) -> Result<bool,
     Ok(found == status && text.as_str() == line)
 }
 
+/// The fault of words that make no command.
+fn wrong_words(alloc: Global) -> Result<Fault, AllocError> {
+    let message = Message::new(String::from_str(alloc, "no such command")?);
+    Ok(Fault::Line(LineFault::Wrong(message)))
+}
+
 #[test]
-fn lines_of_faults(rt: HostRuntime) -> Result<(), Fail> {
+fn lines_of_faults(rt: HostRuntime) -> Result<(), AllocError> {
     let alloc = rt.alloc();
     assert!(rt; is_told(alloc, &Fault::BadLine(17), 3, "base: bad line 17")?);
     let no_block = Fault::CannotRead(File::Block);
     assert!(rt; is_told(alloc, &no_block, 6, "file: cannot read block")?);
-    let message = Message::new(String::from_str(alloc, "no such command")?);
-    let wrong = Fault::Line(LineFault::Wrong(message));
-    assert!(rt; is_told(alloc, &wrong, 2, "no such command")?);
+    assert!(rt; is_told(alloc, &wrong_words(alloc)?, 2, "no such command")?);
     Ok(())
 }

@@ -1,13 +1,12 @@
 //! Readers and writers that are slow, or fail.
-ghost use Rattle.std.specs.Prelude.{◌≡◌, ◌<◌, ◌-◌, ◌^◌, IfOk};
+ghost use Rattle.std.specs.Prelude.{◌<◌, ◌-◌, ◌^◌};
 
-use crate::made::two_graphs;
-use nquads::{BaseFault, Failed, Watched, WriteFault, canonical_text, read, read_bytes, write};
+use crate::made::{TWO_GRAPHS, fault_of, two_graphs};
+use nquads::{BaseFault, Watched, WriteFault, canonical_text, read, write};
 use std::alloc::{AllocError, Global};
 use std::io;
 use std::io::{Read, Write};
 use std::test::Fail;
-use terms::DataSet;
 
 /// A reader that gives one byte at a time, and fails at a read that is counted down to.
 #[derive(Drop)]
@@ -64,40 +63,34 @@ impl Write for Narrow {
     }
 }
 
-/// A writer that has room for all that the tests write, so that it asks for no memory later.
-fn with_room(alloc: Global, good_calls: usize) -> Result<Watched<Narrow>, AllocError>
-    ensures { IfOk result (λ writer. writer.failures ≡ 0) }
-{
+/// Room for all that the tests write, so that a writer asks for no memory later.
+fn room(alloc: Global) -> Result<Vec<u8>, AllocError> {
     let mut text = Vec::new(alloc);
     text.reserve(128)?;
-    Ok(Watched::new(Narrow { text, good_calls }))
+    Ok(text)
 }
 
 const TEXT: &[u8] = b"<x:b> <x:p> <x:c> .\r\n# no more\r<x:a> <x:p> <x:c> .";
 
+const WRITTEN: &[u8] = b"<x:a> <x:p> <x:c> .\n<x:b> <x:p> <x:c> .\n";
+
+/// Whether what a reader gives has that canonical text, and no read failed.
+fn is_read<R: Read>(alloc: Global, reader: &mut Watched<R>) -> Result<bool, BaseFault>
+    requires { reader.old.failures < 2 ^ 64 - 1 }
+{
+    let dataset = read(alloc, reader)?;
+    Ok(canonical_text(alloc, &dataset, 1)?.as_slice() == WRITTEN && reader.failures == 0)
+}
+
 #[test]
-fn slow_or_at_once(rt: HostRuntime) -> Result<(), Fail> {
-    let whole = read_bytes(rt.alloc(), TEXT)?;
-    let wanted = canonical_text(rt.alloc(), &whole, 1)?;
-    let at_once = read(rt.alloc(), &mut Watched::new(TEXT))?;
-    assert!(rt; canonical_text(rt.alloc(), &at_once, 1)?.as_slice() == wanted.as_slice());
+fn slow_or_at_once(rt: HostRuntime) -> Result<(), BaseFault> {
+    assert!(rt; is_read(rt.alloc(), &mut Watched::new(TEXT))?);
     let mut slow = Watched::new(Slow {
         rest: TEXT,
         good_reads: 1000,
     });
-    let slowly = read(rt.alloc(), &mut slow)?;
-    assert_eq!(rt; slow.failures, 0);
-    assert!(rt; canonical_text(rt.alloc(), &slowly, 1)?.as_slice() == wanted.as_slice());
+    assert!(rt; is_read(rt.alloc(), &mut slow)?);
     Ok(())
-}
-
-/// Whether the reader failed. An `Err` where memory ran out.
-fn read_failed(outcome: Result<DataSet, BaseFault>) -> Result<bool, BaseFault> {
-    match outcome {
-        Err(BaseFault::OutOfMemory) => Err(BaseFault::OutOfMemory),
-        Err(BaseFault::Device) => Ok(true),
-        _ => Ok(false),
-    }
 }
 
 #[test]
@@ -108,7 +101,8 @@ fn each_read_fails_once(rt: HostRuntime) -> Result<(), Fail> {
             good_reads,
         });
         let outcome = read(rt.alloc(), &mut reader);
-        assert!(rt; read_failed(outcome)?, "{good_reads}");
+        let fault = fault_of(outcome)?;
+        assert!(rt; matches!(fault, Some(BaseFault::Device)), "{good_reads}");
         assert_eq!(rt; reader.failures, 1);
     }
     Ok(())
@@ -126,14 +120,17 @@ fn write_failed(outcome: Result<(), WriteFault>) -> Result<bool, WriteFault> {
 #[test]
 fn each_write_fails_once(rt: HostRuntime) -> Result<(), Fail> {
     let dataset = two_graphs(rt.alloc())?;
-    let text = canonical_text(rt.alloc(), &dataset, 1)?;
-    for good_calls in 0..text.len() {
-        let mut writer = with_room(rt.alloc(), good_calls)?;
+    for good_calls in 0..TWO_GRAPHS.len() {
+        let text = room(rt.alloc())?;
+        let mut writer = Watched::new(Narrow { text, good_calls });
         let outcome = write(rt.alloc(), &mut writer, &dataset, 1);
         assert!(rt; write_failed(outcome)?, "{good_calls}");
         assert_eq!(rt; writer.failures, 1);
         assert_eq!(rt; writer.inner.text.len(), good_calls);
-        assert!(rt; text.starts_with(&writer.inner.text), "{good_calls}");
+        assert!(rt;
+            TWO_GRAPHS.as_bytes().starts_with(&writer.inner.text),
+            "{good_calls}"
+        );
     }
     Ok(())
 }
@@ -163,7 +160,11 @@ fn single_reads(rt: HostRuntime) {
 
 #[test]
 fn single_writes(rt: HostRuntime) -> Result<(), Fail> {
-    let mut writer = with_room(rt.alloc(), 2)?;
+    let text = room(rt.alloc())?;
+    let mut writer = Watched::new(Narrow {
+        text,
+        good_calls: 2,
+    });
     assert!(rt; matches!(writer.write(b"ab"), Ok(1)));
     assert_eq!(rt; writer.failures, 0);
     assert!(rt; matches!(writer.write(b""), Ok(0)));
@@ -176,7 +177,11 @@ fn single_writes(rt: HostRuntime) -> Result<(), Fail> {
 
 #[test]
 fn whole_writes(rt: HostRuntime) -> Result<(), Fail> {
-    let mut writer = with_room(rt.alloc(), 3)?;
+    let text = room(rt.alloc())?;
+    let mut writer = Watched::new(Narrow {
+        text,
+        good_calls: 3,
+    });
     assert!(rt; writer.write_all(b"bc").is_ok());
     assert_eq!(rt; writer.failures, 0);
     assert!(rt; writer.flush().is_ok());

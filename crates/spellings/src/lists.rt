@@ -2,28 +2,25 @@
 use datasets::Id;
 use iris::{Iri, is_iri, is_utf8};
 use sets::{Items, set_of};
-use std::test::Fail;
+use std::alloc::{AllocError, Global};
 
 #[test]
-fn items(rt: HostRuntime) -> Result<(), Fail> {
+fn items(rt: HostRuntime) -> Result<(), AllocError> {
     let mut list = Items::new(rt.alloc());
     assert!(rt; list.is_empty());
     for number in [3u8, 1, 3] {
         list.push(number)?;
     }
-    assert_eq!(rt; list.as_slice(), [3, 1, 3].as_slice());
     let copy = list.copied(rt.alloc())?;
     list.clear();
-    assert_eq!(rt; list.len(), 0);
-    assert_eq!(rt; copy.len(), 3);
-    assert!(rt; !copy.is_empty());
+    assert!(rt; list.is_empty() && copy.len() == 3);
     let again = Items::from_vec(copy.into_vec());
-    assert_eq!(rt; again.as_slice(), [3, 1, 3].as_slice());
+    assert!(rt; again.as_slice() == [3, 1, 3].as_slice());
     Ok(())
 }
 
 #[test]
-fn sets_of_numbers(rt: HostRuntime) -> Result<(), Fail> {
+fn sets_of_numbers(rt: HostRuntime) -> Result<(), AllocError> {
     let mut members = Vec::new(rt.alloc());
     for number in [5, 2, 9, 2, 5] {
         members.push(Id::Known(number))?;
@@ -49,23 +46,26 @@ const IRIS: [(&str, bool); 12] = [
     ("x:\\u0041", false),
 ];
 
+/// Whether a copy of the IRI of this text has it, if it is one.
+fn has_text(alloc: Global, text: &str) -> Result<Option<bool>, AllocError> {
+    let Some(iri) = Iri::check(alloc, text)? else {
+        return Ok(None);
+    };
+    Ok(Some(iri.copied(alloc)?.as_str() == text))
+}
+
 #[test]
-fn iris_alone(rt: HostRuntime) -> Result<(), Fail> {
+fn iris_alone(rt: HostRuntime) -> Result<(), AllocError> {
     for (text, is_one) in &IRIS {
         assert_eq!(rt; is_iri(text.as_bytes()), *is_one, "{text:?}");
-        let found = Iri::check(rt.alloc(), text)?;
-        assert_eq!(rt; found.is_some(), *is_one, "{text:?}");
-        if let Some(iri) = found {
-            assert!(rt; iri.as_str() == *text, "{text:?}");
-            assert!(rt; iri.copied(rt.alloc())?.as_str() == *text, "{text:?}");
-        }
+        let found = has_text(rt.alloc(), text)?;
+        assert!(rt; found == is_one.then_some(true), "{text:?}");
     }
     Ok(())
 }
 
 #[test]
-fn utf8(rt: HostRuntime) -> Result<(), Fail> {
+fn utf8(rt: HostRuntime) {
     assert!(rt; is_utf8("é日".as_bytes()));
     assert!(rt; !is_utf8(b"\xc3"));
-    Ok(())
 }

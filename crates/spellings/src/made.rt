@@ -1,6 +1,6 @@
-//! Terms and quads for the tests.
-use datasets::Quad;
+//! Terms and datasets for the tests.
 use iris::Iri;
+use nquads::{BaseFault, canonical_text, read_bytes};
 use std::alloc::Global;
 use std::test::Fail;
 use terms::{DataSet, Term};
@@ -13,44 +13,24 @@ pub fn is_iri(term: &Term, text: &str) -> bool {
     matches!(term, Term::Iri(iri) if iri.as_str() == text)
 }
 
-/// The triple of three IRIs in the graph of this name, or in the default graph.
-pub fn quad(alloc: Global, texts: [&str; 3], graph: Option<&str>) -> Result<Quad<Term>, Fail> {
-    let [subject, predicate, object] = texts;
-    let graph = match graph {
-        None => None,
-        Some(name) => Some(iri(alloc, name)?),
-    };
-    Ok(Quad {
-        subject: iri(alloc, subject)?,
-        predicate: iri(alloc, predicate)?,
-        object: iri(alloc, object)?,
-        graph,
-    })
+/// The canonical text of two triples, one of them in a graph, and an empty graph.
+pub const TWO_GRAPHS: &str = "#@graph <x:e>\n<x:a> <x:p> <x:c> <x:g> .\n<x:b> <x:p> <x:c> .\n";
+
+pub fn two_graphs(alloc: Global) -> Result<DataSet, BaseFault> {
+    read_bytes(alloc, TWO_GRAPHS.as_bytes())
 }
 
-fn is_iri_at(terms: &[Term], place: u32, text: &str) -> bool {
-    matches!(terms.get(place as usize), Some(term) if is_iri(term, text))
+/// Whether the canonical text of what a text spells is this one.
+pub fn spells(alloc: Global, text: &[u8], canonical: &[u8]) -> Result<bool, BaseFault> {
+    let dataset = read_bytes(alloc, text)?;
+    Ok(canonical_text(alloc, &dataset, 1)?.as_slice() == canonical)
 }
 
-/// Whether a quad by places is the triple of three IRIs in the graph of this name, or in the default graph.
-pub fn is_quad(terms: &[Term], quad: &Quad<u32>, texts: [&str; 3], graph: Option<&str>) -> bool {
-    let [subject, predicate, object] = texts;
-    let is_there = match (quad.graph, graph) {
-        (None, None) => true,
-        (Some(name), Some(text)) => is_iri_at(terms, name, text),
-        _ => false,
-    };
-    is_there
-        && is_iri_at(terms, quad.subject, subject)
-        && is_iri_at(terms, quad.predicate, predicate)
-        && is_iri_at(terms, quad.object, object)
-}
-
-/// Two triples, one of them in a graph, and an empty graph.
-pub fn two_graphs(alloc: Global) -> Result<DataSet, Fail> {
-    let mut dataset = DataSet::new(alloc);
-    dataset.add(quad(alloc, ["x:b", "x:p", "x:c"], None)?)?;
-    dataset.add(quad(alloc, ["x:a", "x:p", "x:c"], Some("x:g"))?)?;
-    dataset.declare(iri(alloc, "x:e")?)?;
-    Ok(dataset)
+/// What is wrong with a text by an outcome, if anything is. An `Err` where memory ran out.
+pub fn fault_of(outcome: Result<DataSet, BaseFault>) -> Result<Option<BaseFault>, BaseFault> {
+    match outcome {
+        Err(BaseFault::OutOfMemory) => Err(BaseFault::OutOfMemory),
+        Err(fault) => Ok(Some(fault)),
+        Ok(_) => Ok(None),
+    }
 }

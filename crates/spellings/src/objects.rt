@@ -1,8 +1,7 @@
 //! Objects of statements: strings with their escapes, tags, datatypes, labels and IRIs.
-use nquads::{BaseFault, canonical_text, read_bytes};
+use crate::made::{fault_of, spells};
+use nquads::{BaseFault, read_bytes};
 use std::alloc::{AllocError, Global};
-use std::test::Fail;
-use terms::DataSet;
 
 /// Objects as they are written, and their canonical texts.
 const OBJECTS: [(&str, &str); 24] = [
@@ -91,39 +90,37 @@ const NO_OBJECTS: [&str; 46] = [
     "<x:\"a\">",
 ];
 
-/// What a statement with this object spells.
-fn stated(alloc: Global, object: &str) -> Result<Result<DataSet, BaseFault>, AllocError> {
-    let line = format!(in alloc; "<x:a> <x:p> {object} .")?;
-    Ok(read_bytes(alloc, line.as_bytes()))
+/// A statement with this object.
+fn stated(alloc: Global, object: &str) -> Result<String, AllocError> {
+    format!(in alloc; "<x:a> <x:p> {object} .\n")
+}
+
+/// Whether an object as it is written has this canonical text.
+fn is_written(alloc: Global, object: &str, canonical: &str) -> Result<bool, BaseFault> {
+    let (line, wanted) = (stated(alloc, object)?, stated(alloc, canonical)?);
+    spells(alloc, line.as_bytes(), wanted.as_bytes())
 }
 
 #[test]
-fn objects(rt: HostRuntime) -> Result<(), Fail> {
-    for (object, written) in &OBJECTS {
-        let dataset = stated(rt.alloc(), object)??;
-        let text = canonical_text(rt.alloc(), &dataset, 1)?;
-        let wanted = format!(in rt.alloc(); "<x:a> <x:p> {written} .\n")?;
-        assert!(rt; text.as_slice() == wanted.as_bytes(), "{object:?}");
-        let again = read_bytes(rt.alloc(), text.as_slice())?;
-        let twice = canonical_text(rt.alloc(), &again, 1)?;
-        assert!(rt; twice.as_slice() == wanted.as_bytes(), "{object:?}");
+fn objects(rt: HostRuntime) -> Result<(), BaseFault> {
+    for (object, canonical) in &OBJECTS {
+        assert!(rt; is_written(rt.alloc(), object, canonical)?, "{object:?}");
+        assert!(rt; is_written(rt.alloc(), canonical, canonical)?, "{object:?}");
     }
     Ok(())
 }
 
-/// Whether the first line is bad. An `Err` where memory ran out.
-fn is_refused(outcome: Result<DataSet, BaseFault>) -> Result<bool, BaseFault> {
-    match outcome {
-        Err(BaseFault::OutOfMemory) => Err(BaseFault::OutOfMemory),
-        Err(BaseFault::BadLine(1)) => Ok(true),
-        _ => Ok(false),
-    }
+/// What is wrong with a statement with this object, if anything is.
+fn fault_with(alloc: Global, object: &str) -> Result<Option<BaseFault>, BaseFault> {
+    let line = stated(alloc, object)?;
+    fault_of(read_bytes(alloc, line.as_bytes()))
 }
 
 #[test]
-fn no_objects(rt: HostRuntime) -> Result<(), Fail> {
+fn no_objects(rt: HostRuntime) -> Result<(), BaseFault> {
     for object in &NO_OBJECTS {
-        assert!(rt; is_refused(stated(rt.alloc(), object)?)?, "{object:?}");
+        let fault = fault_with(rt.alloc(), object)?;
+        assert!(rt; matches!(fault, Some(BaseFault::BadLine(1))), "{object:?}");
     }
     Ok(())
 }
