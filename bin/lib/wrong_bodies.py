@@ -19,6 +19,8 @@ from crates import rt, rtlib
 OPEN = "an open goal"
 BY_TYPE = "a hand-written answer of another type"
 BY_NAME = "a hand-written answer names what it took away"
+UNREACHED = "BAD EDIT: the check did not come to the proofs"
+PROVED = "NOT REFUSED: it is still proved"
 
 
 def module_of(file):
@@ -309,16 +311,15 @@ def tried(crate, edits, room, jobs):
         ran, half = copy.check(f"{room}/kept", jobs), len(copy.edits) // 2
         told, seconds = copy.told(ran), seconds + ran.seconds
         shutil.rmtree(copy.folder)
-        if told is None and half:
-            groups += [copy.edits[:half], copy.edits[half:]]
-            continue
-        for edit in copy.edits:
-            if told and edit.name in told:
-                results[edit.name] = True, evidence(told[edit.name])
-            elif half:
-                groups.append([edit])
-            else:
-                results[edit.name] = False, "BAD EDIT: the check did not come to the proofs" if told is None else "NOT REFUSED: it is still proved"
+        results.update((name, (True, evidence(what))) for name, what in (told or {}).items())
+        # those of which it tells nothing: what they call may be refused beside them
+        rest = [it for it in copy.edits if it.name not in results]
+        if not half:
+            results.update((it.name, (False, UNREACHED if told is None else PROVED)) for it in rest)
+        elif len(rest) < len(copy.edits):
+            groups += [rest] if rest else []
+        else:
+            groups += [rest[:half], rest[half:]]
     return results, seconds
 
 

@@ -16,5 +16,6 @@ pub mod validate;
 mod version_overlay;
 
 pub use machine::Machine;
+pub use spoken::Spoken;
 pub use state::{Entry, Event, Noted, Pass, Reply, Slot, Status};
 pub use validate::Verdict;
