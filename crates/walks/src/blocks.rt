@@ -101,51 +101,75 @@ fn is_come_to(
     Ok(outcome.replies.as_slice() == replies && text.as_slice() == quads.as_bytes())
 }
 
+/// Whether a row comes out.
+fn comes_out(alloc: Global, row: &Row) -> Result<bool, Fail> {
+    let numbered = numbered(alloc, row.base, row.block)?;
+    Ok(is_come_to(alloc, &numbered, row.replies, row.quads)?)
+}
+
 #[test]
 fn one_after_another(rt: HostRuntime) -> Result<(), Fail> {
-    let alloc = rt.alloc();
     for row in &ROWS {
-        let numbered = numbered(alloc, row.base, row.block)?;
-        assert!(rt;
-            is_come_to(alloc, &numbered, row.replies, row.quads)?,
-            "{}",
-            row.block
-        );
+        assert!(rt; comes_out(rt.alloc(), row)?, "{}", row.block);
     }
     Ok(())
 }
 
-// Sixteen quads are put in, taken out, put in and so on, one a request.
-fn rounds(alloc: Global) -> Result<(String, Vec<Reply>), AllocError> {
+const DIGITS: [&str; 4] = ["1", "2", "3", "4"];
+
+// Whether the request at this place puts its quad in. The others take it out.
+fn is_in(place: usize) -> bool {
+    (place / 16) % 2 == 0
+}
+
+fn push_request(text: &mut String, place: usize) -> Result<(), AllocError> {
+    text.push_str(if is_in(place) { "INSERT" } else { "DELETE" })?;
+    text.push_str(" DATA { <x:a> <x:p> ")?;
+    text.push_str(DIGITS[place % 4])?;
+    text.push_str(DIGITS[place / 4 % 4])?;
+    text.push_str(" }\n----\n")
+}
+
+// Sixteen quads are put in, taken out, put in and so on, one a request. The last request is refused.
+fn rounds(alloc: Global) -> Result<String, AllocError> {
     let mut text = String::new(alloc);
-    let mut replies = Vec::new(alloc);
-    for place in 0..208u64 {
-        let is_in = (place / 16) % 2 == 0;
-        text.push_str(if is_in { "INSERT" } else { "DELETE" })?;
-        text.push_str(" DATA { <x:a> <x:p> ")?;
-        text.push_str(["1", "2", "3", "4"][(place % 4) as usize])?;
-        text.push_str(["1", "2", "3", "4"][(place / 4 % 4) as usize])?;
-        text.push_str(" }\n----\n")?;
-        replies.push(Reply::Done {
-            added: if is_in { 1 } else { 0 },
-            removed: if is_in { 0 } else { 1 },
-        })?;
+    for place in 0..208 {
+        push_request(&mut text, place)?;
     }
     text.push_str("INSERT")?;
-    replies.push(Reply::Refused(Refusal::Syntax))?;
-    Ok((text, replies))
+    Ok(text)
+}
+
+fn reply_at(place: usize) -> Reply {
+    if place == 208 {
+        return Reply::Refused(Refusal::Syntax);
+    }
+    let (added, removed) = if is_in(place) { (1, 0) } else { (0, 1) };
+    Reply::Done { added, removed }
+}
+
+fn are_as_told(replies: &[Reply]) -> bool {
+    for place in 0..replies.len() {
+        if replies[place] != reply_at(place) {
+            return false;
+        }
+    }
+    true
+}
+
+// Whether each request of the rounds is told what it does, and the sixteen quads are in at the end.
+fn is_joined(alloc: Global, numbered: &Numbered) -> Result<bool, AllocError> {
+    let Some(outcome) = outcome(alloc, numbered)? else {
+        return Ok(false);
+    };
+    let replies = outcome.replies.as_slice();
+    Ok(replies.len() == 209 && are_as_told(replies) && outcome.dataset.quads().len() == 16)
 }
 
 #[test]
 fn changes_are_joined(rt: HostRuntime) -> Result<(), Fail> {
-    let alloc = rt.alloc();
-    let (block, replies) = rounds(alloc)?;
-    let numbered = numbered(alloc, "", block.as_str())?;
-    let Some(outcome) = outcome(alloc, &numbered)? else {
-        assert!(rt; false);
-        return Ok(());
-    };
-    assert!(rt; outcome.replies.as_slice() == replies.as_slice());
-    assert!(rt; outcome.dataset.quads().len() == 16);
+    let block = rounds(rt.alloc())?;
+    let numbered = numbered(rt.alloc(), "", block.as_str())?;
+    assert!(rt; is_joined(rt.alloc(), &numbered)?);
     Ok(())
 }

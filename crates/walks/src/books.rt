@@ -175,18 +175,20 @@ fn is_come_to(
     )
 }
 
+// Whether a walk over an empty base comes out.
+fn comes_out(rt: &impl Abort, alloc: Global, base: &View, walk: &Walk) -> Result<bool, Fail>
+    requires { IsDataset base.now }
+{
+    let numbered = numbered(alloc, "", walk.block)?;
+    let book = walked(rt, alloc, &numbered, base, walk.lines)?;
+    Ok(is_come_to(alloc, &numbered, &book, walk)?)
+}
+
 #[test]
 fn walks(rt: HostRuntime) -> Result<(), Fail> {
-    let alloc = rt.alloc();
-    let base = View::new(alloc);
+    let base = View::new(rt.alloc());
     for walk in &WALKS {
-        let numbered = numbered(alloc, "", walk.block)?;
-        let book = walked(&rt, alloc, &numbered, &base, walk.lines)?;
-        assert!(rt;
-            is_come_to(alloc, &numbered, &book, walk)?,
-            "{}",
-            walk.block
-        );
+        assert!(rt; comes_out(&rt, rt.alloc(), &base, walk)?, "{}", walk.block);
     }
     Ok(())
 }

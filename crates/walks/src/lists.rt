@@ -1,7 +1,7 @@
 //! Lists, by calls that no walk makes.
+use block_machine::Spoken;
 use block_machine::validate::{Verdict, check_list};
 use datasets::{Id, Read};
-use quad_index::Hints;
 use reads::lists::name_if;
 use std::alloc::{AllocError, Global};
 
@@ -18,8 +18,8 @@ fn name_alone(rt: HostRuntime) -> Result<(), AllocError> {
 
 // What the check of a list finds at a request before which there is none.
 fn is_first_list(alloc: Global, list: &[(usize, u64)]) -> Result<bool, AllocError> {
-    let hints = Hints::new(alloc);
-    let verdict = check_list(alloc, &hints, &[], &[], 0, &Read::Graphs, list)?;
+    let spoken = Spoken::new(alloc);
+    let verdict = check_list(alloc, &spoken, &[], 0, &Read::Graphs, list)?;
     Ok(matches!(verdict, Verdict::Same))
 }
 

@@ -5,18 +5,23 @@ ghost use Rattle.update.specs.Asked.{IsShort};
 use datasets::{Id, Quad};
 use dict::Dict;
 use meaning::Request;
-use nquads::read_bytes;
+use nquads::{BaseFault, read_bytes};
 use numbering::{Numbered, number};
-use rules::split;
+use rules::{Block, split};
 use std::alloc::{AllocError, Global};
 use std::test::Fail;
 use terms::{Term, canonical};
 
+// A base and a block that is read at numbers.
+fn numbered_over(alloc: Global, base: &str, block: &Block) -> Result<Numbered, BaseFault> {
+    let base = read_bytes(alloc, base.as_bytes())?;
+    Ok(number(alloc, &base, block)?)
+}
+
 /// A base and a block at numbers.
 pub fn numbered(alloc: Global, base: &str, block: &str) -> Result<Numbered, Fail> {
-    let base = read_bytes(alloc, base.as_bytes())?;
     let block = split(alloc, block.as_bytes())?;
-    Ok(number(alloc, &base, &block)?)
+    Ok(numbered_over(alloc, base, &block)?)
 }
 
 /// The request at one of the first thousand places, which has few operations.

@@ -49,17 +49,36 @@ fn run<S: Source>(
     Ok(execute(alloc, terms, 7, request, source)?.into_finished())
 }
 
+// A line for each name.
+fn tell_names(
+    alloc: Global,
+    terms: &Dict,
+    sign: u8,
+    names: &[Id],
+    text: &mut Vec<u8>,
+) -> Result<(), AllocError> {
+    for name in names {
+        tell(alloc, terms, sign, &[*name], text)?;
+    }
+    Ok(())
+}
+
 // A line for each quad and for each name that comes or goes.
+fn tell_delta(
+    alloc: Global,
+    terms: &Dict,
+    delta: &Delta,
+    text: &mut Vec<u8>,
+) -> Result<(), AllocError> {
+    tell_quads(alloc, terms, b'+', delta.present(), text)?;
+    tell_quads(alloc, terms, b'-', delta.absent(), text)?;
+    tell_names(alloc, terms, b'#', delta.there(), text)?;
+    tell_names(alloc, terms, b'~', delta.gone(), text)
+}
+
 fn told(alloc: Global, terms: &Dict, delta: &Delta) -> Result<Vec<u8>, AllocError> {
     let mut text = Vec::new(alloc);
-    tell_quads(alloc, terms, b'+', delta.present(), &mut text)?;
-    tell_quads(alloc, terms, b'-', delta.absent(), &mut text)?;
-    for name in delta.there() {
-        tell(alloc, terms, b'#', &[*name], &mut text)?;
-    }
-    for name in delta.gone() {
-        tell(alloc, terms, b'~', &[*name], &mut text)?;
-    }
+    tell_delta(alloc, terms, delta, &mut text)?;
     Ok(text)
 }
 

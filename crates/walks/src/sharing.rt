@@ -30,8 +30,7 @@ fn opened<'a>(
     ensures count { IfOk result (λ r. vec_len r.1 ≡ seats) }
     ensures each { IfOk result (λ r. All (IsPassFor (record { table = r.0; subject = topic.now })) r.1.items) }
 {
-    let (shared, passes) = SharedBlock::new(alloc, topic.terms, topic.base, topic.block, seats)?;
-    Ok((shared, passes))
+    SharedBlock::new(alloc, topic.terms, topic.base, topic.block, seats)
 }
 
 // The last of the passes.
@@ -192,12 +191,12 @@ fn run_four<'a, R: Threads + Wait + Sync>(
     Ok((book, [of_a, of_b, of_c, of_d]))
 }
 
-// A block of 64 requests: the two of the other test again and again.
-fn long_block(alloc: Global) -> Result<String, AllocError> {
-    let mut text = String::from_str(alloc, BLOCK)?;
+// A block again and again, 32 times.
+fn long_block(alloc: Global, block: &str) -> Result<String, AllocError> {
+    let mut text = String::from_str(alloc, block)?;
     for _ in 1..32 {
         text.push_str("\n----\n")?;
-        text.push_str(BLOCK)?;
+        text.push_str(block)?;
     }
     Ok(text)
 }
@@ -221,7 +220,7 @@ fn is_whole(alloc: Global, book: &Book<'_>, told: &[Vec<Line>; 4]) -> Result<boo
 #[test]
 fn four_threads(rt: HostRuntime) -> Result<(), Fail> {
     let alloc = rt.alloc();
-    let numbered = numbered(alloc, "", long_block(alloc)?.as_str())?;
+    let numbered = numbered(alloc, "", long_block(alloc, BLOCK)?.as_str())?;
     let base = View::new(alloc);
     let topic = Topic {
         terms: numbered.base.terms(),
