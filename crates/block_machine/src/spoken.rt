@@ -38,7 +38,12 @@ impl Spoken {
     }
 
     /// The request speaks of all that its delta covers. What was there stays, also where memory runs out.
-    pub fn put(&mut self, alloc: Global, delta: &Delta, request: usize) -> Result<(), AllocError>
+    pub(crate) fn put(
+        &mut self,
+        alloc: Global,
+        delta: &Delta,
+        request: usize,
+    ) -> Result<(), AllocError>
         ensures added { OnOk result ((read : Asked) → covers delta.now read ≡ true → speaks self.new read request ≡ true) }
         ensures kept { (read : Asked) (j : ℕ) → speaks self.old read j ≡ true → speaks self.new read j ≡ true }
     {
@@ -53,7 +58,7 @@ impl Spoken {
     }
 
     /// The requests that may have spoken of what the read asks for, in any order and with repeats: none of them is missing.
-    pub fn requests(&self, alloc: Global, read: &Read<Id>) -> Result<Vec<usize>, AllocError>
+    pub(crate) fn requests(&self, alloc: Global, read: &Read<Id>) -> Result<Vec<usize>, AllocError>
         ensures { IfOk result (λ found. (j : ℕ) → speaks self.now read.now j ≡ true → list_any (λ r. r == j) found.items ≡ true) }
     {
         match read {
