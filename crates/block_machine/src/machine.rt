@@ -1,10 +1,10 @@
 //! The machine: one method for each event.
-ghost use Rattle.std.specs.Prelude.{◌≡◌, ◌<◌, ◌≤◌, ◌+◌, ◌^◌, ◌↔◌, ℕ, length, map, slice_get, Some, false, IsTrue, IfOk, OnOk, OnErr, option_copied};
+ghost use Rattle.std.specs.Prelude.{◌≡◌, ◌<◌, ◌≤◌, ◌+◌, ◌^◌, ◌↔◌, ℕ, length, map, nat_le, slice_get, Some, true, false, IsTrue, IfOk, OnOk, OnErr, option_copied};
 ghost use Rattle.reads.specs.Reads.{View as Base};
 ghost use Rattle.block_machine.specs.declared.state.Noted.{Noted as Described};
 ghost use Rattle.block_machine.specs.Serial.{replies_to};
 ghost use Rattle.block_machine.specs.Lower.{Leads, stands_after};
-ghost use Rattle.block_machine.specs.Machine.{fresh, view_at, slot_at, note_now, note_of, can_commit, transcript_of, CheckVerdict, NextNamesAnswer, NoteVerdict, NoteReply, verdict_reply, status_of, is_closed as closed, HasNext, IsReady, IsPlain, IsAllowed, after};
+ghost use Rattle.block_machine.specs.Machine.{fresh, view_at, slot_at, is_current, note_now, note_of, can_commit, transcript_of, CheckVerdict, NextNamesAnswer, NoteVerdict, NoteReply, verdict_reply, status_of, is_closed as closed, HasNext, IsReady, IsPlain, IsAllowed, after};
 
 use crate::candidates::candidates_for;
 use crate::spoken::Spoken;
@@ -67,6 +67,21 @@ impl Machine {
         ensures { result ≡ self.now.front }
     {
         self.front
+    }
+
+    /// The requests' parts, in their order. Those below the front are committed.
+    pub fn slots(&self) -> &[Slot]
+        ensures slots { result.now ≡ self.now.slots }
+        ensures committed { (j : ℕ) → j < self.now.front → closed (Some (slot_at self.now.slots j).status) ≡ true }
+    {
+        self.slots.as_slice()
+    }
+
+    /// The clock when a committed request last changed what it publishes, 0 before any did.
+    pub fn latest(&self) -> u64
+        ensures { (moment : ℕ) → is_current self.now.slots self.now.front moment ≡ nat_le result moment }
+    {
+        self.latest
     }
 
     /// The view of the committed requests.

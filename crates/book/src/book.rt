@@ -1,13 +1,13 @@
 //! A block's machine with its journal.
-ghost use Rattle.std.specs.Prelude.{◌≡◌, [], ◌∷◌, ◌++◌, IfOk, OnErr};
+ghost use Rattle.std.specs.Prelude.{◌≡◌, ◌<◌, [], ◌∷◌, ◌++◌, ℕ, Some, true, nat_le, IfOk, OnErr};
 ghost use Rattle.reads.specs.Reads.{IsDataset};
-ghost use Rattle.block_machine.specs.Machine.{IsAllowed};
+ghost use Rattle.block_machine.specs.Machine.{IsAllowed, is_closed, is_current, slot_at};
 ghost use Rattle.block_machine.specs.Serial.{IsHistory};
 ghost use Rattle.book.specs.Run.{state_of, setting_of, front_run, kept, IsSoundEvent};
 
 use crate::copies::{copy_of_event, kept_event};
 use block_machine::laws::{front_is_serial, front_is_within, history_goes_on, ready_after};
-use block_machine::{Entry, Event, Machine, Reply};
+use block_machine::{Entry, Event, Machine, Reply, Slot};
 use datasets::Id;
 use delta::Outcome;
 use dict::Dict;
@@ -109,6 +109,21 @@ impl<'a> Book<'a> {
         ensures { result ≡ (state_of self.now).front }
     {
         self.machine.front()
+    }
+
+    /// The machine's part of each request, in their order. Those below the front are committed.
+    pub fn slots(&self) -> &[Slot]
+        ensures slots { result.now ≡ (state_of self.now).slots }
+        ensures committed { (j : ℕ) → j < (state_of self.now).front → is_closed (Some (slot_at (state_of self.now).slots j).status) ≡ true }
+    {
+        self.machine.slots()
+    }
+
+    /// The clock when a committed request last changed what it publishes, 0 before any did.
+    pub fn latest(&self) -> u64
+        ensures { (moment : ℕ) → is_current (state_of self.now).slots (state_of self.now).front moment ≡ nat_le result moment }
+    {
+        self.machine.latest()
     }
 
     /// The dataset of the committed requests: that of their sequential run.

@@ -68,13 +68,6 @@ module _ (d : Dataset Term) (block : List (Request Term)) (b : Base) (requests :
     unfolding carried all_of
     replies_are = ap (λ p. p.1) whole.2 ∙ carried.replies_are ∙ ap (λ p. p.1) all_of
 
--- the front of a book that has committed the whole block
-pub whole_book : (terms : List Term) (base : Dataset Id) (block : List (Request Id)) (book : BookRun) (dataset : Dataset Id) (replies : List Reply)
-    → book.terms ≡ terms → book.base ≡ base → book.block ≡ block → length block ≤ (state_of book).front → (dataset, replies) ≡ front_run book
-    → IsWhole terms base block dataset replies
-whole_book terms base block book dataset replies is_terms is_base is_block whole e =
-    ((state_of book).front, whole, e ∙ (λ t. run_of_first (numbers (is_terms t)) (state_of book).front (is_block t) (is_base t)))
-
 -- the run of the whole block
 pub whole_run : (terms : List Term) (base : Dataset Id) (block : List (Request Id)) (dataset : Dataset Id) (replies : List Reply)
     → (dataset, replies) ≡ run (numbers terms) block base → IsWhole terms base block dataset replies

@@ -3,6 +3,8 @@ use Rattle.std.specs.Prelude.{◌≡◌, ℕ, ◌^◌, List, Result, Ok, Err}
 use Rattle.datasets.specs.Dataset.{Dataset}
 use Rattle.terms.specs.declared.term.Term.{Term}
 use Rattle.meaning.specs.Run.{Request}
+use Rattle.devices.specs.declared.front.ReadFault.TheVariants as read_faults
+use Rattle.devices.specs.declared.front.ReadFault.{ReadFault}
 use Rattle.nquads.specs.Long.{IsAnswer}
 use Rattle.nquads.specs.declared.fault.BaseFault.TheVariants as base_faults
 use Rattle.nquads.specs.declared.fault.BaseFault.{BaseFault}
@@ -20,11 +22,9 @@ base_fault (base_faults.BadLine n) = told.BadLine n
 base_fault base_faults.TooLong = told.BaseTooLong
 base_fault base_faults.Device = told.CannotRead file.Base
 
-abbrev pub device_fault : BaseFault → Fault
-device_fault base_faults.OutOfMemory = told.Memory
-device_fault (base_faults.BadLine n) = told.Memory
-device_fault base_faults.TooLong = told.Memory
-device_fault base_faults.Device = told.CannotRead file.Block
+abbrev pub device_fault : ReadFault → Fault
+device_fault read_faults.OutOfMemory = told.Memory
+device_fault read_faults.Device = told.CannotRead file.Block
 
 abbrev pub block_fault : BlockFault → Fault
 block_fault block_faults.OutOfMemory = told.Memory
@@ -51,15 +51,16 @@ IsBlockAnswer text (Err told.Memory) = Unit {0}
 IsBlockAnswer text (Err (told.CannotRead file.Block)) = Unit {0}
 IsBlockAnswer text (Err _) = ⊥
 
--- a fault of the base, or of the block where the base is read; memory may run out and a device may fail at any input
+-- a fault of the base, or of the block where the base is read, of its bytes or of its device; memory may run out, and the device of the base
+-- or of the answer may fail, at any input
 abbrev pub IsFaultOf : (base block : List ℕ) → Fault → Type 0
 IsFaultOf base block (told.BadLine n) = IsBaseAnswer base (Err (told.BadLine n))
 IsFaultOf base block told.BaseTooLong = IsBaseAnswer base (Err told.BaseTooLong)
 IsFaultOf base block told.BlockTooLong = ((d : Dataset Term) × IsBaseAnswer base (Ok d)) × IsBlockAnswer block (Err told.BlockTooLong)
 IsFaultOf base block told.TooManyRequests = ((d : Dataset Term) × IsBaseAnswer base (Ok d)) × IsBlockAnswer block (Err told.TooManyRequests)
 IsFaultOf base block told.BadUtf8 = ((d : Dataset Term) × IsBaseAnswer base (Ok d)) × IsBlockAnswer block (Err told.BadUtf8)
+IsFaultOf base block (told.CannotRead file.Block) = (d : Dataset Term) × IsBaseAnswer base (Ok d)
 IsFaultOf base block told.Memory = Unit {0}
 IsFaultOf base block (told.CannotRead file.Base) = Unit {0}
-IsFaultOf base block (told.CannotRead file.Block) = Unit {0}
 IsFaultOf base block (told.CannotWrite file.Answer) = Unit {0}
 IsFaultOf base block _ = ⊥

@@ -1,3 +1,5 @@
+pub mod Failures
+pub mod Files
 pub mod Inputs
 pub mod Outputs
 pub mod Verdicts

@@ -1,5 +1,6 @@
 //! What engines have in common, and the engine of the command `run`.
-ghost use Rattle.std.specs.Prelude.{◌≡◌, ◌≢◌, ◌<◌, ◌≤◌, ◌-◌, ◌^◌, length, IfOk, IfErr, IfSome, OnOk, IsErrOf, string_bytes};
+ghost use Rattle.std.specs.Prelude.{◌≡◌, ◌≢◌, ◌<◌, ◌≤◌, ◌-◌, ◌^◌, true, length, IfOk, IfErr, IfSome, OnOk, IsErrOf, string_bytes};
+ghost use Rattle.cli.specs.Failures.{is_unread, is_unwritten, FailedIf, OneFailedIf};
 ghost use Rattle.cli.specs.Inputs.{IsFaultOf};
 ghost use Rattle.update.specs.Asked.{AreShort};
 ghost use Rattle.cli.specs.Outputs.{IsAnswerTo, Wrote, WroteInPart};
@@ -8,14 +9,16 @@ use crate::inputs::{read_base, read_block};
 use crate::outputs::{Texts, write_texts};
 use command_line::{Fault, File, replies_text};
 use delta::Outcome;
-use driver::run_to_end;
-use nquads::{Watched, canonical_text};
+use devices::Watched;
+use nquads::canonical_text;
 use numbering::laws::carries_block;
 use numbering::{Numbered, named, number};
+use pool::{Open, run_block};
 use rules::Block;
 use std::alloc::{AllocError, Global};
 use std::io::{Read, Write};
 use std::sync::Wait;
+use std::thread::Threads;
 use terms::DataSet;
 
 /// A way to run a block at numbers of terms.
@@ -24,8 +27,12 @@ pub(crate) trait Runs {
     ghost use Rattle.update.specs.Asked.{AreShort};
     ghost use Rattle.cli.specs.Outputs.{IsWhole};
 
+    // What it takes of its types.
+    ghost Ready: { Type 0 };
+
     /// The outcome of the whole block.
     fn outcome(&self, alloc: Global, numbered: &Numbered) -> Result<Outcome, AllocError>
+        requires ready { Ready }
         requires few { length numbered.now.block.items < 2 ^ 32 }
         requires short { AreShort numbered.now.block.items }
         ensures { IfOk result (λ outcome. IsWhole numbered.now.base.terms numbered.now.base.dataset numbered.now.block.items outcome.dataset outcome.replies) };
@@ -38,6 +45,7 @@ fn texts_of<W: Runs>(
     base: DataSet,
     block: &Block,
 ) -> Result<Texts, AllocError>
+    requires ready { W.Ready }
     requires few { length block.now ≤ 4096 }
     requires short { AreShort block.now }
     ensures { IfOk result (λ texts. IsAnswerTo base block.now texts.dataset.items (string_bytes texts.replies)) }
@@ -68,18 +76,25 @@ pub(crate) fn run_by<W: Runs, B: Read, K: Read, D: Write, A: Write>(
     dataset: &mut Watched<D>,
     replies: &mut Watched<A>,
 ) -> Result<(), Fault>
+    requires ready { W.Ready }
     requires base { base.old.failures < 2 ^ 64 - 1 }
     requires block { block.old.failures < 2 ^ 64 - 1 }
     requires dataset { dataset.old.failures < 2 ^ 64 - 1 }
     requires replies { replies.old.failures < 2 ^ 64 - 1 }
     // What was written is the output of what was read.
     ensures answer { OnOk result (IfSome (B.remaining base.old.inner) (λ b. IfSome (K.remaining block.old.inner) (λ k. Wrote b k (D.contents dataset.old.inner) (D.contents dataset.new.inner) (A.contents replies.old.inner) (A.contents replies.new.inner)))) }
+    // Both texts were flushed, also where they are empty.
+    ensures flushed { OnOk result ((dataset.new.is_flushed ≡ true) × (replies.new.is_flushed ≡ true)) }
     // After a failed write the texts before it are whole, and of its own a beginning was written.
     ensures part { IsErrOf result (Fault.CannotWrite File.Answer) → IfSome (B.remaining base.old.inner) (λ b. IfSome (K.remaining block.old.inner) (λ k. WroteInPart b k (D.contents dataset.old.inner) (D.contents dataset.new.inner) (A.contents replies.old.inner) (A.contents replies.new.inner))) }
     // Any other fault comes before a writer is touched.
     ensures untouched { IfErr result (λ fault. fault ≢ Fault.CannotWrite File.Answer → (dataset.new ≡ dataset.old) × (replies.new ≡ replies.old)) }
     // Each fault is told only where it is there.
     ensures fault { IfErr result (λ fault. IfSome (B.remaining base.old.inner) (λ b. IfSome (K.remaining block.old.inner) (λ k. IsFaultOf b k fault))) }
+    // A device that failed is told, and only where one did.
+    ensures base_failures { FailedIf (is_unread File.Base result) base.old.failures base.new.failures }
+    ensures block_failures { FailedIf (is_unread File.Block result) block.old.failures block.new.failures }
+    ensures write_failures { OneFailedIf (is_unwritten result) dataset.old.failures dataset.new.failures replies.old.failures replies.new.failures }
 {
     let read = read_base(alloc, base)?;
     let requests = read_block(alloc, block)?;
@@ -89,37 +104,34 @@ pub(crate) fn run_by<W: Runs, B: Read, K: Read, D: Write, A: Write>(
     }
 }
 
-/// By events of workers, from 1 to 64.
+/// By workers on threads of their own, from 1 to 64.
 #[derive(Drop)]
-struct Workers<'r, T: Wait> {
+struct Workers<'r, T: Threads + Wait + Sync> {
     rt: &'r T,
     count: u32,
     ghost some: { 0 < count },
     ghost most: { count ≤ 64 },
 }
 
-impl<'r, T: Wait> Runs for Workers<'r, T> {
-    #[tactic(auto, using(crate::proofs::Composed::whole_book))]
+impl<'r, T: Threads + Wait + Sync> Runs for Workers<'r, T> {
+    ghost use Rattle.std.specs.Thread.{IsSync};
+
+    ghost Ready = { IsSync T.row };
+
+    #[tactic(auto, using(crate::proofs::Composed::whole_run))]
     fn outcome(&self, alloc: Global, numbered: &Numbered) -> Result<Outcome, AllocError> {
         let (base, block) = (&numbered.base, numbered.block.as_slice());
-        let book = run_to_end(
-            self.rt,
-            alloc,
-            base.terms(),
-            base.dataset(),
-            block,
-            self.count,
-        )?;
-        let outcome = book.outcome(alloc)?;
+        let (terms, dataset) = (base.terms(), base.dataset());
+        let outcome = run_block(self.rt, alloc, terms, dataset, block, self.count, &Open)?;
         Ok(outcome)
     }
 }
 
-/// Reads a base and a block, runs the block, and writes the canonical text of the new dataset and one line a request. The base is read
-/// before the block, and all texts are made before a writer is touched; then the dataset and the replies are written in this order, each
-/// flushed, also where it is empty. Workers are from 1 to 64, and change nothing in the answer. A fault is the first that comes: of the
-/// base, of the block, want of memory, or of a writer.
-pub fn run_engine<T: Wait, B: Read, K: Read, D: Write, A: Write>(
+/// Reads a base and a block, runs the block by this many workers, and writes the canonical text of the new dataset and one line a request. The
+/// base is read before the block, and all texts are made before a writer is touched; then the dataset and the replies are written in this
+/// order, each flushed, also where it is empty. Workers are from 1 to 64, each on a thread of its own where one can be had, and change nothing
+/// in the answer. A fault is the first that comes: of the base, of the block, want of memory, or of a writer.
+pub fn run_engine<T: Threads + Wait + Sync, B: Read, K: Read, D: Write, A: Write>(
     rt: &T,
     alloc: Global,
     base: &mut Watched<B>,
@@ -136,12 +148,18 @@ pub fn run_engine<T: Wait, B: Read, K: Read, D: Write, A: Write>(
     requires most { workers ≤ 64 }
     // What was written is the output of what was read.
     ensures answer { OnOk result (IfSome (B.remaining base.old.inner) (λ b. IfSome (K.remaining block.old.inner) (λ k. Wrote b k (D.contents dataset.old.inner) (D.contents dataset.new.inner) (A.contents replies.old.inner) (A.contents replies.new.inner)))) }
+    // Both texts were flushed, also where they are empty.
+    ensures flushed { OnOk result ((dataset.new.is_flushed ≡ true) × (replies.new.is_flushed ≡ true)) }
     // After a failed write the texts before it are whole, and of its own a beginning was written.
     ensures part { IsErrOf result (Fault.CannotWrite File.Answer) → IfSome (B.remaining base.old.inner) (λ b. IfSome (K.remaining block.old.inner) (λ k. WroteInPart b k (D.contents dataset.old.inner) (D.contents dataset.new.inner) (A.contents replies.old.inner) (A.contents replies.new.inner))) }
     // Any other fault comes before a writer is touched.
     ensures untouched { IfErr result (λ fault. fault ≢ Fault.CannotWrite File.Answer → (dataset.new ≡ dataset.old) × (replies.new ≡ replies.old)) }
     // Each fault is told only where it is there.
     ensures fault { IfErr result (λ fault. IfSome (B.remaining base.old.inner) (λ b. IfSome (K.remaining block.old.inner) (λ k. IsFaultOf b k fault))) }
+    // A device that failed is told, and only where one did.
+    ensures base_failures { FailedIf (is_unread File.Base result) base.old.failures base.new.failures }
+    ensures block_failures { FailedIf (is_unread File.Block result) block.old.failures block.new.failures }
+    ensures write_failures { OneFailedIf (is_unwritten result) dataset.old.failures dataset.new.failures replies.old.failures replies.new.failures }
 {
     let way = Workers { rt, count: workers };
     run_by(&way, alloc, base, block, dataset, replies)

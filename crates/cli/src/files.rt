@@ -1,12 +1,12 @@
 //! Files that are opened or made when they are first used.
-ghost use Rattle.std.specs.Prelude.{◌≡◌};
+ghost use Rattle.std.specs.Prelude.{◌≡◌, None, OnOk, IsSome};
 
 use std::io::{Read, Write};
 use std::marker::Model;
 use std::rt::Files;
 use std::{fs, io};
 
-/// A file that is opened at the first read. Contracts see its path.
+/// A file that is opened at the first read. Contracts see its path, and the file once it is open.
 #[derive(Drop)]
 pub struct InFile<'a, R: Files> {
     files: &'a R,
@@ -15,17 +15,17 @@ pub struct InFile<'a, R: Files> {
 }
 
 impl<'a, R: Files> Model for InFile<'a, R> {
-    ghost use Rattle.std.specs.Prelude.{List, ℕ};
+    ghost use Rattle.cli.specs.Files.{LateFile};
 
-    ghost Value = { List ℕ };
+    ghost Value = { LateFile R.File };
 
-    ghost view = { λ f. f.path.now };
+    ghost view = { λ f. record { path = f.path.now; file = f.file } };
 }
 
 impl<'a, R: Files> InFile<'a, R> {
     /// The file of this path, not opened yet.
     pub fn new(files: &'a R, path: &'a str) -> InFile<'a, R>
-        ensures { result ≡ path.now }
+        ensures { result ≡ record { path = path.now; file = None } }
     {
         InFile {
             files,
@@ -34,7 +34,11 @@ impl<'a, R: Files> InFile<'a, R> {
         }
     }
 
-    fn opened(&mut self) -> io::Result<()> {
+    /// Opens the file, unless it is open.
+    fn opened(&mut self) -> io::Result<()>
+        ensures open { OnOk result (IsSome self.new.file) }
+        ensures kept { IsSome self.old.file → self.new ≡ self.old }
+    {
         if self.file.is_none() {
             self.file = Some(fs::open(self.files, self.path)?);
         }
@@ -43,16 +47,20 @@ impl<'a, R: Files> InFile<'a, R> {
 }
 
 impl<R: Files> Read for InFile<'_, R> {
+    ghost use Rattle.cli.specs.Files.{known_bytes};
+
+    ghost remaining = { λ f. known_bytes R.File.remaining f };
+
     fn read(&mut self, buf: &mut [u8]) -> io::Result<usize> {
         self.opened()?;
         match &mut self.file {
             Some(file) => file.read(buf),
-            None => Ok(0),
+            None => unreachable!(),
         }
     }
 }
 
-/// A file that is made at the first write or flush. Contracts see its path.
+/// A file that is made at the first write or flush. Contracts see its path, and the file once it is made.
 #[derive(Drop)]
 pub struct OutFile<'a, R: Files> {
     files: &'a R,
@@ -61,17 +69,17 @@ pub struct OutFile<'a, R: Files> {
 }
 
 impl<'a, R: Files> Model for OutFile<'a, R> {
-    ghost use Rattle.std.specs.Prelude.{List, ℕ};
+    ghost use Rattle.cli.specs.Files.{LateFile};
 
-    ghost Value = { List ℕ };
+    ghost Value = { LateFile R.File };
 
-    ghost view = { λ f. f.path.now };
+    ghost view = { λ f. record { path = f.path.now; file = f.file } };
 }
 
 impl<'a, R: Files> OutFile<'a, R> {
     /// The file of this path, not made yet.
     pub fn new(files: &'a R, path: &'a str) -> OutFile<'a, R>
-        ensures { result ≡ path.now }
+        ensures { result ≡ record { path = path.now; file = None } }
     {
         OutFile {
             files,
@@ -80,7 +88,11 @@ impl<'a, R: Files> OutFile<'a, R> {
         }
     }
 
-    fn made(&mut self) -> io::Result<()> {
+    /// Makes the file, unless it is made.
+    fn made(&mut self) -> io::Result<()>
+        ensures there { OnOk result (IsSome self.new.file) }
+        ensures kept { IsSome self.old.file → self.new ≡ self.old }
+    {
         if self.file.is_none() {
             self.file = Some(fs::create(self.files, self.path)?);
         }
@@ -89,11 +101,15 @@ impl<'a, R: Files> OutFile<'a, R> {
 }
 
 impl<R: Files> Write for OutFile<'_, R> {
+    ghost use Rattle.cli.specs.Files.{known_bytes};
+
+    ghost contents = { λ f. known_bytes R.File.contents f };
+
     fn write(&mut self, buf: &[u8]) -> io::Result<usize> {
         self.made()?;
         match &mut self.file {
             Some(file) => file.write(buf),
-            None => Ok(0),
+            None => unreachable!(),
         }
     }
 
@@ -101,7 +117,7 @@ impl<R: Files> Write for OutFile<'_, R> {
         self.made()?;
         match &mut self.file {
             Some(file) => file.flush(),
-            None => Ok(()),
+            None => unreachable!(),
         }
     }
 }

@@ -1,12 +1,13 @@
 //! The engine of the command `serial`.
-ghost use Rattle.std.specs.Prelude.{◌≡◌, ◌≢◌, ◌<◌, ◌-◌, ◌^◌, IfErr, IfSome, OnOk, IsErrOf};
+ghost use Rattle.std.specs.Prelude.{◌≡◌, ◌≢◌, ◌<◌, ◌-◌, ◌^◌, true, IfErr, IfSome, OnOk, IsErrOf};
+ghost use Rattle.cli.specs.Failures.{is_unread, is_unwritten, FailedIf, OneFailedIf};
 ghost use Rattle.cli.specs.Inputs.{IsFaultOf};
 ghost use Rattle.cli.specs.Outputs.{Wrote, WroteInPart};
 
 use crate::engine::{Runs, run_by};
 use command_line::{Fault, File};
 use delta::Outcome;
-use nquads::Watched;
+use devices::Watched;
 use numbering::Numbered;
 use serial::run;
 use std::alloc::{AllocError, Global};
@@ -17,6 +18,8 @@ use std::io::{Read, Write};
 struct OneByOne;
 
 impl Runs for OneByOne {
+    ghost Ready = { Unit {0} };
+
     fn outcome(&self, alloc: Global, numbered: &Numbered) -> Result<Outcome, AllocError> {
         run(alloc, &numbered.base, numbered.block.as_slice())
     }
@@ -39,12 +42,18 @@ pub fn serial_engine<B: Read, K: Read, D: Write, A: Write>(
     requires replies { replies.old.failures < 2 ^ 64 - 1 }
     // What was written is the output of what was read.
     ensures answer { OnOk result (IfSome (B.remaining base.old.inner) (λ b. IfSome (K.remaining block.old.inner) (λ k. Wrote b k (D.contents dataset.old.inner) (D.contents dataset.new.inner) (A.contents replies.old.inner) (A.contents replies.new.inner)))) }
+    // Both texts were flushed, also where they are empty.
+    ensures flushed { OnOk result ((dataset.new.is_flushed ≡ true) × (replies.new.is_flushed ≡ true)) }
     // After a failed write the texts before it are whole, and of its own a beginning was written.
     ensures part { IsErrOf result (Fault.CannotWrite File.Answer) → IfSome (B.remaining base.old.inner) (λ b. IfSome (K.remaining block.old.inner) (λ k. WroteInPart b k (D.contents dataset.old.inner) (D.contents dataset.new.inner) (A.contents replies.old.inner) (A.contents replies.new.inner))) }
     // Any other fault comes before a writer is touched.
     ensures untouched { IfErr result (λ fault. fault ≢ Fault.CannotWrite File.Answer → (dataset.new ≡ dataset.old) × (replies.new ≡ replies.old)) }
     // Each fault is told only where it is there.
     ensures fault { IfErr result (λ fault. IfSome (B.remaining base.old.inner) (λ b. IfSome (K.remaining block.old.inner) (λ k. IsFaultOf b k fault))) }
+    // A device that failed is told, and only where one did.
+    ensures base_failures { FailedIf (is_unread File.Base result) base.old.failures base.new.failures }
+    ensures block_failures { FailedIf (is_unread File.Block result) block.old.failures block.new.failures }
+    ensures write_failures { OneFailedIf (is_unwritten result) dataset.old.failures dataset.new.failures replies.old.failures replies.new.failures }
 {
     run_by(&OneByOne, alloc, base, block, dataset, replies)
 }

@@ -1,13 +1,15 @@
 //! The base and the block, as their readers give them.
-ghost use Rattle.std.specs.Prelude.{◌≡◌, ◌<◌, ◌≤◌, ◌-◌, ◌^◌, Ok, Err, IfSome, IfOk, length, List, ℕ};
-ghost use Rattle.nquads.specs.Checked.{IsFront};
+ghost use Rattle.std.specs.Prelude.{◌≡◌, ◌<◌, ◌≤◌, ◌-◌, ◌^◌, false, Ok, Err, IfSome, IfOk, length, List, ℕ};
+ghost use Rattle.devices.specs.Front.{IsFront};
 ghost use Rattle.rules.specs.Requests.{AreVerdicts, IsSplit};
 ghost use Rattle.update.specs.Asked.{AreShort};
+ghost use Rattle.cli.specs.Failures.{is_unread, FailedIf, TellsNoOther};
 ghost use Rattle.cli.specs.Inputs.{IsBaseAnswer, IsBlockAnswer, base_fault as the_base_fault, block_fault as the_block_fault, device_fault as the_device_fault};
 ghost use Rattle.cli.specs.Verdicts.{IsJudgement};
 
 use command_line::{Fault, File};
-use nquads::{BaseFault, Watched, front_of};
+use devices::{ReadFault, Watched, front_of};
+use nquads::BaseFault;
 use rules::laws::requests_are_short;
 use rules::{Block, BlockFault, Verdict, split, verdicts};
 use sets::Items;
@@ -31,12 +33,12 @@ fn base_fault(fault: BaseFault) -> Fault
 }
 
 /// What the program tells of a block whose bytes did not come.
-fn device_fault(fault: BaseFault) -> Fault
+fn device_fault(fault: ReadFault) -> Fault
     ensures { result ≡ the_device_fault fault }
 {
     match fault {
-        BaseFault::Device => Fault::CannotRead(File::Block),
-        _ => Fault::Memory,
+        ReadFault::OutOfMemory => Fault::Memory,
+        ReadFault::Device => Fault::CannotRead(File::Block),
     }
 }
 
@@ -52,10 +54,12 @@ fn block_fault(fault: BlockFault) -> Fault
     }
 }
 
-/// The dataset that a base spells.
+/// The dataset that a base spells. `CannotRead` comes where a read failed, and only there.
 pub fn read_base<R: Read>(alloc: Global, reader: &mut Watched<R>) -> Result<DataSet, Fault>
     requires { reader.old.failures < 2 ^ 64 - 1 }
-    ensures { IfSome (R.remaining reader.old.inner) (λ text. IsBaseAnswer text result) }
+    ensures answer { IfSome (R.remaining reader.old.inner) (λ text. IsBaseAnswer text result) }
+    ensures failures { FailedIf (is_unread File.Base result) reader.old.failures reader.new.failures }
+    ensures others { TellsNoOther File.Base result }
 {
     match nquads::read(alloc, reader) {
         Ok(dataset) => Ok(dataset),
@@ -66,6 +70,8 @@ pub fn read_base<R: Read>(alloc: Global, reader: &mut Watched<R>) -> Result<Data
 /// The requests of a block's bytes.
 fn cut(alloc: Global, bytes: &[u8]) -> Result<Block, Fault>
     ensures answer { (text : List ℕ) → IsFront (2 ^ 28) text bytes.now → IsBlockAnswer text result }
+    ensures read { is_unread File.Block result ≡ false }
+    ensures others { TellsNoOther File.Block result }
     ensures few { IfOk result (λ block. length block ≤ 4096) }
     ensures short { IfOk result AreShort }
 {
@@ -76,10 +82,12 @@ fn cut(alloc: Global, bytes: &[u8]) -> Result<Block, Fault>
     }
 }
 
-/// The requests of the block that a reader gives.
+/// The requests of the block that a reader gives. `CannotRead` comes where a read failed, and only there.
 pub fn read_block<R: Read>(alloc: Global, reader: &mut Watched<R>) -> Result<Block, Fault>
     requires { reader.old.failures < 2 ^ 64 - 1 }
     ensures answer { IfSome (R.remaining reader.old.inner) (λ text. IsBlockAnswer text result) }
+    ensures failures { FailedIf (is_unread File.Block result) reader.old.failures reader.new.failures }
+    ensures others { TellsNoOther File.Block result }
     ensures few { IfOk result (λ block. length block ≤ 4096) }
     ensures short { IfOk result AreShort }
 {
@@ -92,7 +100,9 @@ pub fn read_block<R: Read>(alloc: Global, reader: &mut Watched<R>) -> Result<Blo
 
 /// The verdicts on the requests of a block's bytes.
 fn judged(alloc: Global, bytes: &[u8]) -> Result<Items<Verdict>, Fault>
-    ensures { (text : List ℕ) → IsFront (2 ^ 28) text bytes.now → IsJudgement text result }
+    ensures answer { (text : List ℕ) → IsFront (2 ^ 28) text bytes.now → IsJudgement text result }
+    ensures read { is_unread File.Block result ≡ false }
+    ensures others { TellsNoOther File.Block result }
 {
     match verdicts(alloc, bytes) {
         Ok(verdicts) => Ok(verdicts),
@@ -100,13 +110,16 @@ fn judged(alloc: Global, bytes: &[u8]) -> Result<Items<Verdict>, Fault>
     }
 }
 
-/// The verdicts on the requests of the block that a reader gives: whether each is accepted, or why it is refused.
+/// The verdicts on the requests of the block that a reader gives: whether each is accepted, or why it is refused. `CannotRead` comes
+/// where a read failed, and only there.
 pub fn read_verdicts<R: Read>(
     alloc: Global,
     reader: &mut Watched<R>,
 ) -> Result<Items<Verdict>, Fault>
     requires { reader.old.failures < 2 ^ 64 - 1 }
-    ensures { IfSome (R.remaining reader.old.inner) (λ text. IsJudgement text result) }
+    ensures answer { IfSome (R.remaining reader.old.inner) (λ text. IsJudgement text result) }
+    ensures failures { FailedIf (is_unread File.Block result) reader.old.failures reader.new.failures }
+    ensures others { TellsNoOther File.Block result }
 {
     let bytes = match front_of(alloc, reader, MOST_BLOCK_BYTES) {
         Ok(bytes) => bytes,

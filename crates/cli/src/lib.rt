@@ -1,7 +1,7 @@
 //! The engines of the program: from the bytes of a base and a block to the canonical text of the new dataset and the reply lines, and from
 //! the bytes of a block to the lines of its verdicts.
 //!
-//! Stands on `nquads`, `rules`, `store`, `book`, `driver`, `serial` and `command_line`. Used above: `run_engine`, `serial_engine` and
+//! Stands on `devices`, `nquads`, `rules`, `store`, `pool`, `serial` and `command_line`. Used above: `run_engine`, `serial_engine` and
 //! `check_engine` make all texts before they touch a writer, and refuse bad input with its name.
 #![tactic(auto)]
 
@@ -17,4 +17,3 @@ pub use command_line::{Fault, File, Job, LineFault, Message, read_job};
 pub use engine::run_engine;
 pub use files::{InFile, OutFile};
 pub use in_order::serial_engine;
-pub use nquads::Watched;

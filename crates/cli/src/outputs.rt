@@ -1,12 +1,13 @@
 //! The texts of an answer, made before any writer is touched.
-ghost use Rattle.std.specs.Prelude.{◌≡◌, ◌<◌, ◌-◌, ◌^◌, ◌⊎◌, OnOk, OnErr, IfErr, string_bytes};
+ghost use Rattle.std.specs.Prelude.{◌≡◌, ◌<◌, ◌-◌, ◌^◌, ◌⊎◌, true, OnOk, OnErr, IfErr, string_bytes};
 ghost use Rattle.std.specs.Io.KnownBytes.{Keeps};
+ghost use Rattle.cli.specs.Failures.{is_unwritten, FailedIf, OneFailedIf};
 ghost use Rattle.cli.specs.Outputs.{Grew, GrewInPart, IsPart};
 ghost use Rattle.command_line.specs.declared.fault.Fault.TheVariants.{CannotWrite};
 ghost use Rattle.command_line.specs.declared.fault.File.TheVariants.{Answer};
 
 use command_line::{Fault, File};
-use nquads::Watched;
+use devices::Watched;
 use std::io::Write;
 
 /// The canonical text of the new dataset, and the reply lines.
@@ -16,10 +17,12 @@ pub struct Texts {
     pub replies: String,
 }
 
-/// Flushes a writer.
+/// Flushes a writer. An `Err` comes where that failed.
 fn flush<W: Write>(writer: &mut Watched<W>) -> Result<(), Fault>
     requires { writer.old.failures < 2 ^ 64 - 1 }
     ensures bytes { Keeps (W.contents writer.old.inner) (W.contents writer.new.inner) }
+    ensures flushed { OnOk result (writer.new.is_flushed ≡ true) }
+    ensures failures { FailedIf (is_unwritten result) writer.old.failures writer.new.failures }
     ensures fault { IfErr result (λ fault. fault ≡ CannotWrite Answer) }
 {
     match writer.flush() {
@@ -28,11 +31,13 @@ fn flush<W: Write>(writer: &mut Watched<W>) -> Result<(), Fault>
     }
 }
 
-/// Writes a text and flushes it, also where it is empty.
+/// Writes a text and flushes it, also where it is empty. An `Err` comes where a write or the flush failed.
 pub(crate) fn write_text<W: Write>(writer: &mut Watched<W>, text: &[u8]) -> Result<(), Fault>
     requires { writer.old.failures < 2 ^ 64 - 1 }
     ensures ok { OnOk result (Grew (W.contents writer.old.inner) (W.contents writer.new.inner) text.now) }
     ensures part { OnErr result (GrewInPart (W.contents writer.old.inner) (W.contents writer.new.inner) text.now) }
+    ensures flushed { OnOk result (writer.new.is_flushed ≡ true) }
+    ensures failures { FailedIf (is_unwritten result) writer.old.failures writer.new.failures }
     ensures fault { IfErr result (λ fault. fault ≡ CannotWrite Answer) }
 {
     match writer.write_all(text) {
@@ -41,7 +46,7 @@ pub(crate) fn write_text<W: Write>(writer: &mut Watched<W>, text: &[u8]) -> Resu
     }
 }
 
-/// Writes the dataset, then the replies, each flushed, also where it is empty.
+/// Writes the dataset, then the replies, each flushed, also where it is empty. An `Err` comes where a write or a flush failed.
 pub fn write_texts<D: Write, A: Write>(
     texts: &Texts,
     dataset: &mut Watched<D>,
@@ -53,6 +58,8 @@ pub fn write_texts<D: Write, A: Write>(
     ensures replies { OnOk result (Grew (A.contents replies.old.inner) (A.contents replies.new.inner) (string_bytes texts.now.replies)) }
     // After a failed write the texts before it are whole, and of its own a beginning was written.
     ensures part { OnErr result (IsPart (D.contents dataset.old.inner) (D.contents dataset.new.inner) (A.contents replies.old.inner) (A.contents replies.new.inner) texts.now.dataset.items (string_bytes texts.now.replies)) }
+    ensures flushed { OnOk result ((dataset.new.is_flushed ≡ true) × (replies.new.is_flushed ≡ true)) }
+    ensures failures { OneFailedIf (is_unwritten result) dataset.old.failures dataset.new.failures replies.old.failures replies.new.failures }
     ensures fault { IfErr result (λ fault. fault ≡ CannotWrite Answer) }
 {
     write_text(dataset, texts.dataset.as_slice())?;

@@ -1,6 +1,6 @@
 -- A label begins as a made node's does exactly where its beginning is that mark.
-use Rattle.std.specs.Prelude.{Bool, ◌==◌, ◌||◌, ◌&&◌, not, nat_eq, take, codes, cond, ◌^◌}
-use Rattle.std.proofs.Common.{◌≡◌, ℕ, zero, suc, ◌+◌, ◌<◌, true, false, List, [], ◌∷◌, ◌++◌, map, refl, sym, ap, ◌∙◌, arith, add-one}
+use Rattle.std.specs.Prelude.{Bool, ◌||◌, not, nat_eq, take, cond, ◌^◌}
+use Rattle.std.proofs.Common.{◌≡◌, ℕ, suc, ◌+◌, ◌<◌, true, false, List, [], ◌∷◌, ◌++◌, map, refl, sym, ap, ◌∙◌, arith}
 use Rattle.std.specs.List.{list_any, list_all, prefix_len, starts_with}
 use Rattle.std.specs.Fmt.{decimal}
 use Rattle.std.specs.Str.Parse.{AllDigits}
@@ -9,18 +9,16 @@ use Rattle.std.specs.declared.cmp.Ordering.{Ordering}
 use Rattle.std.specs.declared.cmp.Ordering.TheVariants.{Less, Equal, Greater}
 use Rattle.std.specs.Ordering.{eq_by_cmp, is_eq, ordering_reverse}
 use Rattle.std.specs.Cmp.{tied_itself, both_ways, Equal-is}
-use Rattle.std.proofs.lemmas.Bool.{false≢true, and_parts, and_from, eqb-true, eq-eqb, ne_eqb, not-true}
+use Rattle.std.proofs.lemmas.Bool.{false≢true, and_parts, and_from, eqb-true, eq-eqb, ne_eqb}
 use Rattle.std.proofs.lemmas.Fmt.{decimal_is_IsNumeral}
-use Rattle.std.proofs.lemmas.List.Folds.{list_all-append}
 use Rattle.datasets.specs.declared.quad.Quad.{Quad}
 use Rattle.terms.specs.Term.{text_cmp}
 use Rattle.terms.specs.TermLaws.{text_total, text_exact}
 use Rattle.terms.specs.declared.term.Term.{Term}
 use Rattle.terms.specs.declared.term.Term.TheVariants as term
 use Rattle.terms.specs.Placed.{quad_at}
-use Rattle.nquads.specs.Tag.{mark_of, has_mark, is_marked, is_taken}
+use Rattle.nquads.specs.Tag.{mark_of, has_mark, is_taken}
 use Rattle.nquads.specs.Beginning.{is_not_r, beginning, begins_as, is_begun_in}
-use Rattle.nquads.proofs.CanonicalLaws.{any-map}
 
 head_or : ℕ → List ℕ → ℕ
 head_or d [] = d

@@ -15,7 +15,8 @@ use Rattle.nquads.specs.Reading.{line_of, LinesAreRead}
 use Rattle.nquads.specs.Spelled.{AreLines, none, more, IsFirstBadOf}
 use Rattle.nquads.specs.Whole.{Reads, read_from, no_quads}
 use Rattle.nquads.specs.Long.{front_within, but_last, ended_lines, counted_lines, IsAnswer}
-use Rattle.nquads.specs.Checked.{first_bad, StopsAt, IsFront}
+use Rattle.devices.specs.Front.{IsFront}
+use Rattle.nquads.specs.Checked.{first_bad, StopsAt}
 use Rattle.nquads.proofs.Ends.{lines_first}
 use Rattle.nquads.proofs.WholeLaws.{bad_line, no_bad_in, whole_found, whole_bad}
 

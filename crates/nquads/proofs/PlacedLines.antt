@@ -5,7 +5,7 @@ use Rattle.std.specs.List.{list_any, list_all}
 use Rattle.std.specs.Option.{option_map}
 use Rattle.std.specs.Ordering.{eq_by_cmp, is_eq}
 use Rattle.std.specs.Cmp.{tied_itself, both_ways}
-use Rattle.std.proofs.lemmas.Bool.{false≢true, and_parts, and_from, ltb-true, lt-ltb, eqb-true, eq-eqb}
+use Rattle.std.proofs.lemmas.Bool.{false≢true, and_parts, ltb-true, eqb-true, eq-eqb}
 use Rattle.sets.specs.Sets.{has}
 use Rattle.datasets.specs.declared.quad.Quad.{Quad}
 use Rattle.datasets.specs.Dataset.{names_of}
@@ -16,7 +16,7 @@ use Rattle.terms.specs.TermLaws.{term_total}
 use Rattle.terms.specs.Hashed.{equal_terms}
 use Rattle.terms.specs.Canonical.{term_text}
 use Rattle.terms.specs.DataSet.{is_named, in_named}
-use Rattle.terms.specs.Placed.{term_at, quad_at, is_within, is_name_within, is_quad_within, AreWithin, AreApart}
+use Rattle.terms.specs.Placed.{term_at, quad_at, is_within, is_name_within, is_quad_within, AreApart}
 use Rattle.nquads.specs.Canonical.{graph_text, quad_text, graph_line, is_empty_graph, lines_of}
 use Rattle.nquads.specs.Placed.{text_at, graph_text_at, quad_text_at, graph_line_at, is_name_at, is_in_at}
 

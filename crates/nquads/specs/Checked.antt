@@ -1,5 +1,5 @@
 -- Looking for the first bad line, from first to last.
-use Rattle.std.specs.Prelude.{ℕ, ◌≡◌, ◌+◌, ◌≤◌, ◌++◌, List, [], ◌∷◌, length, Option, Some, None, Result, Ok, Err}
+use Rattle.std.specs.Prelude.{ℕ, ◌≡◌, ◌+◌, List, [], ◌∷◌, Option, Some, None, Result, Ok, Err}
 use Rattle.std.specs.Option.{option_map_or}
 use Rattle.nquads.specs.declared.fault.BaseFault.{BaseFault}
 use Rattle.nquads.specs.declared.fault.BaseFault.TheVariants as fault
@@ -20,16 +20,3 @@ StopsAt fault.Device found = ⊥
 abbrev pub Checks : {A : Type 0} → Result A BaseFault → Option ℕ → Type 0
 Checks (Ok x) found = found ≡ None
 Checks (Err e) found = StopsAt e found
-
--- why no bytes came
-abbrev pub Stops : BaseFault → Type 0
-Stops fault.OutOfMemory = Unit {0}
-Stops (fault.BadLine n) = ⊥
-Stops fault.TooLong = ⊥
-Stops fault.Device = Unit {0}
-
--- these bytes are the front of a text, all of it if they are at most so many
-pub record IsFront (limit : ℕ) (text bytes : List ℕ) : Type 0 where
-  pub rest : List ℕ
-  pub cut : text ≡ bytes ++ rest
-  pub whole : length bytes ≤ limit → rest ≡ []

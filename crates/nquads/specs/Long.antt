@@ -3,6 +3,8 @@
 use Rattle.std.specs.Prelude.{ℕ, ◌<◌, ◌≤◌, ◌-◌, ◌==◌, ◌&&◌, nat_le, Bool, true, false, List, [], ◌∷◌, length, take, slice_index, Result, Ok, Err, if◌then◌else◌}
 use Rattle.datasets.specs.Dataset.{Dataset}
 use Rattle.terms.specs.declared.term.Term.{Term}
+use Rattle.devices.specs.declared.front.ReadFault.{ReadFault}
+use Rattle.devices.specs.declared.front.ReadFault.TheVariants as read_fault
 use Rattle.nquads.specs.declared.fault.BaseFault.{BaseFault}
 use Rattle.nquads.specs.declared.fault.BaseFault.TheVariants as fault
 use Rattle.nquads.specs.Lines.{lines}
@@ -36,6 +38,11 @@ IsAnswer limit text (Err fault.OutOfMemory) = Unit {0}
 IsAnswer limit text (Err (fault.BadLine n)) = IsFirstBadOf (counted_lines limit text) n
 IsAnswer limit text (Err fault.TooLong) = (limit < length text) × ((n : ℕ) → IsFirstBadOf (ended_lines limit text) n → ⊥)
 IsAnswer limit text (Err fault.Device) = Unit {0}
+
+-- why a base was not read whose bytes did not come
+abbrev pub fault_of_device : ReadFault → BaseFault
+fault_of_device read_fault.OutOfMemory = fault.OutOfMemory
+fault_of_device read_fault.Device = fault.Device
 
 -- the device failed
 abbrev pub is_device_fault : BaseFault → Bool

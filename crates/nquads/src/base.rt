@@ -2,7 +2,8 @@
 ghost use Rattle.std.specs.Prelude.{◌≡◌, ◌≤◌, ◌<◌, ◌+◌, ◌-◌, ◌^◌, ◌∷◌, [], ℕ, List, length, false, OnOk, MatchOption, IfOk, IfErr, IfSome, if◌then◌else◌};
 ghost use Rattle.nquads.specs.Lines.{lines};
 ghost use Rattle.nquads.specs.Long.{front_within, but_last, IsAnswer, is_device};
-ghost use Rattle.nquads.specs.Checked.{first_bad, Checks, Stops, IsFront};
+ghost use Rattle.devices.specs.Front.{IsFront};
+ghost use Rattle.nquads.specs.Checked.{first_bad, Checks};
 ghost use Rattle.nquads.specs.Whole.{Faults};
 ghost use Rattle.nquads.specs.Reading.{line_of};
 
@@ -10,7 +11,7 @@ use crate::fault::BaseFault;
 use crate::laws::lines_are_read;
 use crate::lines::first_line;
 use crate::reader::{read_lines, said};
-use crate::watched::Watched;
+use devices::{Watched, front_of};
 use std::alloc::Global;
 use std::io::Read;
 use terms::DataSet;
@@ -18,31 +19,6 @@ use terms::laws::lists_grow_as_datasets;
 
 /// The most bytes of a base.
 const MOST_BYTES: usize = 1_073_741_824;
-
-/// The first bytes that a reader gives: all of them, or more than the limit. `OutOfMemory` and `Device` are its only errors.
-pub fn front_of<R: Read>(
-    alloc: Global,
-    reader: &mut Watched<R>,
-    limit: usize,
-) -> Result<Vec<u8>, BaseFault>
-    requires failures { reader.old.failures < 2 ^ 64 - 1 }
-    requires limit { limit < 2 ^ 32 }
-    ensures front { IfOk result (λ bytes. IfSome (R.remaining reader.old.inner) (λ text. IsFront limit text bytes.items)) }
-    ensures err { IfErr result Stops }
-    ensures count { reader.new.failures ≡ (if is_device result then reader.old.failures + 1 else reader.old.failures) }
-{
-    let mut bytes = Vec::new(alloc);
-    let mut buffer = [0u8; 65_536];
-    while bytes.len() <= limit {
-        let count = reader.read(&mut buffer)?;
-        if count == 0 {
-            return Ok(bytes);
-        }
-        let (given, _) = buffer.split_at(count);
-        bytes.extend_from_slice(given)?;
-    }
-    Ok(bytes)
-}
 
 /// The front of a text in which each line but the last has its end.
 fn ended_front(bytes: &[u8], limit: usize) -> &[u8]
@@ -121,10 +97,8 @@ fn read_within<R: Read>(
     ensures answer { IfSome (R.remaining reader.old.inner) (λ text. IsAnswer limit text result) }
     ensures count { reader.new.failures ≡ (if is_device result then reader.old.failures + 1 else reader.old.failures) }
 {
-    match front_of(alloc, reader, limit) {
-        Ok(bytes) => answer(alloc, bytes.as_slice(), limit),
-        Err(fault) => Err(fault),
-    }
+    let bytes = front_of(alloc, reader, limit)?;
+    answer(alloc, bytes.as_slice(), limit)
 }
 
 /// The dataset that the bytes of a reader spell, of which there may be 2^30. `OutOfMemory` and `Device` may come at any text, `Device` only

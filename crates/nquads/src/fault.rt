@@ -1,8 +1,9 @@
 //! Why a base was not read.
 ghost use Rattle.std.specs.Prelude.{◌≡◌};
-ghost use Rattle.nquads.specs.declared.fault.BaseFault.TheVariants.{OutOfMemory, Device};
+ghost use Rattle.nquads.specs.Long.{fault_of_device};
+ghost use Rattle.nquads.specs.declared.fault.BaseFault.TheVariants.{OutOfMemory};
 
-use crate::watched::Failed;
+use devices::ReadFault;
 use std::alloc::{AllocError, AllocFailed};
 use thiserror::Error;
 
@@ -39,10 +40,13 @@ impl<T: Drop> From<AllocFailed<T>> for BaseFault {
     }
 }
 
-impl From<Failed> for BaseFault {
-    ghost from_gives = { λ _ e. e ≡ Device };
+impl From<ReadFault> for BaseFault {
+    ghost from_gives = { λ f e. e ≡ fault_of_device f };
 
-    fn from(_e: Failed) -> BaseFault {
-        BaseFault::Device
+    fn from(f: ReadFault) -> BaseFault {
+        match f {
+            ReadFault::OutOfMemory => BaseFault::OutOfMemory,
+            ReadFault::Device => BaseFault::Device,
+        }
     }
 }

@@ -4,7 +4,7 @@ ghost use Rattle.std.specs.Io.KnownBytes.{Appends};
 ghost use Rattle.nquads.specs.Canonical.{canonical};
 
 use crate::canonical::canonical_text;
-use crate::watched::Watched;
+use devices::Watched;
 use std::alloc::Global;
 use std::io::Write;
 use terms::DataSet;

@@ -1,6 +1,7 @@
 //! Blocks through the engine of the command `check`.
 use crate::tests::{Narrow, Slow, line_count, repeated, status_of};
-use cli::{Watched, check_engine};
+use cli::check_engine;
+use devices::Watched;
 use std::alloc::{AllocError, Global};
 
 /// What the engine wrote, and its status.

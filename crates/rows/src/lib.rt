@@ -1,9 +1,11 @@
-//! Worked examples through the whole engines, over memory: a base and a block in, the dataset, the replies and the fault out; and a block in,
-//! its verdicts and the fault out; and command lines with the jobs that they ask for.
+//! Worked examples through the whole engines, over memory and files: a base and a block in, the dataset, the replies and the fault out; and a
+//! block in, its verdicts and the fault out; and command lines with the jobs that they ask for.
 #![tactic(auto)]
 
 #[cfg(test)]
 mod checks;
+#[cfg(test)]
+mod files;
 #[cfg(test)]
 mod graphs;
 #[cfg(test)]

@@ -1,11 +1,13 @@
 ghost use Rattle.std.specs.Prelude.{◌<◌, ◌≤◌};
 
-use cli::{Fault, Watched, run_engine, serial_engine};
+use cli::{Fault, run_engine, serial_engine};
+use devices::Watched;
 use std::alloc::{AllocError, Global};
 use std::io;
 use std::io::{Read, Write};
 use std::process::Abort;
 use std::sync::Wait;
+use std::thread::Threads;
 
 /// What the engine wrote, and its status.
 #[derive(Drop)]
@@ -22,7 +24,7 @@ pub(crate) fn status_of(outcome: &Result<(), Fault>) -> u8 {
     }
 }
 
-pub(crate) fn answer_to<T: Wait>(
+pub(crate) fn answer_to<T: Threads + Wait + Sync>(
     rt: &T,
     alloc: Global,
     base: &[u8],
@@ -237,7 +239,7 @@ fn is_as_expected(answer: &Answer, status: u8, dataset: &str, replies: &str) -> 
 }
 
 // Whether a row comes out by one worker, by eight, and one request after another.
-fn is_right<T: Wait>(rt: &T, alloc: Global, row: &Row) -> bool {
+fn is_right<T: Threads + Wait + Sync>(rt: &T, alloc: Global, row: &Row) -> bool {
     let (base, block, status, dataset, replies) = *row;
     let (base, block) = (base.as_bytes(), block.as_bytes());
     is_as_expected(
@@ -259,7 +261,7 @@ fn is_right<T: Wait>(rt: &T, alloc: Global, row: &Row) -> bool {
 }
 
 /// Each row comes out.
-pub(crate) fn check_rows<T: Wait + Abort>(rt: &T, alloc: Global, rows: &[Row]) {
+pub(crate) fn check_rows<T: Threads + Wait + Sync + Abort>(rt: &T, alloc: Global, rows: &[Row]) {
     for row in rows {
         assert!(rt; is_right(rt, alloc, row), "{}", row.1);
     }
@@ -426,7 +428,7 @@ const ALL_GOOD: Good = Good {
 };
 
 /// What the engine writes over slow readers and narrow writers, some of which fail.
-fn narrow_answer<T: Wait>(rt: &T, alloc: Global, good: Good) -> Answer {
+fn narrow_answer<T: Threads + Wait + Sync>(rt: &T, alloc: Global, good: Good) -> Answer {
     let mut base = Watched::new(Slow {
         rest: BASE.as_bytes(),
         good_reads: good.base,
@@ -466,7 +468,13 @@ fn one_byte_at_a_time(rt: HostRuntime) {
 }
 
 /// Whether a device failed when so much of the dataset and of the replies was written.
-fn stops_at<T: Wait>(rt: &T, alloc: Global, good: Good, dataset: usize, replies: usize) -> bool {
+fn stops_at<T: Threads + Wait + Sync>(
+    rt: &T,
+    alloc: Global,
+    good: Good,
+    dataset: usize,
+    replies: usize,
+) -> bool {
     let answer = narrow_answer(rt, alloc, good);
     answer.status == 6
         && answer.dataset.len() == dataset

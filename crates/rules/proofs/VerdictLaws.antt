@@ -13,7 +13,7 @@ use Rattle.syntax_trees.specs.declared.tree.Syntax.{Syntax}
 use Rattle.grammar.specs.Reads.{Reads, IsParsed}
 use Rattle.names.specs.Names.{Prefixes, declare}
 use Rattle.translation.specs.Translation.{translated_after, translated}
-use Rattle.translation.specs.Faults.{operation_count, has_fault}
+use Rattle.faults.specs.Faults.{operation_count, has_fault}
 use Rattle.rules.specs.Refusal.{place_of, Holds, no_reading, fault, IsRefusal, IsChecked, IsJudged, IsFirstFault, IsVerdict, IsAccepted}
 
 -- ---- the first fault

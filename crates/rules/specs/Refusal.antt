@@ -6,7 +6,7 @@ use Rattle.meaning.specs.declared.reply.Refusal.{Refusal}
 use Rattle.meaning.specs.declared.reply.Refusal.TheVariants as refusal
 use Rattle.syntax_trees.specs.declared.tree.Syntax.{Syntax}
 use Rattle.translation.specs.Translation.{translated}
-use Rattle.translation.specs.Faults.{has_fault}
+use Rattle.faults.specs.Faults.{has_fault}
 use Rattle.grammar.specs.Reads.{Reads}
 
 -- the order of the kinds

@@ -3,13 +3,14 @@ ghost use Rattle.std.specs.Prelude.{IfOk};
 ghost use Rattle.rules.specs.Refusal.{IsFirstFault, IsVerdict, IsChecked, IsJudged};
 
 use algebra::Operation;
+use faults::has_fault;
 use grammar::parse;
 use meaning::{Refusal, Request};
 use sets::Items;
 use std::alloc::{AllocError, Global};
 use syntax_trees::Syntax;
 use terms::Term;
-use translation::{has_fault, translated};
+use translation::translated;
 
 /// The operations of an accepted request, in order.
 pub type Update = Items<Operation<Term>>;

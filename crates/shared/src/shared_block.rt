@@ -5,6 +5,7 @@ ghost use Rattle.block_machine.specs.Machine.{IsAllowed};
 ghost use Rattle.block_machine.specs.Serial.{IsHistory};
 ghost use Rattle.book.specs.Run.{state_of, setting_of, IsSoundEvent};
 ghost use Rattle.blocklock.specs.Passes.{IsIdleAt, Includes, Watches, fresh_pass};
+ghost use Rattle.scheduler.specs.Task.{IsNext};
 ghost use Rattle.shared.specs.Calls.{owner, history_of, run_of, entry, IsSoundAt, Made, Tried, Has};
 
 use crate::kept::{Kept, Pass};
@@ -18,6 +19,7 @@ use delta::Finished;
 use dict::{Dict, Id};
 use meaning::Request;
 use reads::View;
+use scheduler::{Task, next};
 use std::alloc::{AllocError, Global};
 use std::marker::Model;
 use std::sync::Wait;
@@ -119,6 +121,18 @@ impl<'a> SharedBlock<'a> {
         ensures pass { Watches owner pass.old pass.new }
     {
         self.lock.front(rt, pass)
+    }
+
+    /// What a worker can do next where all stands that the pass has then seen. It makes no event.
+    pub fn task<R: Wait>(&self, rt: &R, pass: &mut Pass<'a>) -> Option<Task>
+        requires { pass.old.table ≡ self.now }
+        ensures next { IsNext (state_of (run_of pass.new.subject pass.new.seen)) result }
+        ensures pass { Watches owner pass.old pass.new }
+    {
+        let taken = self.lock.hold(rt, pass);
+        let task = next(&taken.book.book);
+        taken.give(pass);
+        task
     }
 
     /// Ends the sharing. The book's journal begins with what each pass has seen, and has no other entries of its worker; no commit that

@@ -5,12 +5,14 @@ ghost use Rattle.std.specs.Prelude.{◌≤◌};
 ghost use Rattle.command_line.specs.CommandLine.{HasWorkers};
 
 use cli::{
-    Fault, InFile, Job, LineFault, Message, OutFile, Watched, check_engine, read_job, run_engine,
+    Fault, InFile, Job, LineFault, Message, OutFile, check_engine, read_job, run_engine,
     serial_engine,
 };
+use devices::Watched;
 use std::process::ExitCode;
 use std::rt::{Env, Files};
 use std::sync::Wait;
+use std::thread::Threads;
 use std::{env, io};
 
 /// The words of the command line. Where they don't come as text, the line is wrong.
@@ -30,7 +32,7 @@ fn words(rt: &(impl Env + AllocGlobal)) -> Result<Vec<String>, LineFault> {
 }
 
 /// Runs a block on a base: the dataset goes to a file, the reply lines to standard output. Workers are from 1 to 64.
-fn run<R: Wait + Files + Print + AllocGlobal>(
+fn run<R: Threads + Wait + Sync + Files + Print + AllocGlobal>(
     rt: &R,
     base: &str,
     block: &str,
@@ -83,8 +85,11 @@ fn check<R: Files + Print + AllocGlobal>(rt: &R, block: &str) -> Result<(), Faul
 }
 
 /// Does a job.
-fn done<R: Wait + Files + Print + AllocGlobal>(rt: &R, job: &Job) -> Result<(), Fault>
-    requires { HasWorkers job.now }
+fn done<R: Threads + Wait + Sync + Files + Print + AllocGlobal>(
+    rt: &R,
+    job: &Job,
+) -> Result<(), Fault>
+    requires workers { HasWorkers job.now }
 {
     match job {
         Job::Run {
@@ -99,7 +104,9 @@ fn done<R: Wait + Files + Print + AllocGlobal>(rt: &R, job: &Job) -> Result<(), 
 }
 
 /// Reads the command line and does its job.
-fn answer<R: Wait + Files + Print + AllocGlobal + Env>(rt: &R) -> Result<(), Fault> {
+fn answer<R: Threads + Wait + Sync + Files + Print + AllocGlobal + Env>(
+    rt: &R,
+) -> Result<(), Fault> {
     let words = match words(rt) {
         Ok(words) => words,
         Err(fault) => return Err(Fault::Line(fault)),

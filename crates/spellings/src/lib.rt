@@ -5,12 +5,12 @@
 #[cfg(test)]
 mod datasets_of_terms;
 #[cfg(test)]
-mod devices;
-#[cfg(test)]
 mod lists;
 #[cfg(test)]
 mod made;
 #[cfg(test)]
 mod objects;
+#[cfg(test)]
+mod slow_devices;
 #[cfg(test)]
 mod texts;

@@ -1,6 +1,7 @@
 //! N-Quads texts: what they spell, and what is written.
 use crate::made::{TWO_GRAPHS, fault_of, spells, two_graphs};
-use nquads::{BaseFault, Watched, front_of, read, read_bytes, tag, write};
+use devices::{ReadFault, Watched, front_of};
+use nquads::{BaseFault, read, read_bytes, tag, write};
 use std::alloc::Global;
 use std::test::Fail;
 use terms::DataSet;
@@ -152,14 +153,14 @@ fn graphs_written(rt: HostRuntime) -> Result<(), Fail> {
 }
 
 /// Whether the front of ten bytes is the whole, or a beginning past this limit.
-fn is_front(alloc: Global, limit: u8) -> Result<bool, BaseFault> {
+fn is_front(alloc: Global, limit: u8) -> Result<bool, ReadFault> {
     let text = b"0123456789".as_slice();
     let front = front_of(alloc, &mut Watched::new(text), limit as usize)?;
     Ok(text.starts_with(&front) && (front.len() == text.len() || front.len() > limit as usize))
 }
 
 #[test]
-fn fronts(rt: HostRuntime) -> Result<(), BaseFault> {
+fn fronts(rt: HostRuntime) -> Result<(), ReadFault> {
     for limit in [0, 1, 9, 10, 11, 255] {
         assert!(rt; is_front(rt.alloc(), limit)?, "{limit}");
     }
@@ -173,6 +174,14 @@ fn messages(rt: HostRuntime) -> Result<(), Fail> {
         (BaseFault::BadLine(3), "bad line 3"),
         (BaseFault::TooLong, "too long"),
         (BaseFault::Device, "cannot read"),
+    ];
+    for (fault, message) in &faults {
+        let text = fault.to_string(rt.alloc())?;
+        assert!(rt; text.as_str() == *message, "{message}");
+    }
+    let faults = [
+        (ReadFault::OutOfMemory, "out of memory"),
+        (ReadFault::Device, "cannot read"),
     ];
     for (fault, message) in &faults {
         let text = fault.to_string(rt.alloc())?;

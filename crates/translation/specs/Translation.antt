@@ -19,10 +19,10 @@ use Rattle.syntax_trees.specs.declared.tree.Step.{Step}
 use Rattle.syntax_trees.specs.declared.tree.Step.TheVariants as step
 use Rattle.syntax_trees.specs.Groups.{group}
 use Rattle.names.specs.Names.{Prefixes, declare, name_term}
-use Rattle.translation.specs.Nodes.{nodes_of_where, nodes_of_operation}
+use Rattle.nodes.specs.Nodes.{nodes_of_where, nodes_of_operation}
 use Rattle.names.specs.Numbers.{Labels, variables_of, labels_of, with_labels}
-use Rattle.translation.specs.Triples.{template_of}
-use Rattle.translation.specs.Groups.{translated_group, quads_pattern}
+use Rattle.group_translation.specs.Triples.{template_of}
+use Rattle.group_translation.specs.Groups.{translated_group, quads_pattern}
 
 abbrev pub target_of : Prefixes → Target Name → Target Term
 target_of ds (target.Graph n) = target.Graph (name_term ds n)

@@ -1,25 +1,23 @@
 //! Requests as updates over terms.
-ghost use Rattle.std.specs.Prelude.{◌≡◌, IfOk, map};
+ghost use Rattle.std.specs.Prelude.{◌≡◌, IfOk};
 ghost use Rattle.std.specs.Option.{option_map};
 ghost use Rattle.algebra.specs.Plans.{nothing, plan_of};
 ghost use Rattle.std.specs.Prelude.{[], None};
 ghost use Rattle.algebra.specs.declared.update.Operation.TheVariants as made;
 ghost use Rattle.algebra.specs.declared.update.GraphOperation.TheVariants as graphs;
-ghost use Rattle.translation.specs.Groups.{quads_pattern};
+ghost use Rattle.group_translation.specs.Groups.{quads_pattern};
 ghost use Rattle.names.specs.Names.{name_term};
 ghost use Rattle.names.specs.Numbers.{variables_of, labels_of, with_labels};
-ghost use Rattle.translation.specs.Nodes.{nodes_of_where, nodes_of_operation};
+ghost use Rattle.nodes.specs.Nodes.{nodes_of_where, nodes_of_operation};
 ghost use Rattle.translation.specs.Translation.{target_of, graph_at, modify_with, operation_with, operation_of, translated};
 
-use crate::groups::{empty_group, quads_pattern, translated_group};
-use crate::nodes::{add_operation, add_where};
-use crate::scope::Scope;
-use crate::triples::template_of;
 use algebra::{GraphOperation, Modify, Operation, Pattern, Plan, Target, Transfer};
+use group_translation::{Scope, quads_pattern, template_of, translate};
 use names::{Labels, Prefixes, Variables};
+use nodes::{operation_nodes, where_nodes};
 use sets::Items;
 use std::alloc::{AllocError, Global};
-use syntax_trees::{Block, Name, Node, Operation as Written, Place, Step};
+use syntax_trees::{Block, Name, Operation as Written, Place, Step};
 use terms::Term;
 
 fn target_of<'a>(
@@ -155,7 +153,8 @@ fn data_with<'a>(
 ) -> Result<Operation<Term>, AllocError>
     ensures { IfOk result (λ operation. operation ≡ modify_with scope.now.prefixes.now scope.now.variables.now scope.now.labels.now None delete.now insert.now nothing) }
 {
-    modify_with(alloc, scope, &None, delete, insert, empty_group(alloc))
+    let nothing = Plan::Basic(Items::new(alloc));
+    modify_with(alloc, scope, &None, delete, insert, nothing)
 }
 
 /// DELETE WHERE, which has its quads as WHERE.
@@ -199,31 +198,18 @@ fn operation_with<'a>(
             insert,
             pattern,
         } => {
-            let pattern = translated_group(alloc, scope, pattern.elements())?;
+            let pattern = translate(alloc, scope, pattern.elements())?;
             let (delete, insert) = (delete.as_slice(), insert.as_slice());
             modify_with(alloc, scope, with, delete, insert, pattern)
         }
     }
 }
 
-/// The nodes of an operation.
-pub fn operation_nodes<'a>(
-    alloc: Global,
-    operation: &Written<'a>,
-) -> Result<Vec<Node<'a>>, AllocError>
-    ensures { IfOk result (λ nodes. nodes.items ≡ nodes_of_operation operation.now) }
-{
-    let mut nodes = Vec::new(alloc);
-    add_operation(alloc, &mut nodes, operation)?;
-    Ok(nodes)
-}
-
 /// The variables of WHERE.
 fn variables_of<'a>(alloc: Global, operation: &Written<'a>) -> Result<Variables<'a>, AllocError>
     ensures { IfOk result (λ variables. variables ≡ variables_of (nodes_of_where operation.now)) }
 {
-    let mut nodes = Vec::new(alloc);
-    add_where(alloc, &mut nodes, operation)?;
+    let nodes = where_nodes(alloc, operation)?;
     Variables::of(alloc, nodes.as_slice())
 }
 

@@ -65,7 +65,8 @@ fn is_short(request: &Request<Id>) -> bool
     }
 }
 
-fn are_short(block: &[Request<Id>]) -> bool
+/// Whether each request has few operations.
+pub fn are_short(block: &[Request<Id>]) -> bool
     ensures { IsTrue result → AreShort block.now }
 {
     block.iter().all(is_short)

@@ -1,5 +1,5 @@
 //! Walks: requests over a base, blocks run one request after another, blocks run through a book event by event, in orders that workers side by side may take, and blocks
-//! run through a shared book, by one worker alone and by four on threads of their own. It has tests alone.
+//! run through a shared book, by one worker alone and by four on threads of their own, and by a pool. It has tests alone.
 #![tactic(auto)]
 
 #[cfg(test)]
@@ -14,6 +14,8 @@ mod lines;
 mod lists;
 #[cfg(test)]
 mod numbers;
+#[cfg(test)]
+mod pools;
 #[cfg(test)]
 mod requests;
 #[cfg(test)]

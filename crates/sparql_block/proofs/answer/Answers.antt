@@ -2,5 +2,5 @@ use Rattle.std.proofs.Common.{map, string_bytes}
 use Rattle.sparql_block.proofs.Workers.{in_range}
 use Rattle.sparql_block.proofs.answer.Goals as goal
 
-pub done-requires : goal.done-requires
-done-requires g c = in_range (map string_bytes c.as_slice.result.now) c.in-Ok-read_job.job c.in-Ok-read_job.ensures
+pub done-requires-clause-workers : goal.done-requires-clause-workers
+done-requires-clause-workers g c = in_range (map string_bytes c.as_slice.result.now) c.in-Ok-read_job.job c.in-Ok-read_job.ensures

@@ -1,12 +1,11 @@
 use Rattle.std.specs.HashSet.{contains}
 use Rattle.std.specs.Prelude.{not, nat_eq}
-use Rattle.std.proofs.Common.{◌++◌, List, ℕ, sym, ap, ◌∙◌, map, filter}
+use Rattle.std.proofs.Common.{◌++◌, ap, ◌∙◌, map, filter}
 use Rattle.std.specs.List.{list_all, flat_map}
 use Rattle.sets.specs.Sets.{set_of}
 use Rattle.datasets.specs.Dataset.{Dataset}
 use Rattle.terms.specs.declared.term.Term.{Term}
 use Rattle.terms.specs.Term.{text_cmp}
-use Rattle.terms.specs.Canonical.{term_text}
 use Rattle.terms.specs.Placed.{term_at, quad_at, is_within, is_quad_within}
 use Rattle.nquads.specs.Canonical.{ended}
 use Rattle.nquads.specs.Placed.{graph_line_at, quad_text_at}

@@ -1,0 +1,69 @@
+//! The first bytes that a reader gives.
+ghost use Rattle.std.specs.Prelude.{◌≡◌, ◌<◌, ◌+◌, ◌-◌, ◌^◌, IfOk, IfSome, if◌then◌else◌};
+ghost use Rattle.devices.specs.Front.{IsFront, is_device};
+ghost use Rattle.devices.specs.declared.front.ReadFault.TheVariants.{OutOfMemory, Device};
+
+use crate::watched::{Failed, Watched};
+use std::alloc::{AllocError, AllocFailed, Global};
+use std::io::Read;
+use thiserror::Error;
+
+/// Why the bytes of a reader did not come.
+#[derive(Clone, Copy, Debug, Error)]
+pub enum ReadFault {
+    /// A growth was refused.
+    #[error("out of memory")]
+    OutOfMemory,
+    /// The reader failed.
+    #[error("cannot read")]
+    Device,
+}
+
+impl From<AllocError> for ReadFault {
+    ghost from_gives = { λ _ e. e ≡ OutOfMemory };
+
+    fn from(_e: AllocError) -> ReadFault {
+        ReadFault::OutOfMemory
+    }
+}
+
+impl<T: Drop> From<AllocFailed<T>> for ReadFault {
+    ghost from_gives = { λ _ e. e ≡ OutOfMemory };
+
+    fn from(_e: AllocFailed<T>) -> ReadFault {
+        ReadFault::OutOfMemory
+    }
+}
+
+impl From<Failed> for ReadFault {
+    ghost from_gives = { λ _ e. e ≡ Device };
+
+    fn from(_e: Failed) -> ReadFault {
+        ReadFault::Device
+    }
+}
+
+/// The first bytes that a reader gives: all of them, or more than the limit. Nothing is read behind a failed read. `OutOfMemory` may come at
+/// any text, `Device` only where a read failed.
+pub fn front_of<R: Read>(
+    alloc: Global,
+    reader: &mut Watched<R>,
+    limit: usize,
+) -> Result<Vec<u8>, ReadFault>
+    requires failures { reader.old.failures < 2 ^ 64 - 1 }
+    requires limit { limit < 2 ^ 32 }
+    ensures front { IfOk result (λ bytes. IfSome (R.remaining reader.old.inner) (λ text. IsFront limit text bytes.items)) }
+    ensures count { reader.new.failures ≡ (if is_device result then reader.old.failures + 1 else reader.old.failures) }
+{
+    let mut bytes = Vec::new(alloc);
+    let mut buffer = [0u8; 65_536];
+    while bytes.len() <= limit {
+        let count = reader.read(&mut buffer)?;
+        if count == 0 {
+            return Ok(bytes);
+        }
+        let (given, _) = buffer.split_at(count);
+        bytes.extend_from_slice(given)?;
+    }
+    Ok(bytes)
+}

@@ -1,0 +1,11 @@
+//! Readers and writers whose failed calls are counted.
+//!
+//! Stands on the standard library alone. Used above: `Watched` tells each failed call and whether a writer is flushed, and `front_of` takes the
+//! first bytes of a reader.
+#![tactic(auto)]
+
+mod front;
+mod watched;
+
+pub use front::{ReadFault, front_of};
+pub use watched::{Failed, Watched};

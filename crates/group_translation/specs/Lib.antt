@@ -1,0 +1,3 @@
+pub mod Triples
+pub mod Chains
+pub mod Groups

@@ -1,0 +1,296 @@
+//! The nodes of quads, groups and operations, one after another.
+ghost use Rattle.std.specs.Prelude.{◌≡◌, ◌++◌, ◌∷◌, [], IfOk, OnOk};
+ghost use Rattle.syntax_trees.specs.declared.tree.Node.TheVariants as node;
+ghost use Rattle.std.specs.Option.{option_to_list};
+ghost use Rattle.syntax_trees.specs.Expressions.{tree_of};
+ghost use Rattle.syntax_trees.specs.Groups.{part_of, parts_of, group};
+ghost use Rattle.nodes.specs.Nodes.{nodes_of_property, nodes_of_subject, nodes_of_triples, nodes_of_block, nodes_of_blocks, nodes_of_tree, nodes_of_part, nodes_of_parts, nodes_of_target, nodes_of_place, nodes_of_with, nodes_of_where, nodes_of_operation};
+
+use algebra::Target;
+use std::alloc::{AllocError, Global};
+use syntax_trees::{
+    Block, Element, Expression, Literal, Name, Node, Operation, Place, Property, SameSubject,
+};
+
+/// The same name again.
+fn name_again<'a>(name: &Name<'a>) -> Name<'a>
+    ensures { result ≡ name.now }
+{
+    match name {
+        Name::Iri(iri) => Name::Iri(iri.again()),
+        Name::Prefixed { prefix, local } => Name::Prefixed {
+            prefix: prefix.again(),
+            local: local.again(),
+        },
+    }
+}
+
+fn literal_again<'a>(literal: &Literal<'a>) -> Literal<'a>
+    ensures { result ≡ literal.now }
+{
+    match literal {
+        Literal::Plain(text) => Literal::Plain(text.again()),
+        Literal::Tagged(text, tag) => Literal::Tagged(text.again(), tag.again()),
+        Literal::Typed(text, datatype) => Literal::Typed(text.again(), name_again(datatype)),
+        Literal::Integer(digits) => Literal::Integer(digits.again()),
+        Literal::Boolean(truth) => Literal::Boolean(*truth),
+    }
+}
+
+fn node_again<'a>(node: &Node<'a>) -> Node<'a>
+    ensures { result ≡ node.now }
+{
+    match node {
+        Node::Name(name) => Node::Name(name_again(name)),
+        Node::Type => Node::Type,
+        Node::Variable(name) => Node::Variable(name.again()),
+        Node::Blank(label) => Node::Blank(label.again()),
+        Node::Literal(literal) => Node::Literal(literal_again(literal)),
+    }
+}
+
+fn add_property<'a>(found: &mut Vec<Node<'a>>, property: &Property<'a>) -> Result<(), AllocError>
+    ensures { OnOk result (found.new.items ≡ found.old.items ++ nodes_of_property property.now) }
+{
+    found.push(node_again(&property.verb))?;
+    for object in property.objects.as_slice() {
+        found.push(node_again(object))?;
+    }
+    Ok(())
+}
+
+fn add_subject<'a>(found: &mut Vec<Node<'a>>, same: &SameSubject<'a>) -> Result<(), AllocError>
+    ensures { OnOk result (found.new.items ≡ found.old.items ++ nodes_of_subject same.now) }
+{
+    found.push(node_again(&same.subject))?;
+    for property in same.properties.as_slice() {
+        add_property(found, property)?;
+    }
+    Ok(())
+}
+
+fn add_triples<'a>(found: &mut Vec<Node<'a>>, triples: &[SameSubject<'a>]) -> Result<(), AllocError>
+    ensures { OnOk result (found.new.items ≡ found.old.items ++ nodes_of_triples triples.now) }
+{
+    for same in triples {
+        add_subject(found, same)?;
+    }
+    Ok(())
+}
+
+fn add_graph<'a>(found: &mut Vec<Node<'a>>, graph: &Option<Node<'a>>) -> Result<(), AllocError>
+    ensures { OnOk result (found.new.items ≡ found.old.items ++ option_to_list graph.now) }
+{
+    if let Some(node) = graph {
+        found.push(node_again(node))?;
+    }
+    Ok(())
+}
+
+fn add_block<'a>(found: &mut Vec<Node<'a>>, block: &Block<'a>) -> Result<(), AllocError>
+    ensures { OnOk result (found.new.items ≡ found.old.items ++ nodes_of_block block.now) }
+{
+    add_graph(found, &block.graph)?;
+    add_triples(found, block.triples.as_slice())
+}
+
+fn add_blocks<'a>(found: &mut Vec<Node<'a>>, blocks: &[Block<'a>]) -> Result<(), AllocError>
+    ensures { OnOk result (found.new.items ≡ found.old.items ++ nodes_of_blocks blocks.now) }
+{
+    for block in blocks {
+        add_block(found, block)?;
+    }
+    Ok(())
+}
+
+/// Adds the nodes of an expression. Left operands lie as deep as a text is long: what is still to come stands on a stack.
+#[tactic(auto, using(crate::proofs::TreeLaws::pending_push, crate::proofs::TreeLaws::weight_push))]
+fn add_expression<'a>(
+    alloc: Global,
+    found: &mut Vec<Node<'a>>,
+    expression: &Expression<'a>,
+) -> Result<(), AllocError>
+    ensures { OnOk result (found.new.items ≡ found.old.items ++ nodes_of_tree (tree_of expression.now)) }
+{
+    let mut pending = Vec::new(alloc);
+    pending.push(expression)?;
+    while let Some(next) = pending.pop() {
+        match next {
+            Expression::Value(node) => found.push(node_again(node))?,
+            Expression::Bound(name) => found.push(Node::Variable(name.again()))?,
+            Expression::Not(inner) => pending.push(inner)?,
+            Expression::One(_, inner) => pending.push(inner)?,
+            Expression::Binary(_, left, right) => {
+                pending.push(right)?;
+                pending.push(left)?;
+            }
+            Expression::Two(_, left, right) => {
+                pending.push(right)?;
+                pending.push(left)?;
+            }
+        }
+    }
+    Ok(())
+}
+
+#[cycle(add_group)]
+fn add_group<'a>(
+    alloc: Global,
+    found: &mut Vec<Node<'a>>,
+    elements: &[Element<'a>],
+) -> Result<(), AllocError>
+    ensures { OnOk result (found.new.items ≡ found.old.items ++ nodes_of_parts (group (parts_of elements.now))) }
+{
+    for element in elements {
+        add_element(alloc, found, element)?;
+    }
+    Ok(())
+}
+
+#[cycle(add_group)]
+#[tactic(auto, using(crate::proofs::GroupLaws::union_lists))]
+fn add_element<'a>(
+    alloc: Global,
+    found: &mut Vec<Node<'a>>,
+    element: &Element<'a>,
+) -> Result<(), AllocError>
+    ensures { OnOk result (found.new.items ≡ found.old.items ++ nodes_of_part (part_of element.now)) }
+{
+    match element {
+        Element::Triples(triples) => add_triples(found, triples.as_slice()),
+        Element::Union(groups) => {
+            for group in groups {
+                add_group(alloc, found, group.as_slice())?;
+            }
+            Ok(())
+        }
+        Element::Optional(group) => add_group(alloc, found, group.as_slice()),
+        Element::Minus(group) => add_group(alloc, found, group.as_slice()),
+        Element::Graph(node, group) => {
+            found.push(node_again(node))?;
+            add_group(alloc, found, group.as_slice())
+        }
+        Element::Filter(expression) => add_expression(alloc, found, expression),
+    }
+}
+
+fn add_name<'a>(found: &mut Vec<Node<'a>>, name: &Name<'a>) -> Result<(), AllocError>
+    ensures { OnOk result (found.new.items ≡ found.old.items ++ node.Name name.now ∷ []) }
+{
+    found.push(Node::Name(name_again(name)))?;
+    Ok(())
+}
+
+fn add_target<'a>(found: &mut Vec<Node<'a>>, target: &Target<Name<'a>>) -> Result<(), AllocError>
+    ensures { OnOk result (found.new.items ≡ found.old.items ++ nodes_of_target target.now) }
+{
+    match target {
+        Target::Graph(name) => add_name(found, name),
+        Target::Default | Target::Named | Target::All => Ok(()),
+    }
+}
+
+fn add_place<'a>(found: &mut Vec<Node<'a>>, place: &Place<'a>) -> Result<(), AllocError>
+    ensures { OnOk result (found.new.items ≡ found.old.items ++ nodes_of_place place.now) }
+{
+    match place {
+        Place::Default => Ok(()),
+        Place::Graph(name) => add_name(found, name),
+    }
+}
+
+fn add_with<'a>(found: &mut Vec<Node<'a>>, graph: &Option<Name<'a>>) -> Result<(), AllocError>
+    ensures { OnOk result (found.new.items ≡ found.old.items ++ nodes_of_with graph.now) }
+{
+    match graph {
+        Some(name) => add_name(found, name),
+        None => Ok(()),
+    }
+}
+
+fn add_where<'a>(
+    alloc: Global,
+    found: &mut Vec<Node<'a>>,
+    operation: &Operation<'a>,
+) -> Result<(), AllocError>
+    ensures { OnOk result (found.new.items ≡ found.old.items ++ nodes_of_where operation.now) }
+{
+    match operation {
+        Operation::DeleteWhere(quads) => add_blocks(found, quads.as_slice()),
+        Operation::Modify { pattern, .. } => add_group(alloc, found, pattern.elements()),
+        Operation::Create { .. }
+        | Operation::Drop { .. }
+        | Operation::Clear { .. }
+        | Operation::Transfer { .. }
+        | Operation::InsertData(_)
+        | Operation::DeleteData(_) => Ok(()),
+    }
+}
+
+fn add_operation<'a>(
+    alloc: Global,
+    found: &mut Vec<Node<'a>>,
+    operation: &Operation<'a>,
+) -> Result<(), AllocError>
+    ensures { OnOk result (found.new.items ≡ found.old.items ++ nodes_of_operation operation.now) }
+{
+    match operation {
+        Operation::Create { graph, .. } => add_name(found, graph),
+        Operation::Drop { target, .. } => add_target(found, target),
+        Operation::Clear { target, .. } => add_target(found, target),
+        Operation::Transfer { from, to, .. } => {
+            add_place(found, from)?;
+            add_place(found, to)
+        }
+        Operation::InsertData(quads) => add_blocks(found, quads.as_slice()),
+        Operation::DeleteData(quads) => add_blocks(found, quads.as_slice()),
+        Operation::DeleteWhere(quads) => add_blocks(found, quads.as_slice()),
+        Operation::Modify {
+            with,
+            delete,
+            insert,
+            pattern,
+        } => {
+            add_with(found, with)?;
+            add_blocks(found, delete.as_slice())?;
+            add_blocks(found, insert.as_slice())?;
+            add_group(alloc, found, pattern.elements())
+        }
+    }
+}
+
+/// The nodes of quads, in the order of their text (SPARQL 1.1 Update, 19.8, productions 50 to 52): of each block the node of its GRAPH, if it has
+/// one, and those of its triples. An error comes only where a growth was refused.
+pub fn block_nodes<'a>(alloc: Global, blocks: &[Block<'a>]) -> Result<Vec<Node<'a>>, AllocError>
+    ensures { IfOk result (λ nodes. nodes.items ≡ nodes_of_blocks blocks.now) }
+{
+    let mut nodes = Vec::new(alloc);
+    add_blocks(&mut nodes, blocks)?;
+    Ok(nodes)
+}
+
+/// The nodes of an operation's WHERE, in the order of its text (SPARQL 1.1 Update, 19.8, productions 40 and 41). DELETE WHERE has its quads there,
+/// and operations on graphs and on data have none. An error comes only where a growth was refused.
+pub fn where_nodes<'a>(
+    alloc: Global,
+    operation: &Operation<'a>,
+) -> Result<Vec<Node<'a>>, AllocError>
+    ensures { IfOk result (λ nodes. nodes.items ≡ nodes_of_where operation.now) }
+{
+    let mut nodes = Vec::new(alloc);
+    add_where(alloc, &mut nodes, operation)?;
+    Ok(nodes)
+}
+
+/// The nodes of an operation, in the order of its text (SPARQL 1.1 Update, 19.8, production 30): names of graphs, WITH, templates and WHERE. An
+/// error comes only where a growth was refused.
+pub fn operation_nodes<'a>(
+    alloc: Global,
+    operation: &Operation<'a>,
+) -> Result<Vec<Node<'a>>, AllocError>
+    ensures { IfOk result (λ nodes. nodes.items ≡ nodes_of_operation operation.now) }
+{
+    let mut nodes = Vec::new(alloc);
+    add_operation(alloc, &mut nodes, operation)?;
+    Ok(nodes)
+}

@@ -1,0 +1,73 @@
+-- A pass that made a call is still for its duty.
+use Rattle.std.proofs.Common.{◌≡◌, ◌<◌, ◌≤◌, ℕ, List, [], ◌∷◌, ◌++◌, ◌+◌, length, length-append, All, IfOk, Result, Ok, Err, refl, sym, ap, ◌∙◌, subst, arith}
+use Rattle.std.proofs.lemmas.List.{take_all}
+use Rattle.std.proofs.lemmas.List.Elements.{All-append}
+use Rattle.datasets.specs.declared.id.Id.{Id}
+use Rattle.terms.specs.declared.term.Term.{Term}
+use Rattle.dict.specs.Dictionary.{numbers}
+use Rattle.meaning.specs.Run.{Request, run, run_of_first}
+use Rattle.meaning.specs.declared.reply.Reply.{Reply}
+use Rattle.reads.specs.Reads.{View}
+use Rattle.block_machine.specs.declared.state.Event.{Event}
+use Rattle.block_machine.specs.declared.state.Reply.{Reply as Told}
+use Rattle.blocklock.specs.Passes.{Includes}
+use Rattle.book.specs.Run.{Run, front_run, state_of}
+use Rattle.shared.specs.Calls.{Viewed, Made, owner, history_of, run_of}
+use Rattle.shared.specs.Duty.{Duty, IsPassFor}
+use Rattle.pool.specs.Duty.{IsDone, AreDone}
+
+pub still_for : {E : Type 0} (d : Duty) (old new : Viewed) (event : Event) (r : Result Told E) → IsPassFor d old → Made old new event r → IsPassFor d new
+still_for d old new event (Ok reply) h made =
+    record {
+      table = ap (λ (p : Viewed). p.table) made.sees ∙ h.table;
+      subject = ap (λ (p : Viewed). p.subject) made.sees ∙ h.subject;
+      holds = ap (λ (p : Viewed). p.holds) made.sees ∙ h.holds;
+    }
+still_for d old new event (Err e) h made =
+    record {
+      table = ap (λ (p : Viewed). p.table) made.sees ∙ h.table;
+      subject = ap (λ (p : Viewed). p.subject) made.sees ∙ h.subject;
+      holds = ap (λ (p : Viewed). p.holds) made.sees ∙ h.holds;
+    }
+
+-- ---- the book that is closed with passes that are done
+
+pub subject_is : (d : Duty) (book : Run) (before ps : List Viewed) (n : ℕ) → length before ≡ n → 0 < n → AreDone d before ps → All (λ p. Includes owner p (history_of book)) ps
+    → (history_of book).subject ≡ d.subject
+subject_is d book before [] n is some done included = absurd (let none = done.count in omega (arith, is, some, none))
+subject_is d book before (p ∷ ps) n is some done included = (included 0 p (omega arith)).subject ∙ (done.done 0 p (omega arith)).pass.subject
+
+pub front_is : (d : Duty) (book : Run) (before ps : List Viewed) (n : ℕ) → length before ≡ n → 0 < n → AreDone d before ps
+    → All (λ p. (state_of (run_of p.subject p.seen)).front ≤ (state_of book).front) ps → length d.subject.block ≤ (state_of book).front
+front_is d book before [] n is some done fronts = absurd (let none = done.count in omega (arith, is, some, none))
+front_is d book before (p ∷ ps) n is some done fronts =
+    let reached = fronts 0 p (omega arith) in
+    let whole = (done.done 0 p (omega arith)).whole in
+    omega (arith, whole, reached)
+
+-- ---- two crews
+
+pub at_ok : {T E : Type 0} {r : Result T E} {x : T} (P : T → Type 0) → IfOk r P → r ≡ Ok x → P x
+at_ok P h is = subst (λ s. IfOk s P) is h
+
+pub both_done : (d e f : Duty) (before first second left right all : List Viewed) → e ≡ d → f ≡ d → length first + length second ≡ length before
+    → AreDone e first left → AreDone f second right → all ≡ left ++ right → AreDone d before all
+both_done d e f before first second left right all same_e same_f count a b is =
+    let own : All (IsDone d) left = subst (λ x. All (IsDone x) left) same_e a.done in
+    let other : All (IsDone d) right = subst (λ x. All (IsDone x) right) same_f b.done in
+    let long : length all ≡ length left + length right = ap length is ∙ length-append left right in
+    let n = a.count in
+    let m = b.count in
+    record {
+      count = omega (arith, long, n, m, count);
+      done = subst (λ xs. All (IsDone d) xs) (sym is) (All-append (IsDone d) left right own other);
+    }
+
+-- ---- the whole block
+
+pub whole_run : (terms : List Term) (base : View) (block : List (Request Id)) (book : Run) (dataset : View) (replies : List Reply)
+    → book.terms ≡ terms → book.base ≡ base → book.block ≡ block → length block ≤ (state_of book).front → (dataset, replies) ≡ front_run book
+    → (dataset, replies) ≡ run (numbers terms) block base
+whole_run terms base block book dataset replies is_terms is_base is_block whole e =
+    e ∙ (λ t. run_of_first (numbers (is_terms t)) (state_of book).front (is_block t) (is_base t))
+    ∙ ap (λ (b : List (Request Id)). run (numbers terms) b base) (take_all (state_of book).front block whole)

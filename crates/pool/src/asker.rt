@@ -1,0 +1,89 @@
+//! A worker's pass as the source of one incarnation of a request.
+ghost use Rattle.std.specs.Prelude.{◌≡◌};
+
+use crate::gate::Gate;
+use crate::worker::{Turn, Workers};
+use block_machine::{Event, Reply};
+use datasets::{Id, Read};
+use reads::{Answered, Source, Stop};
+use shared::Pass;
+use std::marker::Model;
+use std::sync::Wait;
+
+/// What answers the reads of one incarnation of a request: a shared book, by a pass, which it keeps until the run ends. To a contract it is
+/// its pass.
+#[derive(Drop)]
+pub struct Asking<'w, 's, 'a, R: Wait, G: Gate> {
+    workers: &'w Workers<'s, 'a, R, G>,
+    pass: Pass<'a>,
+    turn: Turn,
+}
+
+impl<'w, 's, 'a, R: Wait, G: Gate> Model for Asking<'w, 's, 'a, R, G> {
+    ghost use Rattle.std.specs.Coded.{codes};
+    ghost use Rattle.std.specs.Prelude.{◌≡◌};
+    ghost use Rattle.algebra.specs.Codes.{plan_code};
+    ghost use Rattle.datasets.specs.declared.id.Id.{Id as Number};
+    ghost use Rattle.shared.specs.Calls.{Viewed};
+
+    ghost Value = { Viewed };
+
+    ghost coded = { Prim.hlevel (codes, plan_code {K = Number} (Prim.hlevel codes)) };
+
+    ghost view = { λ a. a.pass };
+
+    ghost invariant = { λ a. a.pass.table ≡ a.workers.now.table };
+}
+
+impl<'w, 's, 'a, R: Wait, G: Gate> Asking<'w, 's, 'a, R, G> {
+    /// The source of an incarnation, by a pass.
+    pub fn new(workers: &'w Workers<'s, 'a, R, G>, pass: Pass<'a>, turn: Turn) -> Self
+        requires { pass.table ≡ workers.now.table }
+        ensures { result ≡ pass.entry }
+    {
+        Asking {
+            workers,
+            pass,
+            turn,
+        }
+    }
+
+    /// The pass again.
+    pub fn into_pass(self) -> Pass<'a>
+        ensures { result ≡ self.entry }
+    {
+        self.pass
+    }
+}
+
+impl<'w, 's, 'a, R: Wait, G: Gate> Source for Asking<'w, 's, 'a, R, G> {
+    ghost use Rattle.std.specs.Prelude.{[]};
+    ghost use Rattle.shared.specs.Calls.{Viewed};
+
+    // What a shared book may answer depends on the moment.
+    ghost may = { λ asking read answer. Unit {0} };
+
+    // The pass, but for what it has seen.
+    ghost Subject = { Viewed };
+
+    ghost subject = { λ asking. record asking { seen = [] } };
+
+    fn ask(&mut self, read: &Read<Id>) -> Result<Answered, Stop> {
+        let Turn { place, incarnation } = self.turn;
+        let workers = self.workers;
+        let reply = workers.shared.read(
+            workers.rt,
+            workers.alloc,
+            &mut self.pass,
+            place,
+            incarnation,
+            read,
+        )?;
+        let event = Event::Read(place, incarnation, *read);
+        match workers.shown(&self.pass, event, reply) {
+            Reply::Answered(answer) => Ok(answer),
+            Reply::Blocked(lower) => Err(Stop::Blocked(lower)),
+            _ => Err(Stop::Stale),
+        }
+    }
+}

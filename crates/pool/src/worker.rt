@@ -1,0 +1,295 @@
+//! What one worker does until all requests are committed.
+ghost use Rattle.std.specs.Prelude.{◌≡◌, ◌<◌, ◌^◌, Some, length, slice_get, IfOk, IfSome};
+ghost use Rattle.update.specs.Asked.{AreShort, IsShort};
+ghost use Rattle.shared.specs.Calls.{IsSoundAt};
+ghost use Rattle.shared.specs.Duty.{IsPassFor};
+ghost use Rattle.pool.specs.Duty.{IsDone};
+
+use crate::asker::Asking;
+use crate::gate::Gate;
+use block_machine::{Entry, Event, Reply};
+use crossbeam_utils::Backoff;
+use datasets::Id;
+use delta::Finished;
+use dict::Dict;
+use meaning::Request;
+use reads::{Stop, View};
+use scheduler::Task;
+use shared::{Pass, SharedBlock};
+use std::alloc::{AllocError, Global};
+use std::marker::Model;
+use std::sync::Wait;
+use std::sync::atomic::{AtomicBool, Ordering};
+use update::execute;
+
+/// Which incarnation of which request is run.
+#[derive(Clone, Copy)]
+pub struct Turn {
+    pub place: usize,
+    pub incarnation: u64,
+}
+
+/// A shared book, what it is about, and what sees the events of its workers. To a contract it is what the workers are there for.
+#[derive(Drop)]
+pub struct Workers<'s, 'a, R: Wait, G: Gate> {
+    pub(crate) rt: &'s R,
+    pub(crate) alloc: Global,
+    pub(crate) shared: &'s SharedBlock<'a>,
+    pub(crate) terms: &'a Dict,
+    pub(crate) base: &'a View,
+    pub(crate) block: &'a [Request<Id>],
+    pub(crate) gate: &'s G,
+    // Whether one of them was refused memory.
+    pub(crate) stopped: &'s AtomicBool,
+}
+
+impl<'s, 'a, R: Wait, G: Gate> Model for Workers<'s, 'a, R, G> {
+    ghost use Rattle.std.specs.Coded.{codes};
+    ghost use Rattle.algebra.specs.Codes.{plan_code};
+    ghost use Rattle.datasets.specs.declared.id.Id.{Id as Number};
+    ghost use Rattle.shared.specs.Duty.{Duty};
+
+    ghost Value = { Duty };
+
+    ghost coded = { Prim.hlevel (codes, plan_code {K = Number} (Prim.hlevel codes)) };
+
+    ghost view = { λ w. record { table = w.shared.now; subject = record { terms = w.terms.now; base = w.base.now; block = w.block.now } } };
+}
+
+impl<'s, 'a, R: Wait, G: Gate> Workers<'s, 'a, R, G> {
+    /// Shows an answered event to the gate, and gives its reply again.
+    pub fn shown(&self, pass: &Pass<'a>, event: Event, reply: Reply) -> Reply
+        ensures { result ≡ reply }
+    {
+        let worker = pass.worker();
+        let entry = Entry {
+            worker,
+            event,
+            reply,
+        };
+        self.gate.after(worker, &entry);
+        entry.reply
+    }
+
+    // The finished run of a request, or nothing where a read was not answered, and the pass again.
+    fn executed(
+        &self,
+        pass: Pass<'a>,
+        turn: Turn,
+        request: &Request<Id>,
+    ) -> Result<(Pass<'a>, Option<Finished>), AllocError>
+        requires pass { IsPassFor self.now pass }
+        requires place { turn.place < 2 ^ 32 }
+        requires is { slice_get self.now.subject.block turn.place ≡ Some request.now }
+        requires short { IsShort request.now }
+        ensures pass { IfOk result (λ r. IsPassFor self.now r.0) }
+        ensures sound { IfOk result (λ r. IfSome r.1 (λ run. IsSoundAt self.now.subject turn.place run)) }
+    {
+        let mut asking = Asking::new(self, pass, turn);
+        let place = turn.place as u32;
+        let execution = execute(self.alloc, self.terms, place, request, &mut asking);
+        let pass = asking.into_pass();
+        match execution {
+            Ok(execution) => Ok((pass, Some(execution.into_finished()))),
+            Err(Stop::Memory) => Err(AllocError),
+            Err(_) => Ok((pass, None)),
+        }
+    }
+
+    // Leaves a request.
+    fn give_up(&self, pass: &mut Pass<'a>, turn: Turn) -> Result<(), AllocError>
+        requires { IsPassFor self.now pass.old }
+        ensures { IsPassFor self.now pass.new }
+    {
+        let Turn { place, incarnation } = turn;
+        let reply = self
+            .shared
+            .give_up(self.rt, self.alloc, pass, place, incarnation)?;
+        self.shown(pass, Event::GiveUp(place, incarnation), reply);
+        Ok(())
+    }
+
+    // Publishes a finished run, and leaves the request where that is refused. It answers whether it was published.
+    fn publish(&self, pass: &mut Pass<'a>, turn: Turn, run: Finished) -> Result<bool, AllocError>
+        requires pass { IsPassFor self.now pass.old }
+        requires sound { IsSoundAt self.now.subject turn.place run }
+        ensures { IsPassFor self.now pass.new }
+    {
+        let Turn { place, incarnation } = turn;
+        let reply = self
+            .shared
+            .publish_owned(self.rt, self.alloc, pass, place, incarnation, run)?;
+        let event = Event::Publish(place, incarnation, None);
+        if let Reply::Published = self.shown(pass, event, reply) {
+            return Ok(true);
+        }
+        self.give_up(pass, turn)?;
+        Ok(false)
+    }
+
+    // Runs an incarnation that was taken, and publishes its run. It answers whether one was published.
+    fn run_taken(
+        &self,
+        pass: Pass<'a>,
+        turn: Turn,
+        request: &Request<Id>,
+    ) -> Result<(Pass<'a>, bool), AllocError>
+        requires pass { IsPassFor self.now pass }
+        requires place { turn.place < 2 ^ 32 }
+        requires is { slice_get self.now.subject.block turn.place ≡ Some request.now }
+        requires short { IsShort request.now }
+        ensures { IfOk result (λ r. IsPassFor self.now r.0) }
+    {
+        let (mut pass, found) = self.executed(pass, turn, request)?;
+        let is_published = match found {
+            Some(run) => self.publish(&mut pass, turn, run)?,
+            None => {
+                self.give_up(&mut pass, turn)?;
+                false
+            }
+        };
+        Ok((pass, is_published))
+    }
+
+    // Takes the request at a place and runs it. It answers whether a run was published.
+    fn take(&self, pass: Pass<'a>, place: usize) -> Result<(Pass<'a>, bool), AllocError>
+        requires pass { IsPassFor self.now pass }
+        requires size { length self.now.subject.block < 2 ^ 32 }
+        requires short { AreShort self.now.subject.block }
+        ensures { IfOk result (λ r. IsPassFor self.now r.0) }
+    {
+        let Some(request) = self.block.get(place) else {
+            return Ok((pass, false));
+        };
+        let mut pass = pass;
+        let reply = self.shared.take(self.rt, self.alloc, &mut pass, place)?;
+        let Reply::Taken(incarnation) = self.shown(&pass, Event::Take(place), reply) else {
+            return Ok((pass, false));
+        };
+        self.run_taken(pass, Turn { place, incarnation }, request)
+    }
+
+    // Begins a pass of checks. It answers whether that was not refused.
+    fn begin(&self, pass: &mut Pass<'a>, turn: Turn) -> Result<bool, AllocError>
+        requires { IsPassFor self.now pass.old }
+        ensures { IsPassFor self.now pass.new }
+    {
+        let Turn { place, incarnation } = turn;
+        let reply = self
+            .shared
+            .begin(self.rt, self.alloc, pass, place, incarnation)?;
+        let reply = self.shown(pass, Event::Begin(place, incarnation), reply);
+        Ok(matches!(reply, Reply::Begun))
+    }
+
+    // Checks the next note of the pass of checks. It answers whether the check was made.
+    fn check(&self, pass: &mut Pass<'a>, turn: Turn) -> Result<bool, AllocError>
+        requires { IsPassFor self.now pass.old }
+        ensures { IsPassFor self.now pass.new }
+    {
+        let Turn { place, incarnation } = turn;
+        let reply = self
+            .shared
+            .check(self.rt, self.alloc, pass, place, incarnation)?;
+        let reply = self.shown(pass, Event::Check(place, incarnation), reply);
+        Ok(matches!(reply, Reply::Passed | Reply::Aborted))
+    }
+
+    // Commits the request at a place. It answers whether that was not refused.
+    fn commit(&self, pass: &mut Pass<'a>, place: usize) -> Result<bool, AllocError>
+        requires { IsPassFor self.now pass.old }
+        ensures { IsPassFor self.now pass.new }
+    {
+        let reply = self.shared.commit(self.rt, self.alloc, pass, place)?;
+        let reply = self.shown(pass, Event::Commit(place), reply);
+        Ok(matches!(reply, Reply::Committed))
+    }
+
+    // Does a task. It answers whether the block got on by it.
+    fn act(&self, pass: Pass<'a>, task: Task) -> Result<(Pass<'a>, bool), AllocError>
+        requires pass { IsPassFor self.now pass }
+        requires size { length self.now.subject.block < 2 ^ 32 }
+        requires short { AreShort self.now.subject.block }
+        ensures { IfOk result (λ r. IsPassFor self.now r.0) }
+    {
+        let mut pass = pass;
+        let got_on = match task {
+            Task::Take(place) => return self.take(pass, place),
+            Task::Commit(place) => self.commit(&mut pass, place)?,
+            Task::Begin(place, incarnation) => self.begin(&mut pass, Turn { place, incarnation })?,
+            Task::Check(place, incarnation) => self.check(&mut pass, Turn { place, incarnation })?,
+        };
+        Ok((pass, got_on))
+    }
+
+    // Does the next task, if there is one. It answers whether the block got on by it.
+    fn advance(&self, pass: Pass<'a>) -> Result<(Pass<'a>, bool), AllocError>
+        requires pass { IsPassFor self.now pass }
+        requires size { length self.now.subject.block < 2 ^ 32 }
+        requires short { AreShort self.now.subject.block }
+        ensures { IfOk result (λ r. IsPassFor self.now r.0) }
+    {
+        let mut pass = pass;
+        match self.shared.task(self.rt, &mut pass) {
+            Some(task) => self.act(pass, task),
+            None => Ok((pass, false)),
+        }
+    }
+
+    // Does tasks until all requests are committed, or one of the workers was refused memory.
+    fn work(&self, pass: Pass<'a>) -> Result<Pass<'a>, AllocError>
+        requires pass { IsPassFor self.now pass }
+        requires size { length self.now.subject.block < 2 ^ 32 }
+        requires short { AreShort self.now.subject.block }
+        ensures { IfOk result (IsDone self.now) }
+    {
+        let mut pass = pass;
+        let backoff = Backoff::new();
+        for _ in self.rt.forever() {
+            if self.stopped.load(Ordering::SeqCst) {
+                return Err(AllocError);
+            }
+            let (next, got_on) = self.advance(pass)?;
+            pass = next;
+            if got_on {
+                backoff.reset();
+                continue;
+            }
+            if self.shared.front(self.rt, &mut pass) >= self.block.len() {
+                return Ok(pass);
+            }
+            backoff.snooze();
+        }
+        unreachable!()
+    }
+
+    /// Does tasks until all requests are committed. An error comes only where a growth was refused, to this worker or another; then all stop.
+    pub fn work_or_stop(&self, pass: Pass<'a>) -> Result<Pass<'a>, AllocError>
+        requires pass { IsPassFor self.now pass }
+        requires size { length self.now.subject.block < 2 ^ 32 }
+        requires short { AreShort self.now.subject.block }
+        ensures { IfOk result (IsDone self.now) }
+    {
+        let worked = self.work(pass);
+        if worked.is_err() {
+            self.stopped.store(true, Ordering::SeqCst);
+        }
+        worked
+    }
+
+    /// The same again.
+    pub fn again(&self) -> Self
+        ensures { result ≡ self.now }
+    {
+        Workers {
+            rt: self.rt,
+            alloc: self.alloc,
+            shared: self.shared,
+            terms: self.terms,
+            base: self.base,
+            block: self.block,
+            gate: self.gate,
+            stopped: self.stopped,
+        }
+    }
+}

@@ -1,0 +1,11 @@
+//! What a worker can do next: a task of a book.
+//!
+//! Stands on `book`. Used above: `next` answers a commit where one is lawful, else what can be done for the least request for which anything
+//! can be, and nothing only where nothing can.
+#![tactic(auto)]
+
+mod schedule;
+mod task;
+
+pub use schedule::next;
+pub use task::Task;

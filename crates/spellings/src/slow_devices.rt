@@ -1,0 +1,196 @@
+//! Readers and writers that are slow, or fail.
+ghost use Rattle.std.specs.Prelude.{◌<◌, ◌-◌, ◌^◌};
+
+use crate::made::{TWO_GRAPHS, fault_of, two_graphs};
+use devices::Watched;
+use nquads::{BaseFault, WriteFault, canonical_text, read, write};
+use std::alloc::{AllocError, Global};
+use std::io;
+use std::io::{Read, Write};
+use std::test::Fail;
+
+/// A reader that gives one byte at a time, and fails at a read that is counted down to.
+#[derive(Drop)]
+struct Slow<'a> {
+    rest: &'a [u8],
+    good_reads: usize,
+}
+
+impl Read for Slow<'_> {
+    fn read(&mut self, buf: &mut [u8]) -> io::Result<usize> {
+        if self.good_reads == 0 {
+            return Err(io::Error::from(io::ErrorKind::Other));
+        }
+        self.good_reads -= 1;
+        match (self.rest, buf) {
+            ([first, rest @ ..], [place, ..]) => {
+                *place = *first;
+                self.rest = rest;
+                Ok(1)
+            }
+            _ => Ok(0),
+        }
+    }
+}
+
+/// A writer that takes one byte at a time, and fails at a write or a flush that is counted down to.
+#[derive(Drop)]
+struct Narrow {
+    text: Vec<u8>,
+    good_calls: usize,
+}
+
+impl Write for Narrow {
+    fn write(&mut self, buf: &[u8]) -> io::Result<usize> {
+        if self.good_calls == 0 {
+            return Err(io::Error::from(io::ErrorKind::Other));
+        }
+        self.good_calls -= 1;
+        match buf {
+            [first, ..] => {
+                self.text.push(*first)?;
+                Ok(1)
+            }
+            [] => Ok(0),
+        }
+    }
+
+    fn flush(&mut self) -> io::Result<()> {
+        if self.good_calls == 0 {
+            return Err(io::Error::from(io::ErrorKind::Other));
+        }
+        self.good_calls -= 1;
+        Ok(())
+    }
+}
+
+/// Room for all that the tests write, so that a writer asks for no memory later.
+fn room(alloc: Global) -> Result<Vec<u8>, AllocError> {
+    let mut text = Vec::new(alloc);
+    text.reserve(128)?;
+    Ok(text)
+}
+
+const TEXT: &[u8] = b"<x:b> <x:p> <x:c> .\r\n# no more\r<x:a> <x:p> <x:c> .";
+
+const WRITTEN: &[u8] = b"<x:a> <x:p> <x:c> .\n<x:b> <x:p> <x:c> .\n";
+
+/// Whether what a reader gives has that canonical text, and no read failed.
+fn is_read<R: Read>(alloc: Global, reader: &mut Watched<R>) -> Result<bool, BaseFault>
+    requires { reader.old.failures < 2 ^ 64 - 1 }
+{
+    let dataset = read(alloc, reader)?;
+    Ok(canonical_text(alloc, &dataset, 1)?.as_slice() == WRITTEN && reader.failures == 0)
+}
+
+#[test]
+fn slow_or_at_once(rt: HostRuntime) -> Result<(), BaseFault> {
+    assert!(rt; is_read(rt.alloc(), &mut Watched::new(TEXT))?);
+    let mut slow = Watched::new(Slow {
+        rest: TEXT,
+        good_reads: 1000,
+    });
+    assert!(rt; is_read(rt.alloc(), &mut slow)?);
+    Ok(())
+}
+
+#[test]
+fn each_read_fails_once(rt: HostRuntime) -> Result<(), Fail> {
+    for good_reads in 0..=TEXT.len() {
+        let mut reader = Watched::new(Slow {
+            rest: TEXT,
+            good_reads,
+        });
+        let outcome = read(rt.alloc(), &mut reader);
+        let fault = fault_of(outcome)?;
+        assert!(rt; matches!(fault, Some(BaseFault::Device)), "{good_reads}");
+        assert_eq!(rt; reader.failures, 1);
+    }
+    Ok(())
+}
+
+/// Whether the writer failed. An `Err` where memory ran out.
+fn write_failed(outcome: Result<(), WriteFault>) -> Result<bool, WriteFault> {
+    match outcome {
+        Err(WriteFault::OutOfMemory) => Err(WriteFault::OutOfMemory),
+        Err(WriteFault::Device) => Ok(true),
+        Ok(()) => Ok(false),
+    }
+}
+
+#[test]
+fn each_write_fails_once(rt: HostRuntime) -> Result<(), Fail> {
+    let dataset = two_graphs(rt.alloc())?;
+    for good_calls in 0..TWO_GRAPHS.len() {
+        let text = room(rt.alloc())?;
+        let mut writer = Watched::new(Narrow { text, good_calls });
+        let outcome = write(rt.alloc(), &mut writer, &dataset, 1);
+        assert!(rt; write_failed(outcome)?, "{good_calls}");
+        assert_eq!(rt; writer.failures, 1);
+        assert_eq!(rt; writer.inner.text.len(), good_calls);
+        assert!(rt;
+            TWO_GRAPHS.as_bytes().starts_with(&writer.inner.text),
+            "{good_calls}"
+        );
+    }
+    Ok(())
+}
+
+/// What a read of one byte gave, and how many have failed by then.
+fn read_one(reader: &mut Watched<Slow<'_>>) -> (Option<u8>, u64)
+    requires { reader.old.failures < 2 ^ 64 - 1 }
+{
+    let mut buffer = [0u8; 4];
+    let byte = match reader.read(&mut buffer) {
+        Ok(1) => Some(buffer[0]),
+        _ => None,
+    };
+    (byte, reader.failures)
+}
+
+#[test]
+fn single_reads(rt: HostRuntime) {
+    let mut reader = Watched::new(Slow {
+        rest: b"ab",
+        good_reads: 2,
+    });
+    assert!(rt; read_one(&mut reader) == (Some(b'a'), 0));
+    assert!(rt; reader.failures == 0 && read_one(&mut reader) == (Some(b'b'), 0));
+    assert!(rt; reader.failures == 0 && read_one(&mut reader) == (None, 1));
+}
+
+#[test]
+fn single_writes(rt: HostRuntime) -> Result<(), Fail> {
+    let text = room(rt.alloc())?;
+    let mut writer = Watched::new(Narrow {
+        text,
+        good_calls: 2,
+    });
+    assert!(rt; matches!(writer.write(b"ab"), Ok(1)));
+    assert_eq!(rt; writer.failures, 0);
+    assert!(rt; matches!(writer.write(b""), Ok(0)));
+    assert_eq!(rt; writer.failures, 0);
+    assert!(rt; writer.write(b"b").is_err());
+    assert_eq!(rt; writer.failures, 1);
+    assert!(rt; writer.inner.text.as_slice() == b"a".as_slice());
+    Ok(())
+}
+
+#[test]
+fn whole_writes(rt: HostRuntime) -> Result<(), Fail> {
+    let text = room(rt.alloc())?;
+    let mut writer = Watched::new(Narrow {
+        text,
+        good_calls: 3,
+    });
+    assert!(rt; writer.write_all(b"bc").is_ok());
+    assert_eq!(rt; writer.failures, 0);
+    assert!(rt; writer.flush().is_ok());
+    assert_eq!(rt; writer.failures, 0);
+    assert!(rt; writer.write_all(b"d").is_err());
+    assert_eq!(rt; writer.failures, 1);
+    assert!(rt; writer.flush().is_err());
+    assert_eq!(rt; writer.failures, 2);
+    assert!(rt; writer.inner.text.as_slice() == b"bc".as_slice());
+    Ok(())
+}

@@ -1,0 +1,5 @@
+mod NodeLaws
+mod VariableLaws
+mod RowLaws
+mod GrammarLaws
+mod WrittenLaws
