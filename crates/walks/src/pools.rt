@@ -1,7 +1,7 @@
-//! Blocks run by a pool whose gate holds a worker up until another has got on.
+//! Blocks run by a pool whose gate holds workers up until others have got on.
 
 use crate::blocks::are_short;
-use crate::numbers::numbered;
+use crate::numbers::{numbered, tell_quads};
 use block_machine::{Entry, Event, Reply};
 use meaning::Reply as Answer;
 use numbering::Numbered;
@@ -12,17 +12,98 @@ use std::sync::atomic::{AtomicBool, Ordering};
 use std::test::Fail;
 use std::thread::{Threads, yield_now};
 
-/// Holds the first request after its take until the second is published, or gives in after many looks.
+/// What comes of a request.
+#[derive(Clone, Copy, PartialEq)]
+enum Step {
+    Taken,
+    Read,
+    Published,
+}
+
+/// Each of these requests, by their places, is held when it has come to a step first, until all of those have come to another.
+struct Hold {
+    step: Step,
+    places: &'static [usize],
+    until: Step,
+    of: &'static [usize],
+}
+
+// Which of the first eight requests have come to a step.
+#[derive(Drop)]
+struct Seen {
+    taken: [AtomicBool; 8],
+    read: [AtomicBool; 8],
+    published: [AtomicBool; 8],
+}
+
+fn none() -> [AtomicBool; 8] {
+    [
+        AtomicBool::new(false),
+        AtomicBool::new(false),
+        AtomicBool::new(false),
+        AtomicBool::new(false),
+        AtomicBool::new(false),
+        AtomicBool::new(false),
+        AtomicBool::new(false),
+        AtomicBool::new(false),
+    ]
+}
+
+impl Seen {
+    fn flag(&self, step: Step, place: usize) -> Option<&AtomicBool> {
+        match step {
+            Step::Taken => self.taken.get(place),
+            Step::Read => self.read.get(place),
+            Step::Published => self.published.get(place),
+        }
+    }
+
+    // Says that a request has come to a step, and whether for the first time.
+    fn is_first(&self, step: Step, place: usize) -> bool {
+        match self.flag(step, place) {
+            Some(flag) => !flag.swap(true, Ordering::SeqCst),
+            None => false,
+        }
+    }
+
+    fn has(&self, step: Step, place: usize) -> bool {
+        match self.flag(step, place) {
+            Some(flag) => flag.load(Ordering::SeqCst),
+            None => false,
+        }
+    }
+}
+
+/// Holds workers up, each for many looks at most.
 #[derive(Drop)]
 struct Holds {
-    is_published: AtomicBool,
+    holds: &'static [Hold],
+    seen: Seen,
     gave_in: AtomicBool,
 }
 
 impl Holds {
-    fn hold(&self) {
+    fn new(holds: &'static [Hold]) -> Holds {
+        let seen = Seen {
+            taken: none(),
+            read: none(),
+            published: none(),
+        };
+        let gave_in = AtomicBool::new(false);
+        Holds {
+            holds,
+            seen,
+            gave_in,
+        }
+    }
+
+    fn hold(&self, hold: &Hold) {
         for _look in 0..10_000_000u32 {
-            if self.is_published.load(Ordering::SeqCst) {
+            if hold
+                .of
+                .iter()
+                .all(|place| self.seen.has(hold.until, *place))
+            {
                 return;
             }
             yield_now();
@@ -31,61 +112,194 @@ impl Holds {
     }
 }
 
+fn step_of(entry: &Entry) -> Option<(Step, usize)> {
+    match (&entry.event, &entry.reply) {
+        (Event::Take(place), Reply::Taken(_)) => Some((Step::Taken, *place)),
+        (Event::Read(place, _, _), Reply::Answered(_)) => Some((Step::Read, *place)),
+        (Event::Publish(place, _, _), Reply::Published) => Some((Step::Published, *place)),
+        _ => None,
+    }
+}
+
 impl Gate for Holds {
     fn after(&self, _worker: u32, entry: &Entry) {
-        match (&entry.event, &entry.reply) {
-            (Event::Publish(1, _, _), Reply::Published) => {
-                self.is_published.store(true, Ordering::SeqCst);
+        let Some((step, place)) = step_of(entry) else {
+            return;
+        };
+        if !self.seen.is_first(step, place) {
+            return;
+        }
+        for hold in self.holds {
+            if hold.step == step && hold.places.contains(&place) {
+                self.hold(hold);
             }
-            (Event::Take(0), Reply::Taken(0)) => self.hold(),
-            _ => {}
         }
     }
 }
 
-// Whether two workers run the block to these replies, and the gate does not give in.
-fn comes_to<R: Threads + Wait + Sync>(
-    rt: &R,
-    alloc: Global,
-    numbered: &Numbered,
-    replies: &[Answer],
-) -> Result<bool, AllocError> {
-    let block = numbered.block.as_slice();
-    if block.len() > 1000 || !are_short(block) {
-        return Ok(false);
-    }
-    let gate = Holds {
-        is_published: AtomicBool::new(false),
-        gave_in: AtomicBool::new(false),
-    };
-    let (terms, base) = (numbered.base.terms(), numbered.base.dataset());
-    let outcome = run_block(rt, alloc, terms, base, block, 2, &gate)?;
-    Ok(!gate.gave_in.load(Ordering::SeqCst) && outcome.replies.as_slice() == replies)
+/// A block over a base, where workers are held, and what it comes to with these numbers of workers.
+struct Row {
+    base: &'static str,
+    block: &'static str,
+    holds: &'static [Hold],
+    workers: &'static [u32],
+    replies: &'static [Answer],
+    quads: &'static str,
 }
 
-// Nothing that the second reads is changed by the first.
-const APART: &str = "INSERT DATA { <x:a> <x:p> <x:b> }\n----\nINSERT DATA { <x:b> <x:p> <x:b> }";
+const ONE: Answer = Answer::Done {
+    added: 1,
+    removed: 0,
+};
 
-// The second reads what the first changes.
-const BEHIND: &str =
-    "INSERT DATA { <x:a> <x:p> <x:b> }\n----\nINSERT { ?x <x:q> <x:c> } WHERE { ?x <x:p> ?y }";
+const GONE: Answer = Answer::Done {
+    added: 0,
+    removed: 1,
+};
 
-const ONE_EACH: [Answer; 2] = [
-    Answer::Done {
-        added: 1,
-        removed: 0,
+const NOTHING: Answer = Answer::Done {
+    added: 0,
+    removed: 0,
+};
+
+// The first request is held after its take until the second is published.
+const OVERTAKEN: &[Hold] = &[Hold {
+    step: Step::Taken,
+    places: &[0],
+    until: Step::Published,
+    of: &[1],
+}];
+
+const ROWS: [Row; 3] = [
+    // Nothing that the second reads is changed by the first.
+    Row {
+        base: "",
+        block: "INSERT DATA { <x:a> <x:p> 1 }\n----\nINSERT DATA { <x:b> <x:p> 1 }",
+        holds: OVERTAKEN,
+        workers: &[2, 8],
+        replies: &[ONE, ONE],
+        quads: "+ <x:a> <x:p> \"1\"^^<http://www.w3.org/2001/XMLSchema#integer>\n\
+            + <x:b> <x:p> \"1\"^^<http://www.w3.org/2001/XMLSchema#integer>\n",
     },
-    Answer::Done {
-        added: 1,
-        removed: 0,
+    // The second reads what the first changes.
+    Row {
+        base: "",
+        block: "INSERT DATA { <x:a> <x:p> <x:b> }\n----\n\
+            INSERT { ?x <x:q> <x:c> } WHERE { ?x <x:p> ?y }",
+        holds: OVERTAKEN,
+        workers: &[2, 8],
+        replies: &[ONE, ONE],
+        quads: "+ <x:a> <x:p> <x:b>\n+ <x:a> <x:q> <x:c>\n",
+    },
+    // The first changes what the second has read, before the second reads more.
+    Row {
+        base: "<x:a> <x:p> <x:b> .\n",
+        block: "DELETE DATA { <x:a> <x:p> <x:b> }\n----\n\
+            INSERT { ?s <x:q> <x:b> } WHERE { { ?s <x:p> ?o } UNION { ?s <x:p> <x:b> } }",
+        holds: &[
+            Hold {
+                step: Step::Taken,
+                places: &[0],
+                until: Step::Read,
+                of: &[1],
+            },
+            Hold {
+                step: Step::Read,
+                places: &[1],
+                until: Step::Published,
+                of: &[0],
+            },
+        ],
+        workers: &[2, 8],
+        replies: &[GONE, NOTHING],
+        quads: "",
     },
 ];
 
+// Whether this many workers come to these replies and quads, and the gate does not give in.
+fn come_to<R: Threads + Wait + Sync>(
+    rt: &R,
+    alloc: Global,
+    numbered: &Numbered,
+    workers: u32,
+    row: &Row,
+) -> Result<bool, AllocError> {
+    let block = numbered.block.as_slice();
+    if workers == 0 || workers > 64 || block.len() > 1000 || !are_short(block) {
+        return Ok(false);
+    }
+    let gate = Holds::new(row.holds);
+    let (terms, base) = (numbered.base.terms(), numbered.base.dataset());
+    let outcome = run_block(rt, alloc, terms, base, block, workers, &gate)?;
+    let mut text = Vec::new(alloc);
+    tell_quads(alloc, terms, b'+', outcome.dataset.quads(), &mut text)?;
+    Ok(
+        !gate.gave_in.load(Ordering::SeqCst)
+            && outcome.replies.as_slice() == row.replies
+            && text.as_slice() == row.quads.as_bytes(),
+    )
+}
+
+// Whether the row comes out with each of its numbers of workers.
+fn comes_out<R: Threads + Wait + Sync + AllocGlobal>(rt: &R, row: &Row) -> Result<bool, Fail> {
+    let numbered = numbered(rt.alloc(), row.base, row.block)?;
+    for workers in row.workers {
+        if !come_to(rt, rt.alloc(), &numbered, *workers, row)? {
+            return Ok(false);
+        }
+    }
+    Ok(true)
+}
+
 #[test]
 fn workers_overlap(rt: HostRuntime) -> Result<(), Fail> {
-    for block in &[APART, BEHIND] {
-        let numbered = numbered(rt.alloc(), "", block)?;
-        assert!(rt; comes_to(&rt, rt.alloc(), &numbered, &ONE_EACH)?, "{block}");
+    for row in &ROWS {
+        assert!(rt; comes_out(&rt, row)?, "{}", row.block);
     }
+    Ok(())
+}
+
+const EIGHT: &[usize] = &[0, 1, 2, 3, 4, 5, 6, 7];
+
+// Each of eight requests is held after its take until all are taken, and after its first read until all have read.
+const TOGETHER: Row = Row {
+    base: "",
+    block: "INSERT DATA { <x:a> <x:p> <x:0> }\n----\n\
+        INSERT DATA { <x:a> <x:p> <x:1> }\n----\n\
+        INSERT DATA { <x:a> <x:p> <x:2> }\n----\n\
+        INSERT DATA { <x:a> <x:p> <x:3> }\n----\n\
+        INSERT DATA { <x:a> <x:p> <x:4> }\n----\n\
+        INSERT DATA { <x:a> <x:p> <x:5> }\n----\n\
+        INSERT DATA { <x:a> <x:p> <x:6> }\n----\n\
+        INSERT DATA { <x:a> <x:p> <x:7> }",
+    holds: &[
+        Hold {
+            step: Step::Taken,
+            places: EIGHT,
+            until: Step::Taken,
+            of: EIGHT,
+        },
+        Hold {
+            step: Step::Read,
+            places: EIGHT,
+            until: Step::Read,
+            of: EIGHT,
+        },
+    ],
+    workers: &[8],
+    replies: &[ONE, ONE, ONE, ONE, ONE, ONE, ONE, ONE],
+    quads: "+ <x:a> <x:p> <x:0>\n\
+        + <x:a> <x:p> <x:1>\n\
+        + <x:a> <x:p> <x:2>\n\
+        + <x:a> <x:p> <x:3>\n\
+        + <x:a> <x:p> <x:4>\n\
+        + <x:a> <x:p> <x:5>\n\
+        + <x:a> <x:p> <x:6>\n\
+        + <x:a> <x:p> <x:7>\n",
+};
+
+#[test]
+fn eight_together(rt: HostRuntime) -> Result<(), Fail> {
+    assert!(rt; comes_out(&rt, &TOGETHER)?);
     Ok(())
 }
