@@ -1,7 +1,7 @@
 -- A pass that made a call is still for its duty.
-use Rattle.std.proofs.Common.{◌≡◌, ◌<◌, ◌≤◌, ℕ, List, [], ◌∷◌, ◌++◌, ◌+◌, length, length-append, All, IfOk, Result, Ok, Err, refl, sym, ap, ◌∙◌, subst, arith}
+use Rattle.std.proofs.Common.{◌≡◌, ◌<◌, ◌≤◌, ℕ, List, [], ◌∷◌, ◌++◌, ◌+◌, length, length-append, take, drop, All, IfOk, Result, Ok, Err, refl, sym, ap, ◌∙◌, subst, arith}
 use Rattle.std.proofs.lemmas.List.{take_all}
-use Rattle.std.proofs.lemmas.List.Elements.{All-append}
+use Rattle.std.proofs.lemmas.List.Elements.{All-append, All-take, All-drop}
 use Rattle.datasets.specs.declared.id.Id.{Id}
 use Rattle.terms.specs.declared.term.Term.{Term}
 use Rattle.dict.specs.Dictionary.{numbers}
@@ -14,7 +14,7 @@ use Rattle.blocklock.specs.Passes.{Includes}
 use Rattle.book.specs.Run.{Run, front_run, state_of}
 use Rattle.shared.specs.Calls.{Viewed, Made, owner, history_of, run_of}
 use Rattle.shared.specs.Duty.{Duty, IsPassFor}
-use Rattle.pool.specs.Duty.{IsDone, AreDone}
+use Rattle.pool.specs.Duty.{MayBegin, IsDone, AreDone}
 
 pub still_for : {E : Type 0} (d : Duty) (old new : Viewed) (event : Event) (r : Result Told E) → IsPassFor d old → Made old new event r → IsPassFor d new
 still_for d old new event (Ok reply) h made =
@@ -46,6 +46,14 @@ front_is d book before (p ∷ ps) n is some done fronts =
     omega (arith, whole, reached)
 
 -- ---- two crews
+
+pub first_may_begin : (d e : Duty) (n : ℕ) (all some : List Viewed) → e ≡ d → some ≡ take n all → MayBegin d all → MayBegin e some
+first_may_begin d e n all some same is h =
+    subst (λ (x : Duty). MayBegin x some) (sym same) (record { passes = subst (All (IsPassFor d)) (sym is) (All-take (IsPassFor d) n all h.passes); size = h.size; short = h.short })
+
+pub others_may_begin : (d e : Duty) (n : ℕ) (all some : List Viewed) → e ≡ d → some ≡ drop n all → MayBegin d all → MayBegin e some
+others_may_begin d e n all some same is h =
+    subst (λ (x : Duty). MayBegin x some) (sym same) (record { passes = subst (All (IsPassFor d)) (sym is) (All-drop (IsPassFor d) n all h.passes); size = h.size; short = h.short })
 
 pub at_ok : {T E : Type 0} {r : Result T E} {x : T} (P : T → Type 0) → IfOk r P → r ≡ Ok x → P x
 at_ok P h is = subst (λ s. IfOk s P) is h

@@ -1,5 +1,5 @@
 //! Workers on threads of their own.
-ghost use Rattle.std.specs.Prelude.{◌≡◌, ◌≤◌, ◌<◌, ◌+◌, length, vec_len, IfOk};
+ghost use Rattle.std.specs.Prelude.{◌≡◌, ◌≤◌, ◌<◌, ◌+◌, ◌/◌, length, take, drop, vec_len, IfOk};
 ghost use Rattle.std.specs.Thread.{IsSync};
 ghost use Rattle.pool.specs.Duty.{MayBegin, AreDone};
 
@@ -35,13 +35,11 @@ impl<'s, 'a, R: Threads + Wait + Sync, G: Gate + Sync> Crew<'s, 'a, R, G> {
         Ok(done)
     }
 
-    // Two crews, of about half the workers each.
-    fn halves(self) -> Result<(Self, Self), AllocError>
-        requires { MayBegin self.workers self.passes.items }
-        ensures count { IfOk result (λ r. (length r.0.passes.items + length r.1.passes.items ≡ length self.entry.passes.items)) }
-        ensures some { 2 ≤ length self.entry.passes.items → IfOk result (λ r. (0 < length r.0.passes.items) × (0 < length r.1.passes.items)) }
-        ensures first { IfOk result (λ r. (r.0.workers ≡ self.entry.workers) × MayBegin r.0.workers r.0.passes.items) }
-        ensures second { IfOk result (λ r. (r.1.workers ≡ self.entry.workers) × MayBegin r.1.workers r.1.passes.items) }
+    // Two crews, with the first half of the passes and the others.
+    fn split(self) -> Result<(Self, Self), AllocError>
+        ensures workers { IfOk result (λ r. (r.0.workers ≡ self.entry.workers) × (r.1.workers ≡ self.entry.workers)) }
+        ensures first { IfOk result (λ r. r.0.passes.items ≡ take (length self.entry.passes.items / 2) self.entry.passes.items) }
+        ensures others { IfOk result (λ r. r.1.passes.items ≡ drop (length self.entry.passes.items / 2) self.entry.passes.items) }
     {
         let Crew {
             workers,
@@ -53,6 +51,18 @@ impl<'s, 'a, R: Threads + Wait + Sync, G: Gate + Sync> Crew<'s, 'a, R, G> {
             passes: others,
         };
         Ok((Crew { workers, passes }, second))
+    }
+
+    // Two crews, of about half the workers each.
+    fn halves(self) -> Result<(Self, Self), AllocError>
+        requires { MayBegin self.workers self.passes.items }
+        ensures count { IfOk result (λ r. length r.0.passes.items + length r.1.passes.items ≡ length self.entry.passes.items) }
+        ensures some { 2 ≤ length self.entry.passes.items → IfOk result (λ r. (0 < length r.0.passes.items) × (0 < length r.1.passes.items)) }
+        ensures first { IfOk result (λ r. (r.0.workers ≡ self.entry.workers) × MayBegin r.0.workers r.0.passes.items) }
+        ensures second { IfOk result (λ r. (r.1.workers ≡ self.entry.workers) × MayBegin r.1.workers r.1.passes.items) }
+    {
+        let (first, second) = self.split()?;
+        Ok((first, second))
     }
 
     /// All do tasks until all requests are committed, each on a thread of its own where one can be had. An error comes only where a growth was

@@ -1,5 +1,5 @@
-//! Walks: requests over a base, blocks run one request after another, blocks run through a book event by event, in orders that workers side by side may take, and blocks
-//! run through a shared book, by one worker alone and by four on threads of their own, and by a pool. It has tests alone.
+//! Walks: requests over a base, blocks run one request after another, blocks run through a book event by event, in orders that workers side by
+//! side may take, through a shared book by one worker alone, and by a pool. It has tests alone.
 #![tactic(auto)]
 
 #[cfg(test)]
@@ -8,6 +8,8 @@ mod alone;
 mod blocks;
 #[cfg(test)]
 mod books;
+#[cfg(test)]
+mod heard;
 #[cfg(test)]
 mod lines;
 #[cfg(test)]
@@ -23,8 +25,4 @@ mod run;
 #[cfg(test)]
 mod sharing;
 #[cfg(test)]
-mod together;
-#[cfg(test)]
 mod topic;
-#[cfg(test)]
-mod worker;

@@ -293,23 +293,33 @@ fn over_a_base(rt: HostRuntime) -> Result<(), Fail> {
     Ok(())
 }
 
-// What the run of a request comes to where the source answers so many reads, and each of them wrongly.
-fn run_on_lies(alloc: Global, request: &str, left: usize) -> Result<Result<Finished, Stop>, Fail> {
-    let Numbered { base, block } = numbered(alloc, BASE, request)?;
-    Ok(run(alloc, base.terms(), &block, &mut Liar { alloc, left }))
+// What the run of the only request comes to where the source answers so many reads, and each of them wrongly.
+fn run_on_lies(alloc: Global, numbered: &Numbered, left: usize) -> Result<Finished, Stop> {
+    let mut liar = Liar { alloc, left };
+    run(
+        alloc,
+        numbered.base.terms(),
+        numbered.block.as_slice(),
+        &mut liar,
+    )
 }
 
 #[test]
 fn answers_of_the_wrong_kind(rt: HostRuntime) -> Result<(), Fail> {
-    let alloc = rt.alloc();
-    let through = run_on_lies(alloc, MANY, 100)?;
+    let many = numbered(rt.alloc(), BASE, MANY)?;
+    let through = run_on_lies(rt.alloc(), &many, 100);
     assert!(rt;
         matches!(&through, Ok(run) if is_told(run, &Reply::Done { added: 2, removed: 0 }, 4))
     );
-    let stopped = run_on_lies(alloc, MANY, 2)?;
+    let stopped = run_on_lies(rt.alloc(), &many, 2);
     assert!(rt; matches!(&stopped, Err(Stop::Blocked(3))));
-    // A refused request asks nothing.
-    let refused = run_on_lies(alloc, "INSERT", 0)?;
+    Ok(())
+}
+
+#[test]
+fn refused_requests_ask_nothing(rt: HostRuntime) -> Result<(), Fail> {
+    let none = numbered(rt.alloc(), BASE, "INSERT")?;
+    let refused = run_on_lies(rt.alloc(), &none, 0);
     assert!(rt;
         matches!(&refused, Ok(run) if run.reply == Reply::Refused(Refusal::Syntax) && run.transcript.is_empty())
     );

@@ -1,23 +1,18 @@
-//! Shared books: one worker alone by calls that never wait, and four on threads of their own.
+//! A shared book and one worker alone, by calls that never wait.
 ghost use Rattle.std.specs.Prelude.{◌≡◌, ◌+◌, ◌<◌, ◌≤◌, vec_len, All, IfOk};
 ghost use Rattle.reads.specs.Reads.{IsDataset};
-ghost use Rattle.blocklock.specs.Passes.{IsIdleAt};
 ghost use Rattle.shared.specs.Duty.{IsPassFor};
 
 use crate::alone::publish;
-use crate::lines::{Line, Step, Told, told_by};
+use crate::lines::{Step, Told, told_by};
 use crate::numbers::numbered;
-use crate::together::{Pair, has_told};
 use crate::topic::Topic;
-use crate::worker::Worker;
 use block_machine::Reply;
-use book::Book;
 use reads::View;
 use shared::{Pass, SharedBlock};
 use std::alloc::{AllocError, Global};
 use std::sync::Wait;
 use std::test::Fail;
-use std::thread::{Threads, join};
 
 // A shared book with this many passes.
 fn opened<'a>(
@@ -70,6 +65,34 @@ fn tried<'a>(
     }
 }
 
+// Whether each of these calls that never wait is told so.
+fn are_told<'a>(
+    alloc: Global,
+    shared: &SharedBlock<'a>,
+    topic: &Topic<'a>,
+    pass: &mut Pass<'a>,
+    calls: &[(Step, Told)],
+) -> bool
+    requires { IsPassFor (record { table = shared.now; subject = topic.now }) pass.old }
+    ensures { IsPassFor (record { table = shared.now; subject = topic.now }) pass.new }
+{
+    for (step, told) in calls {
+        if tried(alloc, shared, topic, pass, *step) != Some(*told) {
+            return false;
+        }
+    }
+    true
+}
+
+// What follows when a worker has published its run of the first request: it commits it, takes the second and gives it up.
+const AFTER: [(Step, Told); 5] = [
+    (Step::Begin(0, 0), Told::Begun),
+    (Step::Check(0, 0), Told::Passed),
+    (Step::Commit(0), Told::Committed),
+    (Step::Take(1), Told::Taken(0)),
+    (Step::GiveUp(1, 0), Told::Given),
+];
+
 // The calls that never wait, by one worker: the first request to its commit, and the second is taken and given up.
 fn goes_through<'a>(
     alloc: Global,
@@ -79,21 +102,14 @@ fn goes_through<'a>(
 ) -> bool
     requires { IsPassFor (record { table = shared.now; subject = topic.now }) pass }
 {
-    let taken = tried(alloc, shared, topic, &mut pass, Step::Take(0));
-    let Ok((mut pass, Reply::Published)) = publish(alloc, shared, topic, pass, 0) else {
+    let take = [(Step::Take(0), Told::Taken(0))];
+    if !are_told(alloc, shared, topic, &mut pass, &take) {
         return false;
-    };
-    let begun = tried(alloc, shared, topic, &mut pass, Step::Begin(0, 0));
-    let checked = tried(alloc, shared, topic, &mut pass, Step::Check(0, 0));
-    let committed = tried(alloc, shared, topic, &mut pass, Step::Commit(0));
-    let next = tried(alloc, shared, topic, &mut pass, Step::Take(1));
-    let given = tried(alloc, shared, topic, &mut pass, Step::GiveUp(1, 0));
-    taken == Some(Told::Taken(0))
-        && begun == Some(Told::Begun)
-        && checked == Some(Told::Passed)
-        && committed == Some(Told::Committed)
-        && next == Some(Told::Taken(0))
-        && given == Some(Told::Given)
+    }
+    match publish(alloc, shared, topic, pass, 0) {
+        Ok((mut pass, Reply::Published)) => are_told(alloc, shared, topic, &mut pass, &AFTER),
+        _ => false,
+    }
 }
 
 // How many requests are committed as a first pass sees it, where a second one has committed the first request.
@@ -127,107 +143,5 @@ fn calls_that_never_wait(rt: HostRuntime) -> Result<(), Fail> {
         block: &numbered.block,
     };
     assert_eq!(rt; front_of_others(&rt, alloc, &topic)?, Some(1));
-    Ok(())
-}
-
-// Ends the sharing of four passes.
-fn closed<'a, R: Wait>(
-    rt: &R,
-    alloc: Global,
-    shared: SharedBlock<'a>,
-    passes: (Pass<'a>, Pass<'a>, Pass<'a>, Pass<'a>),
-) -> Result<Book<'a>, AllocError>
-    requires { IsIdleAt shared passes.0 × IsIdleAt shared passes.1 × IsIdleAt shared passes.2 × IsIdleAt shared passes.3 }
-{
-    let mut all = Vec::with_capacity(alloc, 4)?;
-    all.push_reserved(passes.0);
-    all.push_reserved(passes.1);
-    all.push_reserved(passes.2);
-    all.push_reserved(passes.3);
-    Ok(shared.close(rt, all))
-}
-
-// A shared book with four passes.
-fn four_passes<'a>(
-    alloc: Global,
-    topic: &Topic<'a>,
-) -> Result<(SharedBlock<'a>, (Pass<'a>, Pass<'a>), (Pass<'a>, Pass<'a>)), AllocError>
-    requires { IsDataset topic.now.base }
-    ensures first { IfOk result (λ r. IsPassFor (record { table = r.0; subject = topic.now }) r.1.0) }
-    ensures second { IfOk result (λ r. IsPassFor (record { table = r.0; subject = topic.now }) r.1.1) }
-    ensures third { IfOk result (λ r. IsPassFor (record { table = r.0; subject = topic.now }) r.2.0) }
-    ensures fourth { IfOk result (λ r. IsPassFor (record { table = r.0; subject = topic.now }) r.2.1) }
-{
-    let (shared, mut passes) = opened(alloc, topic, 4)?;
-    let fourth = last(&shared, topic, &mut passes);
-    let third = last(&shared, topic, &mut passes);
-    let second = last(&shared, topic, &mut passes);
-    let first = last(&shared, topic, &mut passes);
-    Ok((shared, (first, second), (third, fourth)))
-}
-
-// Runs the block by four threads. It answers the closed book, and what each worker was answered.
-fn run_four<'a, R: Threads + Wait + Sync>(
-    rt: &R,
-    alloc: Global,
-    topic: &Topic<'a>,
-) -> Result<(Book<'a>, [Vec<Line>; 4]), AllocError>
-    requires { IsDataset topic.now.base }
-{
-    let (shared, (a, b), (c, d)) = four_passes(alloc, topic)?;
-    let all = &shared;
-    let low = Pair {
-        first: Worker::new(rt, alloc, all, topic, a),
-        second: Worker::new(rt, alloc, all, topic, b),
-    };
-    let high = Pair {
-        first: Worker::new(rt, alloc, all, topic, c),
-        second: Worker::new(rt, alloc, all, topic, d),
-    };
-    let (low, high) = join(rt, move || low.work(), move || high.work());
-    let ((a, of_a), (b, of_b)) = low?;
-    let ((c, of_c), (d, of_d)) = high?;
-    let book = closed(rt, alloc, shared, (a, b, c, d))?;
-    Ok((book, [of_a, of_b, of_c, of_d]))
-}
-
-// A block again and again, 32 times.
-fn long_block(alloc: Global, block: &str) -> Result<String, AllocError> {
-    let mut text = String::from_str(alloc, block)?;
-    for _ in 1..32 {
-        text.push_str("\n----\n")?;
-        text.push_str(block)?;
-    }
-    Ok(text)
-}
-
-// Whether the closed book's journal has what the four were told and nothing else, and its outcome is that of the block.
-fn is_whole(alloc: Global, book: &Book<'_>, told: &[Vec<Line>; 4]) -> Result<bool, AllocError> {
-    let [a, b, c, d] = told;
-    let entries = a.len() as u128 + b.len() as u128 + c.len() as u128 + d.len() as u128;
-    let outcome = book.outcome(alloc)?;
-    Ok(
-        has_told(book, 0, a)
-            && has_told(book, 1, b)
-            && has_told(book, 2, c)
-            && has_told(book, 3, d)
-            && book.journal().len() as u128 == entries
-            && outcome.replies.len() == 64
-            && outcome.dataset.quads().len() == 2,
-    )
-}
-
-#[test]
-fn four_threads(rt: HostRuntime) -> Result<(), Fail> {
-    let alloc = rt.alloc();
-    let numbered = numbered(alloc, "", long_block(alloc, BLOCK)?.as_str())?;
-    let base = View::new(alloc);
-    let topic = Topic {
-        terms: numbered.base.terms(),
-        base: &base,
-        block: &numbered.block,
-    };
-    let (book, told) = run_four(&rt, alloc, &topic)?;
-    assert!(rt; is_whole(alloc, &book, &told)?);
     Ok(())
 }
