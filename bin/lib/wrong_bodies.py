@@ -291,10 +291,12 @@ class Copy:
 def is_proof_of(folder, function):
     """Whether a folder of proofs/ holds the proof of a function, or of a cycle of calls that the function may be in."""
     inside, parts = module_of(function.file), folder.split("/")
-    if parts[-1].startswith("+"):
-        return "/".join(parts[:-1]) == inside
     block = re.sub(r"^impl(<.*?>)? ?", "", function.block)
     of_type = (block.partition(" for ")[2] or block).partition("<")[0].strip()
+    if parts[-1].startswith("+"):
+        # a cycle of functions, or of methods of one type
+        module = inside.split("/") if inside else []
+        return parts[:-1] == module or bool(of_type) and parts[:-1] == [*module, of_type]
     if not of_type:
         return folder == (f"{inside}/" if inside else "") + function.name
     return len(parts) > 1 and parts[-1] == function.name and parts[-2].startswith(of_type)

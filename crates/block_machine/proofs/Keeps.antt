@@ -40,7 +40,7 @@ current_below slots i x (suc k) moment le =
 leb-from : (a b : ℕ) → a ≤ b → nat_le a b ≡ true
 leb-from a b h = grind (arith, h)
 
-max_le : (a b m : ℕ) → (nat_le b m && nat_le a m) ≡ nat_le (max a b) m
+pub max_le : (a b m : ℕ) → (nat_le b m && nat_le a m) ≡ nat_le (max a b) m
 max_le a b m =
     both_ways (nat_le b m && nat_le a m) (nat_le (max a b) m)
     (λ e. let p = and_parts (nat_le b m) (nat_le a m) e in

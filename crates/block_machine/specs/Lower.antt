@@ -1,8 +1,10 @@
 -- Where the machine looks for what the requests below one have published.
-use Rattle.std.specs.Prelude.{◌≡◌, ℕ, zero, suc, ◌<◌, ◌≤◌, Bool, true, false, nat_le, List, length, Option, Some, None, slice_index_or}
+use Rattle.std.specs.Prelude.{◌≡◌, ℕ, zero, suc, ◌<◌, ◌≤◌, Bool, true, false, nat_le, List, length, map, Option, Some, None, slice_index_or}
 use Rattle.reads.specs.Reads.{Read, covers}
 use Rattle.block_machine.specs.declared.state.Slot.{Slot}
 use Rattle.block_machine.specs.Machine.{slot_at, is_closed, is_current}
+use Rattle.block_machine.specs.Waiting.{standing_of}
+use Rattle.stamp_tree.specs.declared.standing.Standing.{Standing}
 
 -- no request from a on and below b covers the read
 abbrev pub NoneCovers : List Slot → Read → ℕ → ℕ → Type 0
@@ -32,6 +34,11 @@ pub record KeepsLower (slots : List Slot) (front : ℕ) (spoken : Read → ℕ �
   pub knows : Knows spoken slots
   pub changes : (moment : ℕ) → is_current slots front moment ≡ nat_le latest moment
   pub closed : (j : ℕ) → j < front → is_closed (Some (slot_at slots j).status) ≡ true
+
+-- the same, and how each request stands
+pub record KeepsBeside (slots : List Slot) (front : ℕ) (spoken : Read → ℕ → Bool) (latest : ℕ) (standings : List Standing) : Type 0 where
+  pub lower : KeepsLower slots front spoken latest
+  pub standings_are : standings ≡ map standing_of slots
 
 -- whether a stamp stands, and this change is no later
 abbrev pub stands_after : Option ℕ → ℕ → Bool

@@ -1,9 +1,10 @@
 //! The machine: one method for each event.
-ghost use Rattle.std.specs.Prelude.{◌≡◌, ◌<◌, ◌≤◌, ◌+◌, ◌^◌, ◌↔◌, ℕ, length, map, nat_le, slice_get, Some, true, false, IsTrue, IfOk, OnOk, OnErr, option_copied};
+ghost use Rattle.std.specs.Prelude.{◌≡◌, ◌<◌, ◌≤◌, ◌+◌, ◌^◌, ◌↔◌, ℕ, length, map, nat_le, slice_get, Some, None, IfSome, true, false, IsTrue, IfOk, OnOk, OnErr, option_copied};
 ghost use Rattle.reads.specs.Reads.{View as Base};
 ghost use Rattle.block_machine.specs.declared.state.Noted.{Noted as Described};
 ghost use Rattle.block_machine.specs.Serial.{replies_to};
 ghost use Rattle.block_machine.specs.Lower.{Leads, stands_after};
+ghost use Rattle.block_machine.specs.Waiting.{has_work, IsLeastWork};
 ghost use Rattle.block_machine.specs.Machine.{fresh, view_at, slot_at, is_current, note_now, note_of, can_commit, transcript_of, CheckVerdict, NextNamesAnswer, NoteVerdict, NoteReply, verdict_reply, status_of, is_closed as closed, HasNext, IsReady, IsPlain, IsAllowed, after};
 
 use crate::candidates::candidates_for;
@@ -16,6 +17,7 @@ use datasets::{Id, Read};
 use delta::Finished;
 use reads::same::same_reads;
 use reads::{Note, View};
+use stamp_tree::StampTree;
 use std::alloc::{AllocError, Global};
 use std::marker::Model;
 
@@ -29,6 +31,8 @@ pub struct Machine {
     spoken: Spoken,
     // The last change of a committed request.
     latest: u64,
+    // How each request stands, to find the next one for which something can be done.
+    standings: StampTree,
 }
 
 impl Model for Machine {
@@ -36,12 +40,12 @@ impl Model for Machine {
 
     ghost Value = { State };
 
-    ghost use Rattle.block_machine.specs.Lower.{KeepsLower};
+    ghost use Rattle.block_machine.specs.Lower.{KeepsBeside};
     ghost use Rattle.block_machine.specs.Spoken.{speaks};
 
     ghost view = { λ m. record { slots = m.slots.items; clock = m.clock; front = m.front } };
 
-    ghost invariant = { λ m. KeepsLower m.slots.items m.front (speaks m.spoken) m.latest };
+    ghost invariant = { λ m. KeepsBeside m.slots.items m.front (speaks m.spoken) m.latest m.standings };
 }
 
 impl Machine {
@@ -49,6 +53,8 @@ impl Machine {
     pub fn new(alloc: Global, size: usize) -> Result<Machine, AllocError>
         ensures { IfOk result (λ m. m ≡ fresh size) }
     {
+        let fresh = slot::fresh(alloc);
+        let standing = slot::standing(&fresh);
         let mut slots = Vec::new(alloc);
         for _count in 0..size {
             slots.push(slot::fresh(alloc))?;
@@ -59,6 +65,7 @@ impl Machine {
             front: 0,
             spoken: Spoken::new(alloc),
             latest: 0,
+            standings: StampTree::new(alloc, size, standing)?,
         })
     }
 
@@ -82,6 +89,14 @@ impl Machine {
         ensures { (moment : ℕ) → is_current self.now.slots self.now.front moment ≡ nat_le result moment }
     {
         self.latest
+    }
+
+    /// The least request for which something can be done but to commit it. It looks along one path of a tree, and not at each request.
+    pub fn least_work(&self) -> Option<usize>
+        ensures some { IfSome result (IsLeastWork self.now.slots) }
+        ensures none { result ≡ None → (j : ℕ) → has_work self.now.slots j ≡ false }
+    {
+        self.standings.first()
     }
 
     /// The view of the committed requests.
@@ -139,7 +154,9 @@ impl Machine {
     {
         match incarnations::status_at(self.slots.as_slice(), i) {
             Some(Status::Ready(n)) => {
-                slot::take(&mut self.slots[i], n, worker);
+                let slot = &mut self.slots[i];
+                slot::take(slot, n, worker);
+                self.standings.set(i, slot::standing(slot));
                 Reply::Taken(n)
             }
             _ => Reply::Stale,
@@ -157,7 +174,9 @@ impl Machine {
         if let Some(refusal) = incarnations::refused_execution(status, n, worker) {
             return refusal;
         }
-        slot::give_up(&mut self.slots[i], n);
+        let slot = &mut self.slots[i];
+        slot::give_up(slot, n);
+        self.standings.set(i, slot::standing(slot));
         Reply::Given
     }
 
@@ -237,7 +256,9 @@ impl Machine {
     {
         self.spoken.put(alloc, &finished.delta, i)?;
         let clock = self.clock;
-        let same = slot::publish(alloc, &mut self.slots[i], n, finished, clock)?;
+        let slot = &mut self.slots[i];
+        let same = slot::publish(alloc, slot, n, finished, clock)?;
+        self.standings.set(i, slot::standing(slot));
         if !same {
             self.clock += 1;
         }
@@ -255,7 +276,9 @@ impl Machine {
             return refusal;
         }
         let clock = self.clock;
-        slot::begin(&mut self.slots[i], clock);
+        let slot = &mut self.slots[i];
+        slot::begin(slot, clock);
+        self.standings.set(i, slot::standing(slot));
         Reply::Begun
     }
 
@@ -287,11 +310,15 @@ impl Machine {
         match self.next_verdict(alloc, base, i, stands)? {
             Verdict::Blocked(j) => Ok(Reply::Blocked(j)),
             Verdict::Same => {
-                slot::pass(&mut self.slots[i], stands);
+                let slot = &mut self.slots[i];
+                slot::pass(slot, stands);
+                self.standings.set(i, slot::standing(slot));
                 Ok(Reply::Passed)
             }
             Verdict::Changed => {
-                slot::abort(&mut self.slots[i], n);
+                let slot = &mut self.slots[i];
+                slot::abort(slot, n);
+                self.standings.set(i, slot::standing(slot));
                 Ok(Reply::Aborted)
             }
         }
@@ -331,7 +358,9 @@ impl Machine {
             return Reply::NotYet;
         }
         let changed = self.slots[i].changed;
-        slot::commit(&mut self.slots[i]);
+        let slot = &mut self.slots[i];
+        slot::commit(slot);
+        self.standings.set(i, slot::standing(slot));
         self.front += 1;
         self.latest = self.latest.max(changed);
         Reply::Committed

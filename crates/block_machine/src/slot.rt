@@ -1,10 +1,12 @@
 //! The changes of one request's slot.
 ghost use Rattle.std.specs.Prelude.{◌≡◌, ◌<◌, ◌+◌, ◌^◌, OnOk, OnErr, IfOk, length};
 ghost use Rattle.block_machine.specs.Machine.{fresh_slot, taken, with_note, keeps_delta, published as published_slot, begun as begun_slot, passed as passed_slot, aborted as aborted_slot, given as given_slot, committed as committed_slot};
+ghost use Rattle.block_machine.specs.Waiting.{standing_of};
 
 use crate::state::{Noted, Pass, Slot, Status};
 use delta::{Delta, Finished};
 use sets::Items;
+use stamp_tree::{Due, Standing};
 use std::alloc::{AllocError, Global};
 
 /// A request before its first event.
@@ -21,6 +23,24 @@ pub fn fresh(alloc: Global) -> Slot
         changed: 0,
         pass: None,
         stamp: None,
+    }
+}
+
+/// When something is to be done for the request but to commit it, and its last change.
+pub fn standing(slot: &Slot) -> Standing
+    ensures { result ≡ standing_of slot.now }
+{
+    let due = match slot.status {
+        Status::Ready(_) => Due::Now,
+        Status::Executing(_, _) | Status::Committed(_) => Due::Never,
+        Status::Executed(_) => match (slot.pass, slot.stamp) {
+            (None, Some(moment)) => Due::After(moment),
+            _ => Due::Now,
+        },
+    };
+    Standing {
+        due,
+        changed: slot.changed,
     }
 }
 

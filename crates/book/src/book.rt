@@ -1,8 +1,9 @@
 //! A block's machine with its journal.
-ghost use Rattle.std.specs.Prelude.{◌≡◌, ◌<◌, [], ◌∷◌, ◌++◌, ℕ, Some, true, nat_le, IfOk, OnErr};
+ghost use Rattle.std.specs.Prelude.{◌≡◌, ◌<◌, [], ◌∷◌, ◌++◌, ℕ, Some, None, true, false, nat_le, IfSome, IfOk, OnErr};
 ghost use Rattle.reads.specs.Reads.{IsDataset};
 ghost use Rattle.block_machine.specs.Machine.{IsAllowed, is_closed, is_current, slot_at};
 ghost use Rattle.block_machine.specs.Serial.{IsHistory};
+ghost use Rattle.block_machine.specs.Waiting.{has_work, IsLeastWork};
 ghost use Rattle.book.specs.Run.{state_of, setting_of, front_run, kept, IsSoundEvent};
 
 use crate::copies::{copy_of_event, kept_event};
@@ -124,6 +125,14 @@ impl<'a> Book<'a> {
         ensures { (moment : ℕ) → is_current (state_of self.now).slots (state_of self.now).front moment ≡ nat_le result moment }
     {
         self.machine.latest()
+    }
+
+    /// The least request for which something can be done but to commit it. It looks along one path of a tree, and not at each request.
+    pub fn least_work(&self) -> Option<usize>
+        ensures some { IfSome result (IsLeastWork (state_of self.now).slots) }
+        ensures none { result ≡ None → (j : ℕ) → has_work (state_of self.now).slots j ≡ false }
+    {
+        self.machine.least_work()
     }
 
     /// The dataset of the committed requests: that of their sequential run.

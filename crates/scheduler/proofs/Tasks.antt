@@ -1,6 +1,6 @@
 -- What can be done for a request is lawful, and what is lawful can be done.
 use Rattle.std.proofs.Common.{◌≡◌, ℕ, zero, suc, ◌<◌, ◌≤◌, ◌⊎◌, inl, inr, Bool, true, false, ◌&&◌, List, [], ◌∷◌, length, Option, Some, None, is_some, max, ◌+◌, refl, sym, ap, ◌∙◌, subst, arith, eq-eqb, eqb-true, leb-true}
-use Rattle.std.specs.Prelude.{◌==◌, nat_le, slice_index_or, IfSome}
+use Rattle.std.specs.Prelude.{◌==◌, ◌||◌, not, IfSome}
 use Rattle.std.specs.Cmp.{both_ways}
 use Rattle.std.proofs.lemmas.List.{get_or_default}
 use Rattle.std.proofs.lemmas.Bool.{cases_lt, false≢true, and_parts, and_from}
@@ -9,6 +9,7 @@ use Rattle.block_machine.specs.declared.state.Slot.{Slot}
 use Rattle.block_machine.specs.declared.state.Status.{Status}
 use Rattle.block_machine.specs.declared.state.Status.TheVariants.{Ready, Executing, Executed, Committed}
 use Rattle.block_machine.specs.Machine.{State, fresh_slot, can_commit, is_closed, is_current, is_executed, is_stamped, slot_at, status_of}
+use Rattle.block_machine.specs.Waiting.{can_go_on, has_work, IsLeastWork}
 use Rattle.scheduler.specs.declared.task.Task.{Task}
 use Rattle.scheduler.specs.declared.task.Task.TheVariants as task
 use Rattle.scheduler.specs.Task.{place_of, IsLawful, IsNext, settling, task_for, task_at, IsFirst}
@@ -119,60 +120,69 @@ module _ (s : State) (closed : (j : ℕ) → j < s.front → is_closed (Some (sl
           none = λ e. absurd (none-some next (sym e));
         }
 
--- ---- the last change, from request to request
+-- ---- the least request with something to do
 
-leb-from : (a b : ℕ) → a ≤ b → nat_le a b ≡ true
-leb-from a b h = grind (arith, h)
+settled_none : (i n : ℕ) (has stamped : Bool) → (has || not stamped) ≡ false → settling i n has stamped ≡ None
+settled_none i n true stamped e = absurd (false≢true (sym e))
+settled_none i n false true e = refl
+settled_none i n false false e = absurd (false≢true (sym e))
 
-max_le : (a b m : ℕ) → (nat_le b m && nat_le a m) ≡ nat_le (max a b) m
-max_le a b m =
-    both_ways (nat_le b m && nat_le a m) (nat_le (max a b) m)
-    (λ e. let p = and_parts (nat_le b m) (nat_le a m) e in
-    let l : b ≤ m = leb-true _ _ p.0 in
-    let k : a ≤ m = leb-true _ _ p.1 in
-    leb-from (max a b) m (omega arith))
-    (λ e. let l : max a b ≤ m = leb-true _ _ e in
-    and_from (nat_le b m) (nat_le a m) (leb-from b m (omega arith)) (leb-from a m (omega arith)))
+idle_at : (i : ℕ) (x : Slot) (stamped : Bool) (o : Option Status) → can_go_on o (is_some x.pass) stamped ≡ false → task_for i x stamped o ≡ None
+idle_at i x stamped (Some (Ready n)) e = absurd (false≢true (sym e))
+idle_at i x stamped (Some (Executing n by)) e = refl
+idle_at i x stamped (Some (Executed n)) e = settled_none i n (is_some x.pass) stamped e
+idle_at i x stamped (Some (Committed n)) e = refl
+idle_at i x stamped None e = refl
 
-pub latest_after : (slots : List Slot) (i latest next : ℕ) (x : Slot) → i < length slots → next ≡ max latest (slice_index_or slots i x).changed
-    → ((moment : ℕ) → is_current slots i moment ≡ nat_le latest moment) → (moment : ℕ) → is_current slots (i + 1) moment ≡ nat_le next moment
-unfolding is_current
-latest_after slots i latest next x lt is before moment =
-    let slot : slice_index_or slots i x ≡ slot_at slots i = get_or_default slots i x fresh_slot lt in
-    ap (λ n. is_current slots n moment) (let more : i + 1 ≡ suc i = omega arith in more)
-    ∙ (λ t. nat_le (sym slot t).changed moment && before moment t)
-    ∙ max_le latest (slice_index_or slots i x).changed moment
-    ∙ ap (λ n. nat_le n moment) (sym is)
+-- nothing can be done where there is no work
+idle_none : (slots : List Slot) (j : ℕ) → has_work slots j ≡ false → task_at slots j ≡ None
+idle_none slots j e = idle_at j (slot_at slots j) (is_stamped slots j (slot_at slots j).stamp) (status_of slots j) e
 
--- past the block there is nothing to do
-nothing_past : (slots : List Slot) (i : ℕ) → length slots ≤ i → status_of slots i ≡ None
-nothing_past [] i le = refl
-nothing_past (x ∷ slots) zero le = absurd (omega (arith, le))
-nothing_past (x ∷ slots) (suc i) le = nothing_past slots i (omega (arith, le))
+closed_idle : (o : Option Status) (has stamped : Bool) → is_closed o ≡ true → can_go_on o has stamped ≡ false
+closed_idle (Some (Ready n)) has stamped e = absurd (false≢true e)
+closed_idle (Some (Executing n by)) has stamped e = absurd (false≢true e)
+closed_idle (Some (Executed n)) has stamped e = absurd (false≢true e)
+closed_idle (Some (Committed n)) has stamped e = refl
+closed_idle None has stamped e = refl
 
-pub none_after : (slots : List Slot) (front i : ℕ) → ((j : ℕ) → front ≤ j → j < i → task_at slots j ≡ None) → task_at slots i ≡ None
-    → (j : ℕ) → front ≤ j → j < i + 1 → task_at slots j ≡ None
-none_after slots front i before here j ge lt =
-    elim (cases_lt j i) [
-      | inl below ↦ before j ge below
-      | inr above ↦ (let same : i ≡ j = omega (arith, lt, above) in subst (λ k. task_at slots k ≡ None) same here)
+-- a committed request has no work
+work_above : (slots : List Slot) (front place : ℕ) → ((j : ℕ) → j < front → is_closed (Some (slot_at slots j).status) ≡ true) → has_work slots place ≡ true → front ≤ place
+work_above slots front place closed has =
+    elim (cases_lt place front) [
+      | inl lt ↦ absurd (false≢true (sym (closed_idle (status_of slots place) _ _ (shut (status_of slots place) refl lt)) ∙ has))
+      | inr ge ↦ ge
     ]
+  where
+    shut : (o : Option Status) → status_of slots place ≡ o → place < front → is_closed o ≡ true
+    shut (Some status) e lt = ap (λ x. is_closed (Some x)) (sym (status_slot slots place status e)) ∙ closed place lt
+    shut None e lt = refl
 
-pub none_at_all : (slots : List Slot) (front i : ℕ) → length slots ≤ i → ((j : ℕ) → front ≤ j → j < i → task_at slots j ≡ None) → (j : ℕ) → front ≤ j → task_at slots j ≡ None
-none_at_all slots front i end before j ge =
-    elim (cases_lt j i) [
-      | inl below ↦ before j ge below
-      | inr above ↦ ap (task_for j (slot_at slots j) (is_stamped slots j (slot_at slots j).stamp)) (nothing_past slots j (omega (arith, end, above)))
-    ]
+module _ (s : State) (slots : List Slot) (front : ℕ) (slots_are : slots ≡ s.slots) (front_is : front ≡ s.front) (closed : (j : ℕ) → j < s.front → is_closed (Some (slot_at s.slots j).status) ≡ true)
+    (can : Bool) (is : can ≡ (is_executed (slot_at slots front).status && is_stamped slots front (slot_at slots front).stamp)) (not_can : can ≡ false) where
+  own : can ≡ (is_executed (slot_at s.slots s.front).status && is_stamped s.slots s.front (slot_at s.slots s.front).stamp)
+  own =
+      let same : ◌≡◌ {A = List Slot × ℕ} (slots, front) (s.slots, s.front) = λ t. (slots_are t, front_is t) in
+      subst (λ (p : List Slot × ℕ). can ≡ (is_executed (slot_at p.0 p.1).status && is_stamped p.0 p.1 (slot_at p.0 p.1).stamp)) same is
 
--- the same of the slots and the front as they were asked for
-pub next_is : (s : State) (slots : List Slot) (front : ℕ) → slots ≡ s.slots → front ≡ s.front → ((j : ℕ) → j < s.front → is_closed (Some (slot_at s.slots j).status) ≡ true)
-    → (can : Bool) → can ≡ (is_executed (slot_at slots front).status && is_stamped slots front (slot_at slots front).stamp) → can ≡ false
-    → (next : Option Task) → IfSome next (IsFirst slots front) → (next ≡ None → (j : ℕ) → front ≤ j → task_at slots j ≡ None) → IsNext s next
-next_is s slots front slots_are front_is closed can is not next some none =
-    let same : ◌≡◌ {A = List Slot × ℕ} (slots, front) (s.slots, s.front) = λ t. (slots_are t, front_is t) in
-    first_is_next s closed can
-    (subst (λ (p : List Slot × ℕ). can ≡ (is_executed (slot_at p.0 p.1).status && is_stamped p.0 p.1 (slot_at p.0 p.1).stamp)) same is)
-    not next
-    (subst (λ (p : List Slot × ℕ). IfSome next (IsFirst p.0 p.1)) same some)
-    (subst (λ (p : List Slot × ℕ). next ≡ None → (j : ℕ) → p.1 ≤ j → task_at p.0 j ≡ None) same none)
+  -- nothing is next where no request has work
+  pub next_none : ((j : ℕ) → has_work s.slots j ≡ false) → IsNext s None
+  next_none idle = first_is_next s closed can own not_can None tt (λ e j above. idle_none s.slots j (idle j))
+
+  -- the work of the least request that has any is next
+  pub next_some : (place : ℕ) (found : Task) → IsLeastWork s.slots place → task_at slots place ≡ Some found → IsNext s (Some found)
+  next_some place found least work =
+      let first : IsFirst s.slots s.front found =
+      record {
+        place = place;
+        above = work_above s.slots s.front place closed least.has;
+        is = ap (λ (xs : List Slot). task_at xs place) (sym slots_are) ∙ work;
+        none = λ j above below. idle_none s.slots j (least.none j below);
+      } in
+      first_is_next s closed can own not_can (Some found) first (λ e. absurd (none-some found (sym e)))
+
+-- ---- what can be done for a request with work
+
+pub settled : (i n : ℕ) (has : Bool) (found : Task) → (has ≡ true → found ≡ task.Check i n) → (has ≡ false → found ≡ task.Begin i n) → (stamped : Bool) → (has || not stamped) ≡ true → settling i n has stamped ≡ Some found
+settled i n true found check begin stamped e = ap (λ t. Some t) (sym (check refl))
+settled i n false found check begin false e = ap (λ t. Some t) (sym (begin refl))
+settled i n false found check begin true e = absurd (false≢true e)

@@ -1,8 +1,9 @@
 //! The next task of a book.
-ghost use Rattle.std.specs.Prelude.{◌≡◌, ◌<◌, ◌≤◌, ◌&&◌, ℕ, length, nat_le, IfSome, None};
+ghost use Rattle.std.specs.Prelude.{◌≡◌, ◌<◌, ◌&&◌, ◌||◌, ℕ, Bool, true, not, length, nat_le, Some};
 ghost use Rattle.book.specs.Run.{state_of};
 ghost use Rattle.block_machine.specs.Machine.{is_current, is_executed, is_stamped, slot_at};
-ghost use Rattle.scheduler.specs.Task.{settling, task_at, IsFirst, IsNext};
+ghost use Rattle.block_machine.specs.Waiting.{has_work};
+ghost use Rattle.scheduler.specs.Task.{settling, task_at, IsNext};
 
 use crate::task::Task;
 use block_machine::{Slot, Status};
@@ -32,54 +33,33 @@ fn can_commit(slots: &[Slot], front: usize, latest: u64) -> bool
     }
 }
 
-// What can be done for an executed request but to commit it.
-fn settling(place: usize, incarnation: u64, has_pass: bool, is_stamped: bool) -> Option<Task>
-    ensures { result ≡ settling place incarnation has_pass is_stamped }
+// What can be done for an executed request for which something can be, but to commit it.
+fn settling(place: usize, incarnation: u64, has_pass: bool) -> Task
+    ensures { (stamped : Bool) → (has_pass || not stamped) ≡ true → settling place incarnation has_pass stamped ≡ Some result }
 {
     if has_pass {
-        return Some(Task::Check(place, incarnation));
+        Task::Check(place, incarnation)
+    } else {
+        Task::Begin(place, incarnation)
     }
-    if is_stamped {
-        return None;
-    }
-    Some(Task::Begin(place, incarnation))
 }
 
-// What can be done for a request but to commit it.
-fn task_at(slots: &[Slot], place: usize, latest: u64) -> Option<Task>
+// What can be done for a request for which something can be, but to commit it.
+fn work_at(slots: &[Slot], place: usize) -> Task
     requires within { place < length slots.now }
-    requires latest { (moment : ℕ) → is_current slots.now place moment ≡ nat_le latest moment }
-    ensures { result ≡ task_at slots.now place }
+    requires has { has_work slots.now place ≡ true }
+    ensures { task_at slots.now place ≡ Some result }
 {
     let slot = &slots[place];
     match slot.status {
-        Status::Ready(_) => Some(Task::Take(place)),
-        Status::Executed(n) => {
-            let is_stamped = is_stamped(slot.stamp, latest);
-            settling(place, n, slot.pass.is_some(), is_stamped)
-        }
-        Status::Executing(_, _) | Status::Committed(_) => None,
+        Status::Ready(_) => Task::Take(place),
+        Status::Executed(n) => settling(place, n, slot.pass.is_some()),
+        Status::Executing(_, _) | Status::Committed(_) => unreachable!(),
     }
-}
-
-// What can be done for the least request from the front on for which anything can be, but to commit it.
-fn first_task(slots: &[Slot], front: usize, latest: u64) -> Option<Task>
-    requires { (moment : ℕ) → is_current slots.now front moment ≡ nat_le latest moment }
-    ensures some { IfSome result (IsFirst slots.now front) }
-    ensures none { result ≡ None → (j : ℕ) → front ≤ j → task_at slots.now j ≡ None }
-{
-    let mut last = latest;
-    for place in front..slots.len() {
-        if let Some(task) = task_at(slots, place, last) {
-            return Some(task);
-        }
-        last = last.max(slots[place].changed);
-    }
-    None
 }
 
 /// What a worker can do next: a commit where one is lawful, else what can be done for the least request for which anything can be. None
-/// only where nothing can be done.
+/// only where nothing can be done. It costs the logarithm of the number of requests.
 pub fn next(book: &Book<'_>) -> Option<Task>
     ensures { IsNext (state_of book.now) result }
 {
@@ -87,5 +67,6 @@ pub fn next(book: &Book<'_>) -> Option<Task>
     if can_commit(slots, front, latest) {
         return Some(Task::Commit(front));
     }
-    first_task(slots, front, latest)
+    let place = book.least_work()?;
+    Some(work_at(slots, place))
 }

@@ -3,17 +3,26 @@ use Rattle.block_machine.specs.declared.state.Slot.{Slot}
 use Rattle.block_machine.specs.Machine.{status_of}
 use Rattle.block_machine.specs.Spoken.{speaks}
 use Rattle.block_machine.proofs.Keeps.{keeps_by, passed-delta}
+use Rattle.block_machine.proofs.Standings.{standings_set}
 use Rattle.block_machine.proofs.machine.Machine.check.Goals as goal
 
 pub invariant_of-self : goal.invariant_of-self
 invariant_of-self c =
-    keeps_by c.self.inside.slots.items c.self.inside.front (speaks c.self.inside.spoken) c.self.inside.latest c.self.invariant c.args.i _
-    (ap (λ slots. status_of slots c.args.i) (sym c.as_slice.ensures.value) ∙ sym c.status_at-status.ensures ∙ c.in_default.ensures.none) refl
-    c.pass.new.slot c.index_mut.result.now c.index_mut.ensures.value
-    (ap (λ (x : Slot). x.delta) c.pass.ensures ∙ passed-delta c.index_mut.result.now (Some c.in-Some-pass.stands))
+    record {
+      lower =
+          keeps_by c.self.inside.slots.items c.self.inside.front (speaks c.self.inside.spoken) c.self.inside.latest c.self.invariant.lower c.args.i _
+          (ap (λ slots. status_of slots c.args.i) (sym c.as_slice.ensures.value) ∙ sym c.status_at-status.ensures ∙ c.in_default.ensures.none) refl
+          c.pass.new.slot c.index_mut-slot.result.now c.index_mut-slot.ensures.value
+          (ap (λ (x : Slot). x.delta) c.pass.ensures ∙ passed-delta c.index_mut-slot.result.now (Some c.in-Some-pass.stands));
+      standings_are = standings_set _ _ _ _ _ _ c.self.invariant.standings_are c.standing.ensures c.set.ensures;
+    }
 
 pub invariant_of-self-in-Changed : goal.invariant_of-self-in-Changed
 invariant_of-self-in-Changed c =
-    keeps_by c.self.inside.slots.items c.self.inside.front (speaks c.self.inside.spoken) c.self.inside.latest c.self.invariant c.args.i _
-    (ap (λ slots. status_of slots c.args.i) (sym c.as_slice.ensures.value) ∙ sym c.status_at-status.ensures ∙ c.in_default.ensures.none) refl
-    c.abort.new.slot c.index_mut-in-Changed.result.now c.index_mut-in-Changed.ensures.value (ap (λ (x : Slot). x.delta) c.abort.ensures)
+    record {
+      lower =
+          keeps_by c.self.inside.slots.items c.self.inside.front (speaks c.self.inside.spoken) c.self.inside.latest c.self.invariant.lower c.args.i _
+          (ap (λ slots. status_of slots c.args.i) (sym c.as_slice.ensures.value) ∙ sym c.status_at-status.ensures ∙ c.in_default.ensures.none) refl
+          c.abort.new.slot c.index_mut-slot-in-Changed.result.now c.index_mut-slot-in-Changed.ensures.value (ap (λ (x : Slot). x.delta) c.abort.ensures);
+      standings_are = standings_set _ _ _ _ _ _ c.self.invariant.standings_are c.standing-in-Changed.ensures c.set-in-Changed.ensures;
+    }

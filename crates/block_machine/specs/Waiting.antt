@@ -1,0 +1,39 @@
+-- What is still to be done for requests.
+use Rattle.std.specs.Prelude.{◌≡◌, ℕ, ◌<◌, Bool, true, false, not, ◌||◌, List, length, map, Option, Some, None, is_some}
+use Rattle.stamp_tree.specs.declared.standing.Due.{Due}
+use Rattle.stamp_tree.specs.declared.standing.Due.TheVariants.{Now, After, Never}
+use Rattle.stamp_tree.specs.declared.standing.Standing.{Standing}
+use Rattle.block_machine.specs.declared.state.Slot.{Slot}
+use Rattle.block_machine.specs.declared.state.Pass.{Pass}
+use Rattle.block_machine.specs.declared.state.Status.{Status}
+use Rattle.block_machine.specs.declared.state.Status.TheVariants.{Ready, Executing, Executed, Committed}
+use Rattle.block_machine.specs.Machine.{slot_at, status_of, is_stamped}
+
+abbrev pub can_go_on : Option Status → (has_pass stamped : Bool) → Bool
+can_go_on (Some (Ready n)) has_pass stamped = true
+can_go_on (Some (Executing n by)) has_pass stamped = false
+can_go_on (Some (Executed n)) has_pass stamped = has_pass || not stamped
+can_go_on (Some (Committed n)) has_pass stamped = false
+can_go_on None has_pass stamped = false
+
+-- Whether something can be done for a request but to commit it: it is ready, or it is executed, and a pass stands or no stamp that holds.
+abbrev pub has_work : List Slot → ℕ → Bool
+has_work slots i = can_go_on (status_of slots i) (is_some (slot_at slots i).pass) (is_stamped slots i (slot_at slots i).stamp)
+
+-- the least request for which something can be done but to commit it
+pub record IsLeastWork (slots : List Slot) (i : ℕ) : Type 0 where
+  pub within : i < length slots
+  pub has : has_work slots i ≡ true
+  pub none : (j : ℕ) → j < i → has_work slots j ≡ false
+
+-- when something is to be done for a request but to commit it, by its status, its pass and its stamp
+abbrev pub due_of : Status → Option Pass → Option ℕ → Due
+due_of (Ready n) pass stamp = Now
+due_of (Executing n by) pass stamp = Never
+due_of (Committed n) pass stamp = Never
+due_of (Executed n) (Some p) stamp = Now
+due_of (Executed n) None None = Now
+due_of (Executed n) None (Some moment) = After moment
+
+abbrev pub standing_of : Slot → Standing
+standing_of x = record { due = due_of x.status x.pass x.stamp; changed = x.changed }
