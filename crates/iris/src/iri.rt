@@ -1,25 +1,27 @@
-ghost use Rattle.std.specs.Prelude.{◌≡◌, ◌↔◌, IsTrue, true, false, List, ℕ, IfOk, IfSome, IfNone, string_bytes, MatchOption};
+ghost use Rattle.std.specs.Prelude.{◌≡◌, ◌↔◌, IsTrue, true, false, List, ℕ, IfOk, IfSome, IfNone, MatchOption};
 ghost use Rattle.std.specs.List.{list_all};
 ghost use Rattle.iris.specs.Iri.{is_letter, is_digit, is_scheme_byte, is_iri_byte, after_first, is_iri, IsIri};
 
 use std::alloc::{AllocError, Global};
 use std::marker::Model;
+use std::sync::ArcStr;
 
-/// An absolute IRI. Contracts see its UTF-8 bytes.
+/// An absolute IRI. Contracts see its UTF-8 bytes. Copies of it share them.
 #[derive(Drop)]
 pub struct Iri {
-    text: String,
+    text: ArcStr,
 }
 
 impl Model for Iri {
-    ghost use Rattle.std.specs.Prelude.{List, ℕ, string_bytes};
+    ghost use Rattle.std.specs.Prelude.{List, ℕ};
+    ghost use Rattle.std.specs.Arc.{arc_str_bytes};
     ghost use Rattle.iris.specs.Iri.{IsIri};
 
     ghost Value = { List ℕ };
 
-    ghost view = { λ i. string_bytes i.text };
+    ghost view = { λ i. arc_str_bytes i.text };
 
-    ghost invariant = { λ i. IsIri (string_bytes i.text) };
+    ghost invariant = { λ i. IsIri (arc_str_bytes i.text) };
 }
 
 fn is_scheme_byte(b: u8) -> bool
@@ -79,15 +81,15 @@ impl Iri {
         if !is_iri(text.as_bytes()) {
             return Ok(None);
         }
-        let text = String::from_str(alloc, text)?;
+        let text = ArcStr::from_str(alloc, text)?;
         Ok(Some(Iri { text }))
     }
 
-    /// The same IRI again. An `Err` comes only where memory runs out.
-    pub fn copied(&self, alloc: Global) -> Result<Iri, AllocError>
+    /// The same IRI again, in the same memory. An `Err` comes only where more copies would be held at once than can be counted.
+    pub fn copied(&self, _alloc: Global) -> Result<Iri, AllocError>
         ensures { IfOk result (λ copy. copy ≡ self.now) }
     {
-        let text = String::from_str(alloc, self.as_str())?;
+        let text = self.text.clone()?;
         Ok(Iri { text })
     }
 

@@ -1,2 +1,3 @@
 pub mod NumberLaws
 pub mod JoinLaws
+pub mod MadeLaws

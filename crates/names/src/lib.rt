@@ -7,6 +7,7 @@
 mod key;
 mod numbers;
 mod prefixes;
+mod whole;
 
 pub use numbers::{Labels, Variables};
 pub use prefixes::Prefixes;

@@ -6,10 +6,12 @@ ghost use Rattle.iris.specs.Forms.{is_tag};
 ghost use Rattle.terms.specs.Parts.{tag_bytes};
 ghost use Rattle.terms.specs.Literal.{lang_string};
 ghost use Rattle.terms.specs.declared.term.Term.TheVariants as term;
+ghost use Rattle.syntax_trees.specs.declared.tree.Name.TheVariants as name;
 ghost use Rattle.syntax_trees.specs.declared.tree.Node.TheVariants as node;
 ghost use Rattle.names.specs.Names.{declare, namespace_of, rdf_type, iri_of, is_lang_iri, literal_from as the_literal_from, typed_literal, truth as the_truth, literal_of, no_term, name_term, term_of};
 
 use crate::key::Key;
+use crate::whole::{WholeIris, iri_from};
 use iris::Iri;
 use lexer::laws::iri_with_local;
 use lexer::{Digits, IriText, LocalPart, Piece, Tag};
@@ -29,10 +31,13 @@ const XSD_BOOLEAN: &[u8] = b"http://www.w3.org/2001/XMLSchema#boolean";
 
 const LANG_STRING: &[u8] = b"http://www.w3.org/1999/02/22-rdf-syntax-ns#langString";
 
-/// The declared prefixes with their IRIs. Contracts see a list in the order of the prefixes.
+/// The declared prefixes with their IRIs. Contracts see a list in the order of the prefixes. Beside them it keeps IRIs that were made, whole
+/// ones and those of names, so that a name that stands often is one text in memory.
 #[derive(Drop)]
 pub struct Prefixes<'a> {
     map: BTreeMap<Key<'a>, IriText<'a>>,
+    whole: WholeIris<'a>,
+    named: BTreeMap<(Key<'a>, Key<'a>), Iri>,
 }
 
 impl<'a> Model for Prefixes<'a> {
@@ -40,7 +45,11 @@ impl<'a> Model for Prefixes<'a> {
 
     ghost Value = { List (List ℕ × List ℕ) };
 
+    ghost use Rattle.names.specs.Made.{AreOfNames};
+
     ghost view = { λ p. p.map.entries };
+
+    ghost invariant = { λ p. AreOfNames p.map.entries p.named };
 }
 
 /// The term that stands where there is none; a request with such a place is refused.
@@ -52,17 +61,6 @@ fn no_term() -> Term
         op: 0,
         label: 0,
         rank: 0,
-    }
-}
-
-/// The IRI that a text is.
-fn iri_from(alloc: Global, bytes: &[u8]) -> Result<Option<Iri>, AllocError>
-    requires { IsIri bytes.now }
-    ensures { IfOk result (λ found. found ≡ Some bytes.now) }
-{
-    match str::from_utf8(bytes) {
-        Ok(text) => Iri::check(alloc, text),
-        Err(_) => Ok(None),
     }
 }
 
@@ -92,6 +90,13 @@ fn is_joined(front: &[u8], back: &[u8], text: &[u8]) -> bool
     front == first && back == rest
 }
 
+/// What the IRI of a prefixed name is kept by.
+fn name_key<'a>(prefix: &Piece<'a>, local: &LocalPart<'a>) -> (Key<'a>, Key<'a>)
+    ensures { result ≡ (prefix.now, local.now) }
+{
+    (Key::new(prefix.as_bytes()), Key::new(local.as_bytes()))
+}
+
 /// The literal of these parts.
 fn literal_from(lexical: String, datatype: Iri, tag: Option<String>) -> Option<Literal>
     requires { ForSome (tag_bytes tag) (λ t. is_tag t ≡ true) }
@@ -102,23 +107,6 @@ fn literal_from(lexical: String, datatype: Iri, tag: Option<String>) -> Option<L
     Literal::new(lexical, datatype, tag)
 }
 
-/// The literal of a string and a datatype that is one of this module's.
-fn literal_with(
-    alloc: Global,
-    lexical: String,
-    datatype: &[u8],
-    tag: Option<String>,
-) -> Result<Option<Literal>, AllocError>
-    requires iri { IsIri datatype.now }
-    requires tag { ForSome (tag_bytes tag) (λ t. is_tag t ≡ true) }
-    ensures { IfOk result (λ found. found ≡ the_literal_from (string_bytes lexical) datatype.now (tag_bytes tag)) }
-{
-    match iri_from(alloc, datatype)? {
-        Some(iri) => Ok(literal_from(lexical, iri, tag)),
-        None => Ok(None),
-    }
-}
-
 impl<'a> Prefixes<'a> {
     /// No prefixes.
     pub fn new(alloc: Global) -> Prefixes<'a>
@@ -126,6 +114,8 @@ impl<'a> Prefixes<'a> {
     {
         Prefixes {
             map: BTreeMap::new(alloc),
+            whole: WholeIris::new(alloc),
+            named: BTreeMap::new(alloc),
         }
     }
 
@@ -133,6 +123,7 @@ impl<'a> Prefixes<'a> {
     pub fn declare(&mut self, prefix: &Piece<'a>, iri: &IriText<'a>) -> Result<(), AllocError>
         ensures { OnOk result (self.new ≡ declare prefix.now iri.now self.old) }
     {
+        self.named.clear();
         self.map.insert(Key::new(prefix.as_bytes()), iri.again())?;
         Ok(())
     }
@@ -170,17 +161,133 @@ impl<'a> Prefixes<'a> {
         }
     }
 
+    /// Whether the IRI of a prefixed name is kept.
+    fn is_kept(&self, prefix: &Piece<'a>, local: &LocalPart<'a>) -> bool {
+        self.named.contains_key(&name_key(prefix, local))
+    }
+
+    /// Makes and keeps the IRI of a prefixed name, unless it is kept or the prefix isn't declared.
+    #[tactic(auto, using(crate::proofs::MadeLaws::names_more))]
+    fn keep_named(
+        &mut self,
+        alloc: Global,
+        prefix: &Piece<'a>,
+        local: &LocalPart<'a>,
+    ) -> Result<(), AllocError>
+        ensures { self.new ≡ self.old }
+    {
+        if self.is_kept(prefix, local) {
+            return Ok(());
+        }
+        if let Some(namespace) = self.namespace_of(prefix) {
+            if let Some(iri) = joined(alloc, &namespace, local)? {
+                self.named.insert(name_key(prefix, local), iri)?;
+            }
+        }
+        Ok(())
+    }
+
+    fn keep_name(&mut self, alloc: Global, name: &Name<'a>) -> Result<(), AllocError>
+        ensures { self.new ≡ self.old }
+    {
+        match name {
+            Name::Iri(iri) => self.whole.keep(alloc, iri.as_bytes()),
+            Name::Prefixed { prefix, local } => self.keep_named(alloc, prefix, local),
+        }
+    }
+
+    fn keep_datatype(&mut self, alloc: Global, literal: &Written<'a>) -> Result<(), AllocError>
+        ensures { self.new ≡ self.old }
+    {
+        match literal {
+            Written::Plain(_) => self.whole.keep(alloc, XSD_STRING),
+            Written::Tagged(_, _) => self.whole.keep(alloc, LANG_STRING),
+            Written::Typed(_, datatype) => self.keep_name(alloc, datatype),
+            Written::Integer(_) => self.whole.keep(alloc, XSD_INTEGER),
+            Written::Boolean(_) => self.whole.keep(alloc, XSD_BOOLEAN),
+        }
+    }
+
+    fn keep_node(&mut self, alloc: Global, node: &Node<'a>) -> Result<(), AllocError>
+        ensures { self.new ≡ self.old }
+    {
+        match node {
+            Node::Name(name) => self.keep_name(alloc, name),
+            Node::Type => self.whole.keep(alloc, RDF_TYPE),
+            Node::Literal(literal) => self.keep_datatype(alloc, literal),
+            Node::Variable(_) | Node::Blank(_) => Ok(()),
+        }
+    }
+
+    /// Makes and keeps the IRIs that stand in these nodes, so that terms made of them share each IRI. The declared prefixes stay as they are.
+    /// An error comes only where a growth was refused.
+    pub fn keep(&mut self, alloc: Global, nodes: &[Node<'a>]) -> Result<(), AllocError>
+        ensures { self.new ≡ self.old }
+    {
+        for node in nodes {
+            self.keep_node(alloc, node)?;
+        }
+        Ok(())
+    }
+
+    /// The IRI of a prefixed name, if the prefix is declared. It is made where it isn't kept.
+    #[tactic(auto, using(crate::proofs::MadeLaws::kept_name))]
+    fn named_iri(
+        &self,
+        alloc: Global,
+        prefix: &Piece<'a>,
+        local: &LocalPart<'a>,
+    ) -> Result<Option<Iri>, AllocError>
+        ensures { IfOk result (λ found. found ≡ iri_of self.now (name.Prefixed prefix.now local.now)) }
+    {
+        if let Some(iri) = self.named.get(&name_key(prefix, local)) {
+            return Ok(Some(iri.copied(alloc)?));
+        }
+        match self.namespace_of(prefix) {
+            Some(namespace) => joined(alloc, &namespace, local),
+            None => Ok(None),
+        }
+    }
+
     /// The IRI of a name, if its prefix is declared.
     fn iri_of(&self, alloc: Global, name: &Name<'a>) -> Result<Option<Iri>, AllocError>
         ensures { IfOk result (λ found. found ≡ iri_of self.now name.now) }
     {
         match name {
-            Name::Iri(iri) => iri_from(alloc, iri.as_bytes()),
-            Name::Prefixed { prefix, local } => match self.namespace_of(prefix) {
-                Some(namespace) => joined(alloc, &namespace, local),
-                None => Ok(None),
-            },
+            Name::Iri(iri) => self.whole.iri(alloc, iri.as_bytes()),
+            Name::Prefixed { prefix, local } => self.named_iri(alloc, prefix, local),
         }
+    }
+
+    /// The literal of a string and a datatype that is one of this module's.
+    fn literal_with(
+        &self,
+        alloc: Global,
+        lexical: String,
+        datatype: &'a [u8],
+        tag: Option<String>,
+    ) -> Result<Option<Literal>, AllocError>
+        requires iri { IsIri datatype.now }
+        requires tag { ForSome (tag_bytes tag) (λ t. is_tag t ≡ true) }
+        ensures { IfOk result (λ found. found ≡ the_literal_from (string_bytes lexical) datatype.now (tag_bytes tag)) }
+    {
+        match self.whole.iri(alloc, datatype)? {
+            Some(iri) => Ok(literal_from(lexical, iri, tag)),
+            None => Ok(None),
+        }
+    }
+
+    /// The literal of a string and a language tag.
+    fn tagged(
+        &self,
+        alloc: Global,
+        lexical: String,
+        tag: &Tag<'a>,
+    ) -> Result<Option<Literal>, AllocError>
+        ensures { IfOk result (λ found. found ≡ the_literal_from (string_bytes lexical) lang_string (Some tag.now)) }
+    {
+        let tag = tag.lower(alloc)?;
+        self.literal_with(alloc, lexical, LANG_STRING, Some(tag))
     }
 
     /// The literal of a string and its written datatype.
@@ -207,14 +314,14 @@ impl<'a> Prefixes<'a> {
         ensures { IfOk result (λ found. found ≡ literal_of self.now literal.now) }
     {
         match literal {
-            Written::Plain(text) => literal_with(alloc, text.value(alloc)?, XSD_STRING, None),
-            Written::Tagged(text, tag) => tagged(alloc, text.value(alloc)?, tag),
+            Written::Plain(text) => self.literal_with(alloc, text.value(alloc)?, XSD_STRING, None),
+            Written::Tagged(text, tag) => self.tagged(alloc, text.value(alloc)?, tag),
             Written::Typed(text, datatype) => self.typed(alloc, text.value(alloc)?, datatype),
             Written::Integer(digits) => {
-                literal_with(alloc, digits_text(alloc, digits)?, XSD_INTEGER, None)
+                self.literal_with(alloc, digits_text(alloc, digits)?, XSD_INTEGER, None)
             }
             Written::Boolean(truth) => {
-                literal_with(alloc, truth_text(alloc, *truth)?, XSD_BOOLEAN, None)
+                self.literal_with(alloc, truth_text(alloc, *truth)?, XSD_BOOLEAN, None)
             }
         }
     }
@@ -239,25 +346,27 @@ impl<'a> Prefixes<'a> {
         }
     }
 
+    /// What the verb `a` is.
+    fn type_term(&self, alloc: Global) -> Result<Term, AllocError>
+        ensures { IfOk result (λ t. t ≡ term.Iri rdf_type) }
+    {
+        match self.whole.iri(alloc, RDF_TYPE)? {
+            Some(iri) => Ok(Term::Iri(iri)),
+            None => Ok(no_term()),
+        }
+    }
+
     /// The term that a node is.
     pub fn term_of(&self, alloc: Global, node: &Node<'a>) -> Result<Term, AllocError>
         ensures { IfOk result (λ term. term ≡ term_of self.now node.now) }
     {
         match node {
             Node::Name(name) => self.name_term(alloc, name),
-            Node::Type => type_term(alloc),
+            Node::Type => self.type_term(alloc),
             Node::Literal(literal) => self.literal_term(alloc, literal),
             Node::Variable(_) | Node::Blank(_) => Ok(no_term()),
         }
     }
-}
-
-/// The literal of a string and a language tag.
-fn tagged(alloc: Global, lexical: String, tag: &Tag<'_>) -> Result<Option<Literal>, AllocError>
-    ensures { IfOk result (λ found. found ≡ the_literal_from (string_bytes lexical) lang_string (Some tag.now)) }
-{
-    let tag = tag.lower(alloc)?;
-    literal_with(alloc, lexical, LANG_STRING, Some(tag))
 }
 
 /// Digits as a text.
@@ -275,14 +384,4 @@ fn truth_text(alloc: Global, truth: bool) -> Result<String, AllocError>
     ensures { IfOk result (λ text. string_bytes text ≡ the_truth truth) }
 {
     String::from_str(alloc, if truth { "true" } else { "false" })
-}
-
-/// What the verb `a` is.
-fn type_term(alloc: Global) -> Result<Term, AllocError>
-    ensures { IfOk result (λ t. t ≡ term.Iri rdf_type) }
-{
-    match iri_from(alloc, RDF_TYPE)? {
-        Some(iri) => Ok(Term::Iri(iri)),
-        None => Ok(no_term()),
-    }
 }

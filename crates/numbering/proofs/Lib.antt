@@ -3,3 +3,4 @@ pub mod Holding
 pub mod Numbers
 pub mod Carried
 pub mod Places
+pub mod Gathering

@@ -5,6 +5,7 @@
 //! Used above: what is numbered, run and named is the sequential run of the block on the base.
 #![tactic(auto)]
 
+mod gathered;
 pub mod laws;
 mod naming;
 mod numbered;

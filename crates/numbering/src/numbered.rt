@@ -1,14 +1,17 @@
 //! Bases and blocks at numbers of terms.
 ghost use Rattle.std.specs.Prelude.{◌≡◌, IfOk};
+ghost use Rattle.rules.specs.Terms.{terms_of};
+ghost use Rattle.numbering.specs.Gathered.{HasTerms};
 ghost use Rattle.numbering.specs.Numbered.{IsNumbered};
 
+use crate::gathered::distinct;
 use crate::requests::number_requests;
 use datasets::Id;
 use meaning::Request;
 use rules::Block;
 use std::alloc::{AllocError, Global};
 use store::Base;
-use terms::DataSet;
+use terms::{DataSet, Term};
 
 /// A base and a block at numbers of terms, by the base's dictionary.
 #[derive(Drop)]
@@ -17,12 +20,20 @@ pub struct Numbered {
     pub block: Vec<Request<Id>>,
 }
 
+/// The terms of a block's accepted requests, each once.
+fn terms_of(alloc: Global, block: &Block) -> Result<Vec<Term>, AllocError>
+    ensures { IfOk result (λ terms. HasTerms terms.items (terms_of block.now)) }
+{
+    let found = block.terms(alloc)?;
+    distinct(alloc, found.as_slice())
+}
+
 /// A base and a block at numbers, by the dictionary of the terms of the base and of the block's accepted requests. Each term is looked up
 /// once. An error comes only where memory runs out.
 pub fn number(alloc: Global, dataset: &DataSet, block: &Block) -> Result<Numbered, AllocError>
     ensures { IfOk result (λ n. IsNumbered dataset.now block.now n.base n.block.items) }
 {
-    let base = Base::new(alloc, dataset, block.terms(alloc)?)?;
+    let base = Base::new(alloc, dataset, terms_of(alloc, block)?)?;
     let block = number_requests(alloc, base.terms(), block.as_slice())?;
     Ok(Numbered { base, block })
 }

@@ -136,10 +136,11 @@ fn term(alloc: Global, written: &str) -> Result<Option<Term>, BlockFault> {
         "PREFIX x: <http://www.w3.org/2001/XMLSchema#> INSERT DATA {{ <x:s> <x:p> {written} }}"
     )?;
     let block = split(alloc, text.as_bytes())?;
-    match block.terms(alloc)?.pop() {
-        Some(term) => Ok(Some(term)),
-        None => Ok(None),
+    let mut terms = block.terms(alloc)?;
+    if let Some(term) = terms.pop() {
+        return Ok(Some(term.get().copied(alloc)?));
     }
+    Ok(None)
 }
 
 fn dictionary(alloc: Global, all: &[Written]) -> Result<Dict, BlockFault> {

@@ -3,11 +3,11 @@ ghost use Rattle.std.specs.Prelude.{◌≡◌, IfOk, length};
 ghost use Rattle.rules.specs.Terms.{terms_of};
 
 use crate::block_terms::add_requests;
+use crate::lent::TermRef;
 use crate::request::Checked;
 use sets::Items;
 use std::alloc::{AllocError, Global};
 use std::marker::Model;
-use terms::Term;
 
 /// The requests of a block, in order. Contracts see them as a list.
 #[derive(Drop)]
@@ -52,12 +52,12 @@ impl Block {
         self.requests.as_slice()
     }
 
-    /// All terms of its accepted requests, in order. An error comes only where a growth was refused.
-    pub fn terms(&self, alloc: Global) -> Result<Vec<Term>, AllocError>
+    /// All terms of its accepted requests, in order, where they lie. An error comes only where a growth was refused.
+    pub fn terms(&self, alloc: Global) -> Result<Vec<TermRef<'_>>, AllocError>
         ensures { IfOk result (λ terms. terms.items ≡ terms_of self.now) }
     {
         let mut found = Vec::new(alloc);
-        add_requests(alloc, &mut found, self.requests.as_slice())?;
+        add_requests(&mut found, self.requests.as_slice())?;
         Ok(found)
     }
 }

@@ -9,10 +9,12 @@ mod block_terms;
 mod cut;
 mod fault;
 pub mod laws;
+mod lent;
 mod request;
 mod splitting;
 
 pub use block::Block;
 pub use fault::BlockFault;
+pub use lent::TermRef;
 pub use request::{Checked, Update, Verdict};
 pub use splitting::{split, verdicts};

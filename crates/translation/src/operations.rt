@@ -213,25 +213,32 @@ fn variables_of<'a>(alloc: Global, operation: &Written<'a>) -> Result<Variables<
     Variables::of(alloc, nodes.as_slice())
 }
 
-/// The labels of an operation, numbered by first appearance.
-fn labels_of<'a>(alloc: Global, operation: &Written<'a>) -> Result<Labels<'a>, AllocError>
-    ensures { IfOk result (λ labels. labels ≡ with_labels (labels_of (nodes_of_operation operation.now)) []) }
+/// The labels of an operation, numbered by first appearance. The IRIs of the operation's nodes are made on the way, each once.
+fn labels_of<'a>(
+    alloc: Global,
+    prefixes: &mut Prefixes<'a>,
+    operation: &Written<'a>,
+) -> Result<Labels<'a>, AllocError>
+    ensures labels { IfOk result (λ labels. labels ≡ with_labels (labels_of (nodes_of_operation operation.now)) []) }
+    ensures prefixes { prefixes.new ≡ prefixes.old }
 {
     let mut labels = Labels::new(alloc);
     let nodes = operation_nodes(alloc, operation)?;
+    prefixes.keep(alloc, nodes.as_slice())?;
     labels.add_nodes(nodes.as_slice())?;
     Ok(labels)
 }
 
 fn operation_of<'a>(
     alloc: Global,
-    prefixes: &Prefixes<'a>,
+    prefixes: &mut Prefixes<'a>,
     operation: &Written<'a>,
 ) -> Result<Operation<Term>, AllocError>
-    ensures { IfOk result (λ made. made ≡ operation_of prefixes.now operation.now) }
+    ensures operation { IfOk result (λ made. made ≡ operation_of prefixes.old operation.now) }
+    ensures prefixes { prefixes.new ≡ prefixes.old }
 {
     let variables = variables_of(alloc, operation)?;
-    let labels = labels_of(alloc, operation)?;
+    let labels = labels_of(alloc, prefixes, operation)?;
     let scope = Scope {
         prefixes,
         variables: &variables,
@@ -251,7 +258,7 @@ pub fn translated(alloc: Global, steps: &[Step<'_>]) -> Result<Items<Operation<T
     for step in steps {
         match step {
             Step::Declare { prefix, iri } => prefixes.declare(prefix, iri)?,
-            Step::Do(operation) => operations.push(operation_of(alloc, &prefixes, operation)?)?,
+            Step::Do(operation) => operations.push(operation_of(alloc, &mut prefixes, operation)?)?,
         }
     }
     Ok(operations)
