@@ -1,3 +1,4 @@
 pub mod Sharing
+pub mod Limits
 pub mod Lookups
 pub mod MappingOrder

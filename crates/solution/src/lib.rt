@@ -6,6 +6,7 @@
 mod among;
 mod disjoint;
 mod filters;
+mod limited;
 mod lookup;
 mod mapping;
 mod operators;

@@ -80,8 +80,8 @@ pub fn apart_from(
     Ok(kept)
 }
 
-// Whether a mapping passes each filter.
-fn passes_each<F: Filters>(
+/// Whether a mapping passes each filter.
+pub fn passes_each<F: Filters>(
     alloc: Global,
     filters: &[Expression<Id>],
     by: &F,

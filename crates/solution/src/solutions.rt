@@ -6,10 +6,12 @@ ghost use Rattle.meaning.specs.Mapping.{empty_mapping, mapping_cmp, fitted};
 ghost use Rattle.meaning.specs.Operators as operators;
 ghost use Rattle.meaning.specs.Solutions.{passes_all, solutions_among as the_solutions_among};
 ghost use Rattle.sets.specs.Sets.{has, set_of as the_set_of};
+ghost use Rattle.solution.specs.Limits.{up_to as the_up_to};
 
 use crate::among::solutions_among;
 use crate::disjoint::share_some;
 use crate::filters::Filters;
+use crate::limited::joins_up_to;
 use crate::lookup::Lookup;
 use crate::mapping::Mapping;
 use crate::operators::{apart_from, difference, joins, passing, push_fitted};
@@ -95,6 +97,13 @@ impl Solutions {
         self.mappings.len()
     }
 
+    /// These, unless there are more than the limit.
+    pub fn up_to(self, limit: usize) -> Option<Solutions>
+        ensures { result ≡ the_up_to limit self }
+    {
+        if self.len() > limit { None } else { Some(self) }
+    }
+
     /// The place of a mapping in the order of mappings, counted from 0, or nothing where it is no solution.
     pub fn rank(&self, mapping: &Mapping) -> Option<usize>
         ensures found { IfSome result (λ rank. slice_get self.now rank ≡ Some mapping.now) }
@@ -122,6 +131,41 @@ impl Solutions {
         let right = Lookup::new(alloc, &self.mappings, right.mappings)?;
         let found = joins(alloc, &self.mappings, &right)?;
         Ok(Solutions::from_mappings(found))
+    }
+
+    /// The merges of all compatible pairs that pass each filter, unless there are more than the limit. It ends as soon as there are.
+    pub fn join_up_to<F: Filters>(
+        &self,
+        alloc: Global,
+        right: Solutions,
+        filters: &[Expression<Id>],
+        by: &F,
+        limit: usize,
+    ) -> Result<Option<Solutions>, AllocError>
+        ensures { IfOk result (λ found. found ≡ the_up_to limit (filter (passes_all (F.passes by.now) (map expression_of filters.now)) (operators.join id_order self.now right))) }
+    {
+        let right = Lookup::new(alloc, &self.mappings, right.mappings)?;
+        joins_up_to(alloc, filters, by, &self.mappings, &right, limit)
+    }
+
+    /// What `left_join` gives, unless there are more than the limit. It ends as soon as more merges are found.
+    pub fn left_join_up_to<F: Filters>(
+        self,
+        alloc: Global,
+        right: Solutions,
+        filters: &[Expression<Id>],
+        by: &F,
+        limit: usize,
+    ) -> Result<Option<Solutions>, AllocError>
+        ensures { IfOk result (λ found. found ≡ the_up_to limit (operators.left_join id_order (passes_all (F.passes by.now) (map expression_of filters.now)) self right)) }
+    {
+        let right = Lookup::new(alloc, &self.mappings, right.mappings)?;
+        let Some(merges) = joins_up_to(alloc, filters, by, &self.mappings, &right, limit)? else {
+            return Ok(None);
+        };
+        let rest = difference(alloc, filters, by, self.mappings, &right)?;
+        let all = merges.union_with(rest)?;
+        Ok(all.up_to(limit))
     }
 
     /// The merges that pass each filter, and those on the left that have none (SPARQL 1.1 Query, 18.5, LeftJoin).
