@@ -60,6 +60,8 @@ use Rattle.std.proofs.option.Option.TheSendSync as option
 use Rattle.block_machine.specs.contracts.state.Event as Event
 use Rattle.block_machine.specs.contracts.state.Reply as MachineReply
 use Rattle.block_machine.specs.contracts.state.Entry as Entry
+use Rattle.stamp_tree.specs.contracts.tree.StampTree as StampTree
+use Rattle.stamp_tree.proofs.tree.StampTree.TheLaws.TheKnot as trees
 use Rattle.block_machine.specs.contracts.machine.Machine as Machine
 use Rattle.book.specs.contracts.book.Book as Book
 use Rattle.blocklock.proofs.Sent.{lock, pass}
@@ -188,8 +190,11 @@ hints = let s = sorted_hints in search (sendable, crosses) depth 20
 spoken : IsSend (Spoken.the_field).row
 spoken = let h = hints in let i = id.the_send in search (sendable, crosses, maps.crosses) depth 20
 
+tree : IsSend (StampTree.the_field).row
+tree = search (sendable, crosses, trees.crosses) depth 20
+
 machine : IsSend (Machine.the_row)
-machine = let s = slot in let p = spoken in search (sendable, crosses) depth 20
+machine = let s = slot in let p = spoken in let t = tree in search (sendable, crosses) depth 20
 
 event : IsSend (Event.the_field).row
 event = let f = finished in let r = read in search (sendable, crosses) depth 20
