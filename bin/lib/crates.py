@@ -112,6 +112,11 @@ def build_library(crate, flags, keeps):
     return status
 
 
+def likely_cost(crate):
+    """How dear a proof of the crate is likely to be, in lines: its own, and what a start takes with the libraries that it reads."""
+    return crate.count(rb"\n") + 200 + 15 * len(crate.below())
+
+
 def add_proofs(work, crates, failed, keeps):
     """Adds the proofs of these crates, of which each waits for the libraries below it. What the prover said of one that is not proved goes into `failed`."""
 
@@ -131,7 +136,7 @@ def add_proofs(work, crates, failed, keeps):
 
     for crate in crates:
         waits_for = [(it, "proof") for it in crate.below()]
-        work.add(crate, "proof", waits_for, crate.count(rb"\n"), lambda given, jobs, crate=crate: prove(crate, given, jobs))
+        work.add(crate, "proof", waits_for, likely_cost(crate), lambda given, jobs, crate=crate: prove(crate, given, jobs))
 
 
 def prove(crates, keeps):
