@@ -35,6 +35,9 @@ use Rattle.datasets.proofs.id.Id.TheSendSync as id
 use Rattle.datasets.specs.contracts.quad.Quad as Quad
 use Rattle.datasets.specs.contracts.read.Read as Read
 use Rattle.datasets.specs.contracts.read.QuadPattern as QuadPattern
+use Rattle.iris.specs.contracts.iri.Iri as Iri
+use Rattle.terms.specs.contracts.literal.Literal as Literal
+use Rattle.terms.specs.contracts.literal.Blank as Blank
 use Rattle.terms.specs.contracts.term.Term as Term
 use Rattle.dict.specs.contracts.dictionary.Dict as Dict
 use Rattle.reads.specs.contracts.view.View as View
@@ -122,8 +125,17 @@ module _ (T : RattleType) (s : IsSync T) where
 pub requests : IsSync (Result.the_row (Items.the_row (Operation.the_row Id.the_row)) Refusal.the_row)
 requests = request Id.the_row id.the_sync
 
+iri : IsSync (Iri.the_field).row
+iri = search (sendable, crosses) depth 30
+
+literal : IsSync (Literal.the_field).row
+literal = let i = iri in search (sendable, crosses) depth 30
+
+blank : IsSync (Blank.the_field).row
+blank = search (sendable, crosses) depth 30
+
 term : IsSync (Term.the_field).row
-term = search (sendable, crosses) depth 20
+term = let i = iri in let l = literal in let b = blank in search (sendable, crosses) depth 30
 
 pub dict : IsSync (Dict.the_row)
 dict = let t = term in search (sendable, crosses) depth 20
