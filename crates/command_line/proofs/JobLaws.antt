@@ -17,8 +17,8 @@ use Rattle.clap.proofs.WalkLemmas.{first_value-rows, one_text-rows}
 use Rattle.command_line.specs.declared.fault.LineFault.{LineFault}
 use Rattle.command_line.specs.declared.fault.LineFault.TheVariants.{Memory, Help, Wrong}
 use Rattle.command_line.specs.declared.job.Job.{Job}
-use Rattle.command_line.specs.declared.job.Job.TheVariants.{Run, Serial, Check}
-use Rattle.command_line.specs.CommandLine.{program, IsWorkers, IsAsked, IsFileAnswer, IsWorkersAnswer, IsCommandAnswer, IsToldAs, IsAnswer}
+use Rattle.command_line.specs.declared.job.Job.TheVariants.{Run, Serial, Replay, Check}
+use Rattle.command_line.specs.CommandLine.{program, IsWorkers, IsAsked, IsFileAnswer, IsWorkersAnswer, IsJournalAnswer, IsCommandAnswer, IsToldAs, IsAnswer}
 
 simple : is_simple program ≡ true
 unfolding clap_on_literals
@@ -40,6 +40,19 @@ run_is_not_serial e = let bad : 3 ≡ 6 = ap length e in absurd (omega (arith, b
 serial_is_not_check : codes "serial" ≡ codes "check" → ⊥
 serial_is_not_check e = let bad : 6 ≡ 5 = ap length e in absurd (omega (arith, bad))
 
+abbrev first_letter : List ℕ → ℕ
+first_letter [] = 0
+first_letter (x ∷ xs) = x
+
+run_is_not_replay : codes "run" ≡ codes "replay" → ⊥
+run_is_not_replay e = let bad : 3 ≡ 6 = ap length e in absurd (omega (arith, bad))
+
+serial_is_not_replay : codes "serial" ≡ codes "replay" → ⊥
+serial_is_not_replay e = let bad : 115 ≡ 114 = ap first_letter e in absurd (omega (arith, bad))
+
+replay_is_not_check : codes "replay" ≡ codes "check" → ⊥
+replay_is_not_check e = let bad : 6 ≡ 5 = ap length e in absurd (omega (arith, bad))
+
 -- a file that is not named
 pub file_missing : (text : Option Text) (f : LineFault) → IsToldAs InvalidValue f → text ≡ None → IsFileAnswer text (Err f)
 file_missing text Memory told e = search rules
@@ -58,8 +71,9 @@ base_fails rows (Help m) a = absurd a
 base_fails rows (Wrong m) a = no
   where
     no : (j : Job) → IsAsked (codes "run") rows j → ⊥
-    no (Run b k o w) h = let bad : None ≡ Some (string_bytes b) = sym a ∙ h.1 in cc
+    no (Run b k o w l) h = let bad : None ≡ Some (string_bytes b) = sym a ∙ h.1 in cc
     no (Serial b k o) h = absurd (run_is_not_serial h.0)
+    no (Replay b k l o) h = absurd (run_is_not_replay h.0)
     no (Check k) h = absurd (run_is_not_check h.0)
 
 pub block_fails : (rows : List Row) (f : LineFault) → IsFileAnswer (first_of (codes "BLOCK") rows) (Err f) → IsCommandAnswer (codes "run") rows (Err f)
@@ -68,8 +82,9 @@ block_fails rows (Help m) a = absurd a
 block_fails rows (Wrong m) a = no
   where
     no : (j : Job) → IsAsked (codes "run") rows j → ⊥
-    no (Run b k o w) h = let bad : None ≡ Some (string_bytes k) = sym a ∙ h.2 in cc
+    no (Run b k o w l) h = let bad : None ≡ Some (string_bytes k) = sym a ∙ h.2 in cc
     no (Serial b k o) h = absurd (run_is_not_serial h.0)
+    no (Replay b k l o) h = absurd (run_is_not_replay h.0)
     no (Check k) h = absurd (run_is_not_check h.0)
 
 pub out_fails : (rows : List Row) (f : LineFault) → IsFileAnswer (first_of (codes "OUT") rows) (Err f) → IsCommandAnswer (codes "run") rows (Err f)
@@ -78,8 +93,9 @@ out_fails rows (Help m) a = absurd a
 out_fails rows (Wrong m) a = no
   where
     no : (j : Job) → IsAsked (codes "run") rows j → ⊥
-    no (Run b k o w) h = let bad : None ≡ Some (string_bytes o) = sym a ∙ h.3 in cc
+    no (Run b k o w l) h = let bad : None ≡ Some (string_bytes o) = sym a ∙ h.3 in cc
     no (Serial b k o) h = absurd (run_is_not_serial h.0)
+    no (Replay b k l o) h = absurd (run_is_not_replay h.0)
     no (Check k) h = absurd (run_is_not_check h.0)
 
 pub workers_fail : (rows : List Row) (f : LineFault) → IsWorkersAnswer (one_of (codes "workers") rows) (Err f) → IsCommandAnswer (codes "run") rows (Err f)
@@ -88,9 +104,15 @@ workers_fail rows (Help m) a = absurd a
 workers_fail rows (Wrong m) a = no
   where
     no : (j : Job) → IsAsked (codes "run") rows j → ⊥
-    no (Run b k o w) h = a w h.4
+    no (Run b k o w l) h = a w h.4
     no (Serial b k o) h = absurd (run_is_not_serial h.0)
+    no (Replay b k l o) h = absurd (run_is_not_replay h.0)
     no (Check k) h = absurd (run_is_not_check h.0)
+
+pub journal_fails : (rows : List Row) (f : LineFault) → IsJournalAnswer (first_of (codes "journal") rows) (Err f) → IsCommandAnswer (codes "run") rows (Err f)
+journal_fails rows Memory a = search rules
+journal_fails rows (Help m) a = absurd a
+journal_fails rows (Wrong m) a = absurd a
 
 pub serial_base_fails : (rows : List Row) (f : LineFault) → IsFileAnswer (first_of (codes "BASE") rows) (Err f) → IsCommandAnswer (codes "serial") rows (Err f)
 serial_base_fails rows Memory a = search rules
@@ -98,8 +120,9 @@ serial_base_fails rows (Help m) a = absurd a
 serial_base_fails rows (Wrong m) a = no
   where
     no : (j : Job) → IsAsked (codes "serial") rows j → ⊥
-    no (Run b k o w) h = absurd (run_is_not_serial (sym h.0))
+    no (Run b k o w l) h = absurd (run_is_not_serial (sym h.0))
     no (Serial b k o) h = let bad : None ≡ Some (string_bytes b) = sym a ∙ h.1 in cc
+    no (Replay b k l o) h = absurd (serial_is_not_replay h.0)
     no (Check k) h = absurd (serial_is_not_check h.0)
 
 pub serial_block_fails : (rows : List Row) (f : LineFault) → IsFileAnswer (first_of (codes "BLOCK") rows) (Err f) → IsCommandAnswer (codes "serial") rows (Err f)
@@ -108,8 +131,9 @@ serial_block_fails rows (Help m) a = absurd a
 serial_block_fails rows (Wrong m) a = no
   where
     no : (j : Job) → IsAsked (codes "serial") rows j → ⊥
-    no (Run b k o w) h = absurd (run_is_not_serial (sym h.0))
+    no (Run b k o w l) h = absurd (run_is_not_serial (sym h.0))
     no (Serial b k o) h = let bad : None ≡ Some (string_bytes k) = sym a ∙ h.2 in cc
+    no (Replay b k l o) h = absurd (serial_is_not_replay h.0)
     no (Check k) h = absurd (serial_is_not_check h.0)
 
 pub serial_out_fails : (rows : List Row) (f : LineFault) → IsFileAnswer (first_of (codes "OUT") rows) (Err f) → IsCommandAnswer (codes "serial") rows (Err f)
@@ -118,9 +142,54 @@ serial_out_fails rows (Help m) a = absurd a
 serial_out_fails rows (Wrong m) a = no
   where
     no : (j : Job) → IsAsked (codes "serial") rows j → ⊥
-    no (Run b k o w) h = absurd (run_is_not_serial (sym h.0))
+    no (Run b k o w l) h = absurd (run_is_not_serial (sym h.0))
     no (Serial b k o) h = let bad : None ≡ Some (string_bytes o) = sym a ∙ h.3 in cc
+    no (Replay b k l o) h = absurd (serial_is_not_replay h.0)
     no (Check k) h = absurd (serial_is_not_check h.0)
+
+pub replay_base_fails : (rows : List Row) (f : LineFault) → IsFileAnswer (first_of (codes "BASE") rows) (Err f) → IsCommandAnswer (codes "replay") rows (Err f)
+replay_base_fails rows Memory a = search rules
+replay_base_fails rows (Help m) a = absurd a
+replay_base_fails rows (Wrong m) a = no
+  where
+    no : (j : Job) → IsAsked (codes "replay") rows j → ⊥
+    no (Run b k o w l) h = absurd (run_is_not_replay (sym h.0))
+    no (Serial b k o) h = absurd (serial_is_not_replay (sym h.0))
+    no (Replay b k l o) h = let bad : None ≡ Some (string_bytes b) = sym a ∙ h.1 in cc
+    no (Check k) h = absurd (replay_is_not_check h.0)
+
+pub replay_block_fails : (rows : List Row) (f : LineFault) → IsFileAnswer (first_of (codes "BLOCK") rows) (Err f) → IsCommandAnswer (codes "replay") rows (Err f)
+replay_block_fails rows Memory a = search rules
+replay_block_fails rows (Help m) a = absurd a
+replay_block_fails rows (Wrong m) a = no
+  where
+    no : (j : Job) → IsAsked (codes "replay") rows j → ⊥
+    no (Run b k o w l) h = absurd (run_is_not_replay (sym h.0))
+    no (Serial b k o) h = absurd (serial_is_not_replay (sym h.0))
+    no (Replay b k l o) h = let bad : None ≡ Some (string_bytes k) = sym a ∙ h.2 in cc
+    no (Check k) h = absurd (replay_is_not_check h.0)
+
+pub replay_journal_fails : (rows : List Row) (f : LineFault) → IsFileAnswer (first_of (codes "JOURNAL") rows) (Err f) → IsCommandAnswer (codes "replay") rows (Err f)
+replay_journal_fails rows Memory a = search rules
+replay_journal_fails rows (Help m) a = absurd a
+replay_journal_fails rows (Wrong m) a = no
+  where
+    no : (j : Job) → IsAsked (codes "replay") rows j → ⊥
+    no (Run b k o w l) h = absurd (run_is_not_replay (sym h.0))
+    no (Serial b k o) h = absurd (serial_is_not_replay (sym h.0))
+    no (Replay b k l o) h = let bad : None ≡ Some (string_bytes l) = sym a ∙ h.3 in cc
+    no (Check k) h = absurd (replay_is_not_check h.0)
+
+pub replay_out_fails : (rows : List Row) (f : LineFault) → IsFileAnswer (first_of (codes "OUT") rows) (Err f) → IsCommandAnswer (codes "replay") rows (Err f)
+replay_out_fails rows Memory a = search rules
+replay_out_fails rows (Help m) a = absurd a
+replay_out_fails rows (Wrong m) a = no
+  where
+    no : (j : Job) → IsAsked (codes "replay") rows j → ⊥
+    no (Run b k o w l) h = absurd (run_is_not_replay (sym h.0))
+    no (Serial b k o) h = absurd (serial_is_not_replay (sym h.0))
+    no (Replay b k l o) h = let bad : None ≡ Some (string_bytes o) = sym a ∙ h.4 in cc
+    no (Check k) h = absurd (replay_is_not_check h.0)
 
 pub checked_block_fails : (rows : List Row) (f : LineFault) → IsFileAnswer (first_of (codes "BLOCK") rows) (Err f) → IsCommandAnswer (codes "check") rows (Err f)
 checked_block_fails rows Memory a = search rules
@@ -128,19 +197,21 @@ checked_block_fails rows (Help m) a = absurd a
 checked_block_fails rows (Wrong m) a = no
   where
     no : (j : Job) → IsAsked (codes "check") rows j → ⊥
-    no (Run b k o w) h = absurd (run_is_not_check (sym h.0))
+    no (Run b k o w l) h = absurd (run_is_not_check (sym h.0))
     no (Serial b k o) h = absurd (serial_is_not_check (sym h.0))
+    no (Replay b k l o) h = absurd (replay_is_not_check (sym h.0))
     no (Check k) h = let bad : None ≡ Some (string_bytes k) = sym a ∙ h.1 in cc
 
 -- a name of no command
-pub no_command : (name : Text) (rows : List Row) (f : LineFault) → (name ≡ codes "run" → ⊥) → (name ≡ codes "serial" → ⊥) → (name ≡ codes "check" → ⊥) → IsToldAs InvalidValue f → IsCommandAnswer name rows (Err f)
-no_command name rows Memory run serial check told = search rules
-no_command name rows (Help m) run serial check told = absurd (no_help told)
-no_command name rows (Wrong m) run serial check told = no
+pub no_command : (name : Text) (rows : List Row) (f : LineFault) → (name ≡ codes "run" → ⊥) → (name ≡ codes "serial" → ⊥) → (name ≡ codes "replay" → ⊥) → (name ≡ codes "check" → ⊥) → IsToldAs InvalidValue f → IsCommandAnswer name rows (Err f)
+no_command name rows Memory run serial replay check told = search rules
+no_command name rows (Help m) run serial replay check told = absurd (no_help told)
+no_command name rows (Wrong m) run serial replay check told = no
   where
     no : (j : Job) → IsAsked name rows j → ⊥
-    no (Run b k o w) h = run h.0
+    no (Run b k o w l) h = run h.0
     no (Serial b k o) h = serial h.0
+    no (Replay b k l o) h = replay h.0
     no (Check k) h = check h.0
 
 not_help : (ks : Kinds) → ks ≡ [] → ks ≢ DisplayHelp ∷ []

@@ -1,6 +1,6 @@
--- The command line, as `clap` reads it: `sparql-block run BASE BLOCK OUT [--workers N]`, `sparql-block serial BASE BLOCK OUT` or
--- `sparql-block check BLOCK`.
-use Rattle.std.specs.Prelude.{◌≡◌, ◌≢◌, ◌≤◌, ⊤, true, ℕ, List, [], ◌∷◌, Option, Some, None, Result, Ok, Err, codes, pos, String, string_bytes}
+-- The command line, as `clap` reads it: `sparql-block run BASE BLOCK OUT [--workers N] [--journal FILE]`,
+-- `sparql-block serial BASE BLOCK OUT`, `sparql-block replay BASE BLOCK JOURNAL OUT` or `sparql-block check BLOCK`.
+use Rattle.std.specs.Prelude.{◌≡◌, ◌≢◌, ◌≤◌, ⊤, true, ℕ, List, [], ◌∷◌, Option, Some, None, Result, Ok, Err, codes, pos, option_map, String, string_bytes}
 use Rattle.std.specs.declared.alloc.Global.{Global}
 use Rattle.std.specs.Str.Parse.{IsNumeral, digits_value, without_leading_plus}
 use Rattle.clap.specs.Words.{App, Row, Rule, Shape, Text, new_app, new_rule, with_rule, with_subcommand, first_of, one_of, subcommand_of, fault_of, IsAmong}
@@ -10,7 +10,7 @@ use Rattle.clap.specs.declared.error.kind.ErrorKind.TheVariants.{DisplayHelp, Ou
 use Rattle.command_line.specs.declared.fault.LineFault.{LineFault}
 use Rattle.command_line.specs.declared.fault.LineFault.TheVariants.{Memory, Help, Wrong}
 use Rattle.command_line.specs.declared.job.Job.{Job}
-use Rattle.command_line.specs.declared.job.Job.TheVariants.{Run, Serial, Check}
+use Rattle.command_line.specs.declared.job.Job.TheVariants.{Run, Serial, Replay, Check}
 
 -- a file is a word that must be there
 abbrev pub file_rule : Text → Rule
@@ -24,14 +24,25 @@ workers_option_rule = record (new_rule (codes "workers")) { long = Some (codes "
 abbrev pub workers_rule : Rule
 workers_rule = record workers_option_rule { value_names = 1; defaults = codes "4" ∷ [] }
 
+-- `--journal FILE`, which need not be there
+abbrev pub journal_rule : Rule
+journal_rule = record (new_rule (codes "journal")) { long = Some (codes "journal"); value_names = 1 }
+
 abbrev pub run_of_base_app : App
 run_of_base_app = with_rule (new_app (codes "run")) (file_rule (codes "BASE"))
 
 abbrev pub run_app : App
-run_app = with_rule (with_rule (with_rule run_of_base_app (file_rule (codes "BLOCK"))) (file_rule (codes "OUT"))) workers_rule
+run_app =
+    with_rule (with_rule (with_rule (with_rule run_of_base_app (file_rule (codes "BLOCK"))) (file_rule (codes "OUT"))) workers_rule) journal_rule
 
 abbrev pub serial_app : App
 serial_app = with_rule (with_rule (with_rule (new_app (codes "serial")) (file_rule (codes "BASE"))) (file_rule (codes "BLOCK"))) (file_rule (codes "OUT"))
+
+abbrev pub replay_app : App
+replay_app =
+    with_rule
+    (with_rule (with_rule (with_rule (new_app (codes "replay")) (file_rule (codes "BASE"))) (file_rule (codes "BLOCK"))) (file_rule (codes "JOURNAL")))
+    (file_rule (codes "OUT"))
 
 abbrev pub check_app : App
 check_app = with_rule (new_app (codes "check")) (file_rule (codes "BLOCK"))
@@ -43,8 +54,12 @@ program_shape = record (new_app (codes "sparql-block")).top { subcommand_require
 abbrev pub bare_program : App
 bare_program = record { top = program_shape; subs = [] }
 
+-- the program with the commands that run a block
+abbrev pub program_of_runs : App
+program_of_runs = with_subcommand (with_subcommand bare_program run_app.top) serial_app.top
+
 abbrev pub program : App
-program = with_subcommand (with_subcommand (with_subcommand bare_program run_app.top) serial_app.top) check_app.top
+program = with_subcommand (with_subcommand program_of_runs replay_app.top) check_app.top
 
 -- the text is the number in decimal digits, where a plus may stand first
 abbrev pub IsNumber : Text → ℕ → Type 0
@@ -54,16 +69,23 @@ IsNumber t n = IsNumeral 10 (without_leading_plus t) × (n ≡ digits_value 10 (
 abbrev pub IsWorkers : Option Text → ℕ → Type 0
 IsWorkers text n = ((t : Text) × (text ≡ Some t) × IsNumber t n) × (1 ≤ n) × (n ≤ 64)
 
--- the command of this name and its rows give this job: its files are the words of the rows, and its workers their number
+-- the command of this name and its rows give this job: its files are the words of the rows, and its workers their number; a journal is
+-- written where a file is named for it
 abbrev pub IsAsked : Text → List Row → Job → Type 0
-IsAsked name rows (Run base block out workers) = (name ≡ codes "run")
+IsAsked name rows (Run base block out workers journal) = (name ≡ codes "run")
     × (first_of (codes "BASE") rows ≡ Some (string_bytes base))
     × (first_of (codes "BLOCK") rows ≡ Some (string_bytes block))
     × (first_of (codes "OUT") rows ≡ Some (string_bytes out))
     × IsWorkers (one_of (codes "workers") rows) workers
+    × (first_of (codes "journal") rows ≡ option_map string_bytes journal)
 IsAsked name rows (Serial base block out) = (name ≡ codes "serial")
     × (first_of (codes "BASE") rows ≡ Some (string_bytes base))
     × (first_of (codes "BLOCK") rows ≡ Some (string_bytes block))
+    × (first_of (codes "OUT") rows ≡ Some (string_bytes out))
+IsAsked name rows (Replay base block journal out) = (name ≡ codes "replay")
+    × (first_of (codes "BASE") rows ≡ Some (string_bytes base))
+    × (first_of (codes "BLOCK") rows ≡ Some (string_bytes block))
+    × (first_of (codes "JOURNAL") rows ≡ Some (string_bytes journal))
     × (first_of (codes "OUT") rows ≡ Some (string_bytes out))
 IsAsked name rows (Check block) = (name ≡ codes "check") × (first_of (codes "BLOCK") rows ≡ Some (string_bytes block))
 
@@ -80,6 +102,13 @@ IsWorkersAnswer text (Ok n) = IsWorkers text n
 IsWorkersAnswer text (Err Memory) = ⊤
 IsWorkersAnswer text (Err (Help message)) = ⊥
 IsWorkersAnswer text (Err (Wrong message)) = (n : ℕ) → IsWorkers text n → ⊥
+
+-- what the file behind `--journal` comes to, which need not be there
+abbrev pub IsJournalAnswer : Option Text → Result (Option (String Global)) LineFault → Type 0
+IsJournalAnswer text (Ok path) = text ≡ option_map string_bytes path
+IsJournalAnswer text (Err Memory) = ⊤
+IsJournalAnswer text (Err (Help message)) = ⊥
+IsJournalAnswer text (Err (Wrong message)) = ⊥
 
 -- what the command of this name and its rows come to
 abbrev pub IsCommandAnswer : Text → List Row → Result Job LineFault → Type 0
@@ -107,6 +136,7 @@ IsAnswer words (Err (Wrong text)) = (fault_of program words ≢ DisplayHelp ∷ 
 
 -- the workers of a job are from 1 to 64, where it has any
 abbrev pub HasWorkers : Job → Type 0
-HasWorkers (Run base block out workers) = (1 ≤ workers) × (workers ≤ 64)
+HasWorkers (Run base block out workers journal) = (1 ≤ workers) × (workers ≤ 64)
 HasWorkers (Serial base block out) = ⊤
+HasWorkers (Replay base block journal out) = ⊤
 HasWorkers (Check block) = ⊤

@@ -14,6 +14,8 @@ pub enum File {
     Base,
     /// The requests.
     Block,
+    /// The events of a run.
+    Journal,
     /// The dataset that the run ends with, and the replies.
     Answer,
 }
@@ -75,6 +77,10 @@ pub enum Fault {
     BadUtf8,
     /// Memory ran out.
     Memory,
+    /// The first bad entry of the journal, counted from 1, and 0 where its first line is bad.
+    BadEntry(u64),
+    /// The first entry of the journal that is not lawful, counted from 1.
+    Illegal(u64),
     /// The file could not be read.
     CannotRead(File),
     /// The file could not be written.
@@ -91,6 +97,7 @@ impl fmt::Display for File {
         match self {
             File::Base => f.write_str("base"),
             File::Block => f.write_str("block"),
+            File::Journal => f.write_str("journal"),
             File::Answer => f.write_str("answer"),
         }
     }
@@ -126,6 +133,8 @@ impl fmt::Display for Fault {
             Fault::TooManyRequests => f.write_str("block: too many requests"),
             Fault::BadUtf8 => f.write_str("block: not UTF-8"),
             Fault::Memory => f.write_str("out of memory"),
+            Fault::BadEntry(entry) => write!(f, "journal: bad entry {entry}"),
+            Fault::Illegal(entry) => write!(f, "journal: entry {entry} is not lawful"),
             Fault::CannotRead(file) => write!(f, "file: cannot read {file}"),
             Fault::CannotWrite(file) => write!(f, "file: cannot write {file}"),
         }
@@ -148,6 +157,7 @@ impl Fault {
             Fault::BlockTooLong | Fault::TooManyRequests | Fault::BadUtf8 => 4,
             Fault::Line(LineFault::Memory) | Fault::Memory => 5,
             Fault::CannotRead(_) | Fault::CannotWrite(_) => 6,
+            Fault::BadEntry(_) | Fault::Illegal(_) => 7,
         }
     }
 }

@@ -2,7 +2,7 @@
 ghost use Rattle.std.specs.Prelude.{◌≡◌, codes, false, map, IfOk, string_bytes};
 ghost use Rattle.clap.specs.declared.builder.command.Command.TheViews.{out-Command as fields_of};
 ghost use Rattle.clap.specs.Words.{app_of, first_of, found_of, kind_of, one_of, rows_of, rule_of};
-ghost use Rattle.command_line.specs.CommandLine.{IsAnswer, IsCommandAnswer, IsFileAnswer, IsToldAs, IsWorkersAnswer, file_rule, workers_option_rule, workers_rule, check_app, run_app, serial_app, run_of_base_app, bare_program, program as the_program};
+ghost use Rattle.command_line.specs.CommandLine.{IsAnswer, IsCommandAnswer, IsFileAnswer, IsToldAs, IsWorkersAnswer, IsJournalAnswer, file_rule, journal_rule, workers_option_rule, workers_rule, check_app, replay_app, run_app, serial_app, run_of_base_app, bare_program, program_of_runs, program as the_program};
 
 use crate::fault::{LineFault, Message};
 use clap::error::ErrorKind;
@@ -25,6 +25,8 @@ pub enum Job {
         out: String,
         /// How many workers run the block, from 1 to 64.
         workers: u32,
+        /// The path that the journal of the run is written to, where one is asked for.
+        journal: Option<String>,
     },
     /// Runs the block on the base, one request after another by one thread, and writes the dataset that it ends with.
     Serial {
@@ -32,6 +34,17 @@ pub enum Job {
         base: String,
         /// The path of the block.
         block: String,
+        /// The path that the dataset is written to.
+        out: String,
+    },
+    /// Replays a journal of a run of the block on the base, and writes the dataset that its committed requests end with.
+    Replay {
+        /// The path of the base.
+        base: String,
+        /// The path of the block.
+        block: String,
+        /// The path of the journal.
+        journal: String,
         /// The path that the dataset is written to.
         out: String,
     },
@@ -80,6 +93,17 @@ fn workers_argument<'a>(alloc: Global) -> Arg<'a>
         .help("How many workers run the block, from 1 to 64")
 }
 
+/// A file behind `--journal`.
+fn journal_argument<'a>(alloc: Global) -> Arg<'a>
+    ensures rule { rule_of result ≡ journal_rule }
+    ensures local { result.global ≡ false }
+{
+    Arg::new(alloc, "journal")
+        .long("journal")
+        .value_name("FILE")
+        .help("The file that the journal of the run is written to")
+}
+
 /// `run` with its first file.
 fn run_of_base<'a>(alloc: Global) -> Result<Command<'a>, AllocError>
     ensures app { IfOk result (λ c. app_of c ≡ run_of_base_app) }
@@ -97,7 +121,8 @@ fn run_command<'a>(alloc: Global) -> Result<Command<'a>, AllocError>
     run_of_base(alloc)?
         .arg(file_argument(alloc, "BLOCK", "The block, requests that lines ---- part"))?
         .arg(file_argument(alloc, "OUT", "The file that the dataset is written to"))?
-        .arg(workers_argument(alloc))
+        .arg(workers_argument(alloc))?
+        .arg(journal_argument(alloc))
 }
 
 fn serial_command<'a>(alloc: Global) -> Result<Command<'a>, AllocError>
@@ -108,6 +133,18 @@ fn serial_command<'a>(alloc: Global) -> Result<Command<'a>, AllocError>
         .about("Runs a block of SPARQL updates on a base of N-Quads, one request after another")
         .arg(file_argument(alloc, "BASE", "The base, a file of N-Quads"))?
         .arg(file_argument(alloc, "BLOCK", "The block, requests that lines ---- part"))?
+        .arg(file_argument(alloc, "OUT", "The file that the dataset is written to"))
+}
+
+fn replay_command<'a>(alloc: Global) -> Result<Command<'a>, AllocError>
+    ensures app { IfOk result (λ c. app_of c ≡ replay_app) }
+    ensures local { IfOk result (λ c. (fields_of c).has_globals ≡ false) }
+{
+    Command::new(alloc, "replay")
+        .about("Replays the journal of a run of a block on a base")
+        .arg(file_argument(alloc, "BASE", "The base, a file of N-Quads"))?
+        .arg(file_argument(alloc, "BLOCK", "The block, requests that lines ---- part"))?
+        .arg(file_argument(alloc, "JOURNAL", "The journal of the run"))?
         .arg(file_argument(alloc, "OUT", "The file that the dataset is written to"))
 }
 
@@ -131,12 +168,21 @@ fn bare_program<'a>(alloc: Global) -> Command<'a>
         .disable_help_subcommand(true)
 }
 
-fn program<'a>(alloc: Global) -> Result<Command<'a>, AllocError>
-    ensures { IfOk result (λ c. app_of c ≡ the_program) }
+/// The program with the commands that run a block.
+fn program_of_runs<'a>(alloc: Global) -> Result<Command<'a>, AllocError>
+    ensures app { IfOk result (λ c. app_of c ≡ program_of_runs) }
+    ensures local { IfOk result (λ c. (fields_of c).has_globals ≡ false) }
 {
     bare_program(alloc)
         .subcommand(run_command(alloc)?)?
-        .subcommand(serial_command(alloc)?)?
+        .subcommand(serial_command(alloc)?)
+}
+
+fn program<'a>(alloc: Global) -> Result<Command<'a>, AllocError>
+    ensures { IfOk result (λ c. app_of c ≡ the_program) }
+{
+    program_of_runs(alloc)?
+        .subcommand(replay_command(alloc)?)?
         .subcommand(check_command(alloc)?)
 }
 
@@ -173,6 +219,17 @@ fn file_named(alloc: Global, command: &ArgMatches<'_>, id: &str) -> Result<Strin
     }
 }
 
+/// The path of a file behind `--journal`, if it is there.
+#[tactic(auto, using(crate::proofs::JobLaws::word_is))]
+fn journal_named(alloc: Global, run: &ArgMatches<'_>) -> Result<Option<String>, LineFault>
+    ensures { IsJournalAnswer (first_of (codes "journal") (rows_of (found_of run.now))) result }
+{
+    match run.get_str("journal") {
+        Some(path) => Ok(Some(String::from_str(alloc, path)?)),
+        None => Ok(None),
+    }
+}
+
 fn worker_count(alloc: Global, run: &ArgMatches<'_>) -> Result<u32, LineFault>
     ensures { IsWorkersAnswer (one_of (codes "workers") (rows_of (found_of run.now))) result }
 {
@@ -185,7 +242,7 @@ fn worker_count(alloc: Global, run: &ArgMatches<'_>) -> Result<u32, LineFault>
 }
 
 /// The job of the command `run`.
-#[tactic(auto, using(crate::proofs::JobLaws::base_fails, crate::proofs::JobLaws::block_fails, crate::proofs::JobLaws::out_fails, crate::proofs::JobLaws::workers_fail))]
+#[tactic(auto, using(crate::proofs::JobLaws::base_fails, crate::proofs::JobLaws::block_fails, crate::proofs::JobLaws::out_fails, crate::proofs::JobLaws::workers_fail, crate::proofs::JobLaws::journal_fails))]
 fn run_job(alloc: Global, run: &ArgMatches<'_>) -> Result<Job, LineFault>
     ensures { IsCommandAnswer (codes "run") (rows_of (found_of run.now)) result }
 {
@@ -194,6 +251,7 @@ fn run_job(alloc: Global, run: &ArgMatches<'_>) -> Result<Job, LineFault>
         block: file_named(alloc, run, "BLOCK")?,
         out: file_named(alloc, run, "OUT")?,
         workers: worker_count(alloc, run)?,
+        journal: journal_named(alloc, run)?,
     })
 }
 
@@ -206,6 +264,19 @@ fn serial_job(alloc: Global, serial: &ArgMatches<'_>) -> Result<Job, LineFault>
         base: file_named(alloc, serial, "BASE")?,
         block: file_named(alloc, serial, "BLOCK")?,
         out: file_named(alloc, serial, "OUT")?,
+    })
+}
+
+/// The job of the command `replay`.
+#[tactic(auto, using(crate::proofs::JobLaws::replay_base_fails, crate::proofs::JobLaws::replay_block_fails, crate::proofs::JobLaws::replay_journal_fails, crate::proofs::JobLaws::replay_out_fails))]
+fn replay_job(alloc: Global, replay: &ArgMatches<'_>) -> Result<Job, LineFault>
+    ensures { IsCommandAnswer (codes "replay") (rows_of (found_of replay.now)) result }
+{
+    Ok(Job::Replay {
+        base: file_named(alloc, replay, "BASE")?,
+        block: file_named(alloc, replay, "BLOCK")?,
+        journal: file_named(alloc, replay, "JOURNAL")?,
+        out: file_named(alloc, replay, "OUT")?,
     })
 }
 
@@ -227,6 +298,7 @@ fn command_job(alloc: Global, name: &str, command: &ArgMatches<'_>) -> Result<Jo
     match name {
         "run" => run_job(alloc, command),
         "serial" => serial_job(alloc, command),
+        "replay" => replay_job(alloc, command),
         "check" => check_job(alloc, command),
         _ => Err(wrong(alloc, "error: there is no such command")),
     }
