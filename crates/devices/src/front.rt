@@ -8,6 +8,9 @@ use std::alloc::{AllocError, AllocFailed, Global};
 use std::io::Read;
 use thiserror::Error;
 
+/// More bytes than any memory holds.
+const MOST_BYTES: usize = 4_611_686_018_427_387_904;
+
 /// Why the bytes of a reader did not come.
 #[derive(Clone, Copy, Debug, Error)]
 pub enum ReadFault {
@@ -51,7 +54,7 @@ pub fn front_of<R: Read>(
     limit: usize,
 ) -> Result<Vec<u8>, ReadFault>
     requires failures { reader.old.failures < 2 ^ 64 - 1 }
-    requires limit { limit < 2 ^ 32 }
+    requires limit { limit < 2 ^ 63 }
     ensures front { IfOk result (λ bytes. IfSome (R.remaining reader.old.inner) (λ text. IsFront limit text bytes.items)) }
     ensures count { reader.new.failures ≡ (if is_device result then reader.old.failures + 1 else reader.old.failures) }
 {
@@ -64,6 +67,19 @@ pub fn front_of<R: Read>(
         }
         let (given, _) = buffer.split_at(count);
         bytes.extend_from_slice(given)?;
+    }
+    Ok(bytes)
+}
+
+/// All bytes that a reader gives. Nothing is read behind a failed read. `OutOfMemory` may come at any text, `Device` only where a read failed.
+pub fn all_of<R: Read>(alloc: Global, reader: &mut Watched<R>) -> Result<Vec<u8>, ReadFault>
+    requires failures { reader.old.failures < 2 ^ 64 - 1 }
+    ensures all { IfOk result (λ bytes. IfSome (R.remaining reader.old.inner) (λ text. bytes.items ≡ text)) }
+    ensures count { reader.new.failures ≡ (if is_device result then reader.old.failures + 1 else reader.old.failures) }
+{
+    let bytes = front_of(alloc, reader, MOST_BYTES)?;
+    if bytes.len() > MOST_BYTES {
+        return Err(ReadFault::OutOfMemory);
     }
     Ok(bytes)
 }

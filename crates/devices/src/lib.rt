@@ -1,11 +1,11 @@
 //! Readers and writers whose failed calls are counted.
 //!
 //! Stands on the standard library alone. Used above: `Watched` tells each failed call and whether a writer is flushed, and `front_of` takes the
-//! first bytes of a reader.
+//! first bytes of a reader, or `all_of` all of them.
 #![tactic(auto)]
 
 mod front;
 mod watched;
 
-pub use front::{ReadFault, front_of};
+pub use front::{ReadFault, all_of, front_of};
 pub use watched::{Failed, Watched};
