@@ -1,13 +1,12 @@
 //! The texts of an answer, made before any writer is touched.
-ghost use Rattle.std.specs.Prelude.{◌≡◌, ◌<◌, ◌-◌, ◌^◌, ◌⊎◌, true, OnOk, OnErr, IfErr, string_bytes};
-ghost use Rattle.std.specs.Io.KnownBytes.{Keeps};
-ghost use Rattle.cli.specs.Failures.{is_unwritten, FailedIf, OneFailedIf};
+ghost use Rattle.std.specs.Prelude.{◌≡◌, ◌<◌, ◌+◌, ◌-◌, ◌^◌, ◌⊎◌, true, is_ok, if◌then◌else◌, OnOk, OnErr, IfErr, string_bytes};
+ghost use Rattle.cli.specs.Failures.{is_unwritten, is_journal_unwritten, FailedIf, OneFailedIf};
 ghost use Rattle.cli.specs.Outputs.{Grew, GrewInPart, IsPart};
 ghost use Rattle.command_line.specs.declared.fault.Fault.TheVariants.{CannotWrite};
-ghost use Rattle.command_line.specs.declared.fault.File.TheVariants.{Answer};
+ghost use Rattle.command_line.specs.declared.fault.File.TheVariants.{Answer, Journal};
 
 use command_line::{Fault, File};
-use devices::Watched;
+use devices::{Failed, Watched};
 use std::io::Write;
 
 /// The canonical text of the new dataset, and the reply lines.
@@ -17,21 +16,19 @@ pub struct Texts {
     pub replies: String,
 }
 
-/// Flushes a writer. An `Err` comes where that failed.
-fn flush<W: Write>(writer: &mut Watched<W>) -> Result<(), Fault>
+/// Writes a text and flushes it, also where it is empty. An `Err` comes where a write or the flush failed.
+fn write_and_flush<W: Write>(writer: &mut Watched<W>, text: &[u8]) -> Result<(), Failed>
     requires { writer.old.failures < 2 ^ 64 - 1 }
-    ensures bytes { Keeps (W.contents writer.old.inner) (W.contents writer.new.inner) }
+    ensures ok { OnOk result (Grew (W.contents writer.old.inner) (W.contents writer.new.inner) text.now) }
+    ensures part { OnErr result (GrewInPart (W.contents writer.old.inner) (W.contents writer.new.inner) text.now) }
     ensures flushed { OnOk result (writer.new.is_flushed ≡ true) }
-    ensures failures { FailedIf (is_unwritten result) writer.old.failures writer.new.failures }
-    ensures fault { IfErr result (λ fault. fault ≡ CannotWrite Answer) }
+    ensures count { writer.new.failures ≡ (if is_ok result then writer.old.failures else writer.old.failures + 1) }
 {
-    match writer.flush() {
-        Ok(()) => Ok(()),
-        Err(_) => Err(Fault::CannotWrite(File::Answer)),
-    }
+    writer.write_all(text)?;
+    writer.flush()
 }
 
-/// Writes a text and flushes it, also where it is empty. An `Err` comes where a write or the flush failed.
+/// Writes a text of the answer and flushes it, also where it is empty. An `Err` comes where a write or the flush failed.
 pub(crate) fn write_text<W: Write>(writer: &mut Watched<W>, text: &[u8]) -> Result<(), Fault>
     requires { writer.old.failures < 2 ^ 64 - 1 }
     ensures ok { OnOk result (Grew (W.contents writer.old.inner) (W.contents writer.new.inner) text.now) }
@@ -40,9 +37,24 @@ pub(crate) fn write_text<W: Write>(writer: &mut Watched<W>, text: &[u8]) -> Resu
     ensures failures { FailedIf (is_unwritten result) writer.old.failures writer.new.failures }
     ensures fault { IfErr result (λ fault. fault ≡ CannotWrite Answer) }
 {
-    match writer.write_all(text) {
-        Ok(()) => flush(writer),
+    match write_and_flush(writer, text) {
+        Ok(()) => Ok(()),
         Err(_) => Err(Fault::CannotWrite(File::Answer)),
+    }
+}
+
+/// Writes the text of a journal and flushes it. An `Err` comes where a write or the flush failed.
+pub(crate) fn write_journal<W: Write>(writer: &mut Watched<W>, text: &[u8]) -> Result<(), Fault>
+    requires { writer.old.failures < 2 ^ 64 - 1 }
+    ensures ok { OnOk result (Grew (W.contents writer.old.inner) (W.contents writer.new.inner) text.now) }
+    ensures part { OnErr result (GrewInPart (W.contents writer.old.inner) (W.contents writer.new.inner) text.now) }
+    ensures flushed { OnOk result (writer.new.is_flushed ≡ true) }
+    ensures failures { FailedIf (is_journal_unwritten result) writer.old.failures writer.new.failures }
+    ensures fault { IfErr result (λ fault. fault ≡ CannotWrite Journal) }
+{
+    match write_and_flush(writer, text) {
+        Ok(()) => Ok(()),
+        Err(_) => Err(Fault::CannotWrite(File::Journal)),
     }
 }
 

@@ -5,8 +5,8 @@ ghost use Rattle.std.specs.Prelude.{◌≤◌};
 ghost use Rattle.command_line.specs.CommandLine.{HasWorkers};
 
 use cli::{
-    Fault, InFile, Job, LineFault, Message, OutFile, check_engine, read_job, run_engine,
-    serial_engine,
+    Fault, InFile, Job, LineFault, Message, OutFile, check_engine, read_job, replay_engine, run_engine,
+    run_with_journal_engine, serial_engine,
 };
 use devices::Watched;
 use std::process::ExitCode;
@@ -57,6 +57,58 @@ fn run<R: Threads + Wait + Sync + Files + Print + AllocGlobal>(
     )
 }
 
+/// The same, and the journal of the run goes to a file too.
+fn run_with_journal<R: Threads + Wait + Sync + Files + Print + AllocGlobal>(
+    rt: &R,
+    base: &str,
+    block: &str,
+    out: &str,
+    journal: &str,
+    workers: u32,
+) -> Result<(), Fault>
+    requires some { 1 ≤ workers }
+    requires most { workers ≤ 64 }
+{
+    let mut base = Watched::new(InFile::new(rt, base));
+    let mut block = Watched::new(InFile::new(rt, block));
+    let mut dataset = Watched::new(OutFile::new(rt, out));
+    let mut replies = Watched::new(io::writer(rt));
+    let mut journal = Watched::new(OutFile::new(rt, journal));
+    run_with_journal_engine(
+        rt,
+        rt.alloc(),
+        &mut base,
+        &mut block,
+        &mut dataset,
+        &mut replies,
+        &mut journal,
+        workers,
+    )
+}
+
+/// Replays a journal: the dataset goes to a file, the reply lines to standard output.
+fn replay<R: Files + Print + AllocGlobal>(
+    rt: &R,
+    base: &str,
+    block: &str,
+    journal: &str,
+    out: &str,
+) -> Result<(), Fault> {
+    let mut base = Watched::new(InFile::new(rt, base));
+    let mut block = Watched::new(InFile::new(rt, block));
+    let mut journal = Watched::new(InFile::new(rt, journal));
+    let mut dataset = Watched::new(OutFile::new(rt, out));
+    let mut replies = Watched::new(io::writer(rt));
+    replay_engine(
+        rt.alloc(),
+        &mut base,
+        &mut block,
+        &mut journal,
+        &mut dataset,
+        &mut replies,
+    )
+}
+
 /// Runs a block on a base, one request after another: the dataset goes to a file, the reply lines to standard output.
 fn serial<R: Files + Print + AllocGlobal>(
     rt: &R,
@@ -97,7 +149,34 @@ fn done<R: Threads + Wait + Sync + Files + Print + AllocGlobal>(
             block,
             out,
             workers,
+            journal: None,
         } => run(rt, base.as_str(), block.as_str(), out.as_str(), *workers),
+        Job::Run {
+            base,
+            block,
+            out,
+            workers,
+            journal: Some(journal),
+        } => run_with_journal(
+            rt,
+            base.as_str(),
+            block.as_str(),
+            out.as_str(),
+            journal.as_str(),
+            *workers,
+        ),
+        Job::Replay {
+            base,
+            block,
+            journal,
+            out,
+        } => replay(
+            rt,
+            base.as_str(),
+            block.as_str(),
+            journal.as_str(),
+            out.as_str(),
+        ),
         Job::Serial { base, block, out } => serial(rt, base.as_str(), block.as_str(), out.as_str()),
         Job::Check { block } => check(rt, block.as_str()),
     }
