@@ -127,12 +127,12 @@ impl<'a> Book<'a> {
         let (reply, told) = self
             .machine
             .check_as(alloc, self.base, worker, i, n, passed)?;
-        let entry = Entry {
+        let checked = Entry {
             worker,
             event: Event::Check(i, n),
             reply,
         };
-        match self.journal.push(entry) {
+        match self.journal.push(checked) {
             Ok(()) => Ok(told),
             Err(_) => unreachable!(),
         }
