@@ -177,6 +177,11 @@ verdict_reply verdict.Same = Passed
 verdict_reply verdict.Changed = Aborted
 verdict_reply (verdict.Blocked j) = Blocked j
 
+-- the one of the two replies that is wanted, where both are lawful
+abbrev pub wanted_reply : Bool → Reply
+wanted_reply true = Passed
+wanted_reply false = Aborted
+
 -- by answers: blocked as for a read; else the same where the answer is the same now
 abbrev pub NoteVerdict : View → List Slot → ℕ → Noted → Verdict → Type 0
 NoteVerdict base slots i note (verdict.Blocked j) = blocker slots i note.read ≡ Some j

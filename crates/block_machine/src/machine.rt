@@ -5,9 +5,10 @@ ghost use Rattle.block_machine.specs.declared.state.Noted.{Noted as Described};
 ghost use Rattle.block_machine.specs.Serial.{replies_to};
 ghost use Rattle.block_machine.specs.Lower.{Leads, stands_after};
 ghost use Rattle.block_machine.specs.Waiting.{has_work, IsLeastWork};
-ghost use Rattle.block_machine.specs.Machine.{fresh, view_at, slot_at, is_current, note_now, note_of, can_commit, transcript_of, CheckVerdict, NextNamesAnswer, NoteVerdict, NoteReply, verdict_reply, status_of, is_closed as closed, HasNext, IsReady, IsPlain, IsAllowed, after};
+ghost use Rattle.block_machine.specs.Machine.{fresh, view_at, slot_at, is_current, note_now, note_of, can_commit, transcript_of, CheckVerdict, NextNamesAnswer, NoteVerdict, NoteReply, verdict_reply, wanted_reply, status_of, is_closed as closed, HasNext, IsReady, IsPlain, IsAllowed, after};
 
 use crate::candidates::candidates_for;
+use crate::laws::lists_are_enough;
 use crate::spoken::Spoken;
 use crate::state::{Event, Noted, Pass, Reply, Slot, Status};
 use crate::validate::{self, Verdict};
@@ -138,7 +139,7 @@ impl Machine {
             }
             Event::Begin(i, n) => Ok(twice(self.begin(worker, *i, *n))),
             Event::Check(i, n) => {
-                let reply = self.check(alloc, base, worker, *i, *n)?;
+                let reply = self.check(alloc, base, worker, *i, *n, true)?;
                 Ok(twice(reply))
             }
             Event::Commit(i) => Ok(twice(self.commit(worker, *i))),
@@ -282,7 +283,30 @@ impl Machine {
         Reply::Begun
     }
 
-    /// Compares the next noted answer with what it would be now: `Passed` where it is the same, and `Aborted` where it is another, unless an estimate blocks. An `Err` is want of memory, and nothing else.
+    /// A check whose reply is chosen: where both `Passed` and `Aborted` are lawful it is the one that `passed` says. The reply comes twice: to
+    /// keep, and to tell. It takes memory before it changes anything.
+    pub fn check_as(
+        &mut self,
+        alloc: Global,
+        base: &View,
+        worker: u32,
+        i: usize,
+        n: u64,
+        passed: bool,
+    ) -> Result<(Reply, Reply), AllocError>
+        requires { IsReady base.now self.old }
+        ensures same { IfOk result (λ replies. replies.1 ≡ replies.0) }
+        ensures wanted { IfOk result (λ replies. IsAllowed base.now self.old worker (Event.Check i n) (wanted_reply passed) → replies.0 ≡ wanted_reply passed) }
+        ensures allowed { IfOk result (λ replies. IsAllowed base.now self.old worker (Event.Check i n) replies.0) }
+        ensures changed { IfOk result (λ replies. self.new ≡ after self.old worker (Event.Check i n) replies.0) }
+        ensures err { OnErr result (self.new ≡ self.old) }
+    {
+        let reply = self.check(alloc, base, worker, i, n, passed)?;
+        Ok(twice(reply))
+    }
+
+    /// Checks the next note, unless an estimate blocks. If `passed` is wanted it compares the noted answer with what it would be now: `Passed`
+    /// where it is the same, and `Aborted` where it is another. Else it compares the touching lists. An `Err` is want of memory, and nothing else.
     fn check(
         &mut self,
         alloc: Global,
@@ -290,12 +314,14 @@ impl Machine {
         worker: u32,
         i: usize,
         n: u64,
+        passed: bool,
     ) -> Result<Reply, AllocError>
         requires room { status_of self.old.slots i ≡ Some (Status.Executed n) → n + 1 < 2 ^ 64 }
         requires next { HasNext self.old i }
         requires names { NextNamesAnswer base.now self.old i }
         ensures plain { IfOk result IsPlain }
-        ensures verdict { IfOk result (λ reply. CheckVerdict base.now self.old i n reply) }
+        ensures verdict { IsTrue passed → IfOk result (λ reply. CheckVerdict base.now self.old i n reply) }
+        ensures wanted { IfOk result (λ reply. IsAllowed base.now self.old worker (Event.Check i n) (wanted_reply passed) → reply ≡ wanted_reply passed) }
         ensures allowed { IfOk result (λ reply. IsAllowed base.now self.old worker (Event.Check i n) reply) }
         ensures changed { IfOk result (λ reply. self.new ≡ after self.old worker (Event.Check i n) reply) }
         ensures err { OnErr result (self.new ≡ self.old) }
@@ -307,7 +333,7 @@ impl Machine {
         let Some(stands) = self.slots[i].pass else {
             return Ok(Reply::NotYet);
         };
-        match self.next_verdict(alloc, base, i, stands)? {
+        match self.next_verdict(alloc, base, i, stands, passed)? {
             Verdict::Blocked(j) => Ok(Reply::Blocked(j)),
             Verdict::Same => {
                 let slot = &mut self.slots[i];
@@ -324,24 +350,33 @@ impl Machine {
         }
     }
 
-    // What the check of the next note of the pass that stands finds.
+    // What the check of the next note of the pass that stands finds: by answers if `passed` is wanted, and else by touching lists.
+    #[tactic(auto, using(crate::proofs::Wanted::wanted_by_answers, crate::proofs::Wanted::wanted_by_lists))]
     fn next_verdict(
         &self,
         alloc: Global,
         base: &View,
         i: usize,
         stands: Pass,
+        passed: bool,
     ) -> Result<Verdict, AllocError>
         requires within { i < length self.now.slots }
         requires pass { (slot_at self.now.slots i).pass ≡ Some stands }
         requires next { HasNext self.now i }
         requires names { NextNamesAnswer base.now self.now i }
-        ensures verdict { IfOk result (λ verdict. (note : Described) → slice_get (slot_at self.now.slots i).notes stands.next ≡ Some note → NoteVerdict base.now self.now.slots i note verdict) }
+        ensures verdict { IsTrue passed → IfOk result (λ verdict. (note : Described) → slice_get (slot_at self.now.slots i).notes stands.next ≡ Some note → NoteVerdict base.now self.now.slots i note verdict) }
+        ensures wanted { IfOk result (λ verdict. NoteReply base.now self.now.slots i (slice_get (slot_at self.now.slots i).notes stands.next) (wanted_reply passed) → verdict_reply verdict ≡ wanted_reply passed) }
         ensures reply { IfOk result (λ verdict. NoteReply base.now self.now.slots i (slice_get (slot_at self.now.slots i).notes stands.next) (verdict_reply verdict)) }
     {
         let slots = self.slots.as_slice();
         let note = &slots[i].notes.as_slice()[stands.next];
-        validate::check(alloc, base, &self.spoken, slots, i, note)
+        if passed {
+            validate::check(alloc, base, &self.spoken, slots, i, note)
+        } else {
+            lists_are_enough();
+            let list = note.touching.as_slice();
+            validate::check_list(alloc, &self.spoken, slots, i, &note.read, list)
+        }
     }
 
     /// Commits the request at the front, where it is executed and stamped and no lower request has changed since.

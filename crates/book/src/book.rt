@@ -1,7 +1,7 @@
 //! A block's machine with its journal.
 ghost use Rattle.std.specs.Prelude.{◌≡◌, ◌<◌, [], ◌∷◌, ◌++◌, ℕ, Some, None, true, false, nat_le, IfSome, IfOk, OnErr};
 ghost use Rattle.reads.specs.Reads.{IsDataset};
-ghost use Rattle.block_machine.specs.Machine.{IsAllowed, is_closed, is_current, slot_at};
+ghost use Rattle.block_machine.specs.Machine.{IsAllowed, wanted_reply, is_closed, is_current, slot_at};
 ghost use Rattle.block_machine.specs.Serial.{IsHistory};
 ghost use Rattle.block_machine.specs.Waiting.{has_work, IsLeastWork};
 ghost use Rattle.book.specs.Run.{state_of, setting_of, front_run, kept, IsSoundEvent};
@@ -103,6 +103,39 @@ impl<'a> Book<'a> {
     {
         let copy = copy_of_event(alloc, event)?;
         self.step_owned(alloc, worker, copy)
+    }
+
+    /// A check whose reply is chosen: where both `Passed` and `Aborted` are lawful it is the one that `passed` says. Else it is as a step of
+    /// the check, and after want of memory the book is as before.
+    pub fn check_as(
+        &mut self,
+        alloc: Global,
+        worker: u32,
+        i: usize,
+        n: u64,
+        passed: bool,
+    ) -> Result<Reply, AllocError>
+        ensures lawful { IfOk result (λ reply. IsAllowed self.old.base (state_of self.old) worker (Event.Check i n) reply) }
+        ensures wanted { IfOk result (λ reply. IsAllowed self.old.base (state_of self.old) worker (Event.Check i n) (wanted_reply passed) → reply ≡ wanted_reply passed) }
+        ensures entry { IfOk result (λ reply. self.new ≡ record self.old { history = self.old.history ++ record { worker = worker; event = Event.Check i n; reply = reply } ∷ [] }) }
+        ensures err { OnErr result (self.new ≡ self.old) }
+    {
+        ready_after();
+        front_is_within();
+        history_goes_on();
+        self.journal.reserve(1)?;
+        let (reply, told) = self
+            .machine
+            .check_as(alloc, self.base, worker, i, n, passed)?;
+        let checked = Entry {
+            worker,
+            event: Event::Check(i, n),
+            reply,
+        };
+        match self.journal.push(checked) {
+            Ok(()) => Ok(told),
+            Err(_) => unreachable!(),
+        }
     }
 
     /// How many requests are committed.
