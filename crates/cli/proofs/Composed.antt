@@ -42,31 +42,34 @@ module _ (d : Dataset Term) (block : List (Request Term)) (b : Base) (requests :
   pub same_length : length requests ≡ length block
   same_length = sym (length-map (renamed_request (term_of b.terms)) requests) ∙ ap length numbered.block_is
 
-  module _ (carries_block : CarriesBlock) (dataset : IsDataset term_order d) (after : Dataset Id) (replies : List Reply) (whole : IsWhole b.terms b.dataset requests after replies) where
-    carried : IsCarried d block b.terms b.dataset requests whole.0
-    carried = carries_block d block b requests whole.0 numbered dataset
+  -- the run of the first n requests at numbers
+  module _ (carries_block : CarriesBlock) (dataset : IsDataset term_order d) (n : ℕ) (after : Dataset Id) (replies : List Reply)
+      (front : (after, replies) ≡ run_of_first (numbers b.terms) n requests b.dataset) where
+    carried : IsCarried d block b.terms b.dataset requests n
+    carried = carries_block d block b requests n numbered dataset
 
-    all_of : run_of_first written whole.0 block d ≡ run written block d
-    all_of = ap (λ (b : List (Request Term)). run written b d) (take_all whole.0 block (let same = same_length in let h = whole.1 in (omega (arith, same, h))))
-
-    after_is : after ≡ (run_of_first (numbers b.terms) whole.0 requests b.dataset).0
-    after_is = ap (λ p. p.0) whole.2
+    after_is : after ≡ (run_of_first (numbers b.terms) n requests b.dataset).0
+    after_is = ap (λ p. p.0) front
 
     pub known : dataset_known (is_known b.terms) after ≡ true
     unfolding carried after_is
     known = ap (dataset_known (is_known b.terms)) after_is ∙ carried.known
 
-    pub named_is : renamed (term_of b.terms) after ≡ (run written block d).0
-    unfolding carried after_is all_of
-    named_is = ap (renamed (term_of b.terms)) after_is ∙ carried.dataset_is ∙ ap (λ p. p.0) all_of
+    pub named_is : renamed (term_of b.terms) after ≡ (run_of_first written n block d).0
+    unfolding carried after_is
+    named_is = ap (renamed (term_of b.terms)) after_is ∙ carried.dataset_is
 
     pub named_dataset : IsDataset term_order (renamed (term_of b.terms) after)
-    unfolding carried after_is
-    named_dataset = subst (λ (e : Dataset Term). IsDataset term_order e) (sym (ap (renamed (term_of b.terms)) after_is ∙ carried.dataset_is)) carried.dataset
+    unfolding named_is carried
+    named_dataset = subst (λ (e : Dataset Term). IsDataset term_order e) (sym named_is) carried.dataset
 
-    pub replies_are : replies ≡ (run written block d).1
-    unfolding carried all_of
-    replies_are = ap (λ p. p.1) whole.2 ∙ carried.replies_are ∙ ap (λ p. p.1) all_of
+    pub replies_are : replies ≡ (run_of_first written n block d).1
+    unfolding carried
+    replies_are = ap (λ p. p.1) front ∙ carried.replies_are
+
+  -- as many as there are, or more
+  pub all_of : (n : ℕ) → length requests ≤ n → run_of_first written n block d ≡ run written block d
+  all_of n h = ap (λ (b : List (Request Term)). run written b d) (take_all n block (let same = same_length in (omega (arith, h, same))))
 
 -- the run of the whole block
 pub whole_run : (terms : List Term) (base : Dataset Id) (block : List (Request Id)) (dataset : Dataset Id) (replies : List Reply)

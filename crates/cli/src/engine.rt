@@ -1,5 +1,11 @@
 //! What engines have in common, and the engine of the command `run`.
 ghost use Rattle.std.specs.Prelude.{◌≡◌, ◌≢◌, ◌<◌, ◌≤◌, ◌-◌, ◌^◌, true, length, IfOk, IfErr, IfSome, OnOk, IsErrOf, string_bytes};
+ghost use Rattle.datasets.specs.Dataset.{IsDataset};
+ghost use Rattle.terms.specs.Term.{term_order};
+ghost use Rattle.dict.specs.Dictionary.{term_of, is_known};
+ghost use Rattle.meaning_laws.specs.Renaming.{renamed, dataset_known};
+ghost use Rattle.nquads.specs.Canonical.{canonical};
+ghost use Rattle.command_line.specs.Replies.{reply_lines};
 ghost use Rattle.cli.specs.Failures.{is_unread, is_unwritten, FailedIf, OneFailedIf};
 ghost use Rattle.cli.specs.Inputs.{IsFaultOf};
 ghost use Rattle.update.specs.Asked.{AreShort};
@@ -38,7 +44,29 @@ pub(crate) trait Runs {
         ensures { IfOk result (λ outcome. IsWhole numbered.now.base.terms numbered.now.base.dataset numbered.now.block.items outcome.dataset outcome.replies) };
 }
 
-/// The texts of the answer to a base and a block. What is not needed any more is let go before the texts are made.
+/// The texts of an outcome at numbers of terms. What is not needed any more is let go before the texts are made.
+pub(crate) fn texts_of_outcome(
+    alloc: Global,
+    numbered: Numbered,
+    outcome: Outcome,
+) -> Result<Texts, AllocError>
+    requires known { dataset_known (is_known numbered.base.terms) outcome.dataset ≡ true }
+    requires dataset { IsDataset term_order (renamed (term_of numbered.base.terms) outcome.dataset) }
+    ensures dataset { IfOk result (λ texts. texts.dataset.items ≡ canonical (renamed (term_of numbered.entry.base.terms) outcome.entry.dataset) numbered.entry.base.tag) }
+    ensures replies { IfOk result (λ texts. string_bytes texts.replies ≡ reply_lines outcome.entry.replies) }
+{
+    let Outcome { dataset, replies } = outcome;
+    let tag = numbered.base.tag();
+    let answer = named(alloc, numbered.base.terms(), &dataset)?;
+    drop(numbered);
+    drop(dataset);
+    Ok(Texts {
+        dataset: canonical_text(alloc, &answer, tag)?,
+        replies: replies_text(alloc, replies.as_slice())?,
+    })
+}
+
+/// The texts of the answer to a base and a block.
 fn texts_of<W: Runs>(
     way: &W,
     alloc: Global,
@@ -54,15 +82,8 @@ fn texts_of<W: Runs>(
     let _parts = base.parts();
     let numbered = number(alloc, &base, block)?;
     drop(base);
-    let Outcome { dataset, replies } = way.outcome(alloc, &numbered)?;
-    let tag = numbered.base.tag();
-    let answer = named(alloc, numbered.base.terms(), &dataset)?;
-    drop(numbered);
-    drop(dataset);
-    Ok(Texts {
-        dataset: canonical_text(alloc, &answer, tag)?,
-        replies: replies_text(alloc, replies.as_slice())?,
-    })
+    let outcome = way.outcome(alloc, &numbered)?;
+    texts_of_outcome(alloc, numbered, outcome)
 }
 
 /// Reads a base and a block, runs the block in this way, and writes the canonical text of the new dataset and one line a request. The base
