@@ -52,8 +52,8 @@ pub(crate) fn texts_of_outcome(
 ) -> Result<Texts, AllocError>
     requires known { dataset_known (is_known numbered.base.terms) outcome.dataset ≡ true }
     requires dataset { IsDataset term_order (renamed (term_of numbered.base.terms) outcome.dataset) }
-    ensures dataset { IfOk result (λ texts. texts.dataset.items ≡ canonical (renamed (term_of numbered.entry.base.terms) outcome.entry.dataset) numbered.entry.base.tag) }
-    ensures replies { IfOk result (λ texts. string_bytes texts.replies ≡ reply_lines outcome.entry.replies) }
+    ensures dataset { IfOk result (λ texts. texts.dataset.items ≡ canonical (renamed (term_of numbered.base.terms) outcome.dataset) numbered.base.tag) }
+    ensures replies { IfOk result (λ texts. string_bytes texts.replies ≡ reply_lines outcome.replies) }
 {
     let Outcome { dataset, replies } = outcome;
     let tag = numbered.base.tag();
@@ -83,7 +83,8 @@ fn texts_of<W: Runs>(
     let numbered = number(alloc, &base, block)?;
     drop(base);
     let outcome = way.outcome(alloc, &numbered)?;
-    texts_of_outcome(alloc, numbered, outcome)
+    let texts = texts_of_outcome(alloc, numbered, outcome)?;
+    Ok(texts)
 }
 
 /// Reads a base and a block, runs the block in this way, and writes the canonical text of the new dataset and one line a request. The base

@@ -24,8 +24,10 @@ fn write_and_flush<W: Write>(writer: &mut Watched<W>, text: &[u8]) -> Result<(),
     ensures flushed { OnOk result (writer.new.is_flushed ≡ true) }
     ensures count { writer.new.failures ≡ (if is_ok result then writer.old.failures else writer.old.failures + 1) }
 {
-    writer.write_all(text)?;
-    writer.flush()
+    match writer.write_all(text) {
+        Ok(()) => writer.flush(),
+        Err(failed) => Err(failed),
+    }
 }
 
 /// Writes a text of the answer and flushes it, also where it is empty. An `Err` comes where a write or the flush failed.

@@ -19,4 +19,18 @@ texts_of_outcome-requires-clause-dataset g c =
     named_dataset _ _ _ _ c.in_ok-numbered.ensures c.carries_block.ensures c.parts-parts.ensures.dataset whole.0 _ _ whole.2
 
 pub returns : goal.returns
-returns g c = ?
+returns g c =
+    let whole = c.in_ok-outcome.ensures in
+    let numbered = c.in_ok-numbered.ensures in
+    let all = all_of _ _ _ _ numbered whole.0 whole.1 in
+    record {
+      tag = c.in_ok-numbered.numbered.base.tag;
+      tagged = numbered.base.tag_is;
+      dataset_is =
+          c.in_ok-texts.ensures.dataset
+          ∙ ap (λ e. canonical e c.in_ok-numbered.numbered.base.tag)
+          (named_is _ _ _ _ numbered c.carries_block.ensures c.parts-parts.ensures.dataset whole.0 _ _ whole.2 ∙ ap (λ p. p.0) all);
+      replies_are =
+          c.in_ok-texts.ensures.replies
+          ∙ ap reply_lines (replies_are _ _ _ _ numbered c.carries_block.ensures c.parts-parts.ensures.dataset whole.0 _ _ whole.2 ∙ ap (λ p. p.1) all);
+    }
