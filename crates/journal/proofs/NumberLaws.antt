@@ -59,7 +59,7 @@ one_digit n d low fits = ap (λ (o : Option ℕ). o >>= λ m. number_from m []) 
 
 decimal_read : (n : ℕ) → n < 2 ^ 64 → number_from 0 (decimal n) ≡ Some n
 decimal_read n small =
-    decimal_by_steps (λ m ds. m < 2 ^ 64 → number_from 0 ds ≡ Some m) (λ m low fits. one_digit 0 m low fits ∙ ap Some (omega arith))
+    decimal_by_steps (λ m ds. m < 2 ^ 64 → number_from 0 ds ≡ Some m) (λ m low fits. one_digit 0 m low (omega arith) ∙ ap Some (omega arith))
     (λ m ds high ih fits.
     from-append 0 ds ((48 + m % 10) ∷ []) ∙ ap (λ (o : Option ℕ). o >>= λ k. number_from k ((48 + m % 10) ∷ [])) (ih (omega arith))
     ∙ one_digit (m / 10) (m % 10) (omega arith) (omega arith) ∙ ap Some (omega arith)) n small small

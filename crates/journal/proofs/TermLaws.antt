@@ -79,6 +79,10 @@ made_read runs r o l s is =
       part_last runs s is.rank,
     ) refl
 
+marked_read : RunsAreLongest → (mark : List ℕ) (r o l s : ℕ) → IsTerm (Made r o l s) → unlabelled mark (Blank (mark ++ after_mark r o l s)) ≡ Some (Made r o l s)
+marked_read runs mark r o l s is =
+    rw (starts-append mark (after_mark r o l s), drop-append_seam mark (after_mark r o l s)) (made_read runs r o l s is)
+
 -- ---- terms
 
 unlabelled_named : RunsAreLongest → (tag : ℕ) (t : Term) → IsHeld (mark_of tag) t → unlabelled (mark_of tag) (named_term tag t) ≡ Some t
@@ -86,7 +90,7 @@ unlabelled_named runs tag (Iri i) is = refl
 unlabelled_named runs tag (Literal l) is = refl
 unlabelled_named runs tag (Blank b) is = rw (is.1) refl
 unlabelled_named runs tag (Made r o l s) is =
-    rw (label_is tag r o l s, starts-append (mark_of tag) (after_mark r o l s), drop-append_seam (mark_of tag) (after_mark r o l s)) (made_read runs r o l s is.0)
+    ap (λ (b : List ℕ). unlabelled (mark_of tag) (Blank b)) (label_is tag r o l s) ∙ marked_read runs (mark_of tag) r o l s is.0
 
 abbrev pub TermsAreRead : Type 0
 TermsAreRead = (tag : ℕ) (t : Term) (rest : List ℕ) → IsTerm t → object_at (term_text tag t ++ 32 ∷ rest) ≡ Some (named_term tag t, 32 ∷ rest)

@@ -7,6 +7,7 @@
 
 mod entries;
 mod fault;
+pub mod laws;
 mod lines;
 mod read_terms;
 mod words;
