@@ -1,0 +1,5 @@
+pub mod Text
+pub mod Lines
+pub mod Words
+pub mod ReadTerms
+pub mod Reading

@@ -5,8 +5,12 @@
 //! is no entry's text is named.
 #![tactic(auto)]
 
+mod entries;
 mod fault;
+pub mod laws;
 mod lines;
+mod read_terms;
+mod words;
 
 pub use fault::JournalFault;
 pub use lines::{Event, Line, Reply};

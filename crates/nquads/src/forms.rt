@@ -204,7 +204,8 @@ pub fn subject_at(alloc: Global, text: &str) -> Result<(Term, &str), Stop>
     Ok((Term::Blank(blank), rest))
 }
 
-/// The object at the front of a text, and what follows it.
+/// The object at the front of a text, and what follows it (RDF 1.1 N-Quads, production 5). `Bad` where none stands there, `Memory` where
+/// memory runs out.
 #[tactic(auto, unfolding(crate::specs::ReadTerms::object_at))]
 pub fn object_at(alloc: Global, text: &str) -> Result<(Term, &str), Stop>
     ensures { Gives (λ x. (x.0, x.1.now)) result (object_at text.now) }

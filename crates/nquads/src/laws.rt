@@ -3,7 +3,9 @@ ghost use Rattle.std.specs.Prelude.{◌≡◌, ◌∷◌, ◌++◌, List, ℕ, t
 ghost use Rattle.std.specs.List.{list_all};
 ghost use Rattle.datasets.specs.Dataset.{Dataset};
 ghost use Rattle.terms.specs.declared.term.Term.{Term};
+ghost use Rattle.nquads.specs.Forms.{ObjectAt};
 ghost use Rattle.nquads.specs.Lines.{lines, is_inner};
+ghost use Rattle.nquads.specs.ReadTerms.{object_at};
 ghost use Rattle.nquads.specs.Reading.{LinesAreRead};
 ghost use Rattle.nquads.specs.Spelled.{Spells, IsFirstBad};
 
@@ -20,6 +22,13 @@ pub fn first_line_is_ended()
 /// What is read of a line is what it says.
 pub fn lines_are_read()
     ensures { LinesAreRead }
+{
+    runs_are_longest();
+}
+
+/// An object at the front of a text is read.
+pub fn objects_are_read()
+    ensures { (text rest : List ℕ) (x : Term) → ObjectAt text x rest → object_at text ≡ Some (x, rest) }
 {
     runs_are_longest();
 }

@@ -15,16 +15,22 @@ use std::collections::HashSet;
 use terms::laws::sets_pass_alike;
 use terms::{DataSet, Term};
 
-/// How the label of a made node begins.
-fn mark_of(alloc: Global, tag: u32) -> Result<TextLine, AllocError>
-    ensures { IfOk result (λ mark. mark ≡ mark_of tag) }
+/// How the label of a made node begins, where this is the dataset's tag.
+pub fn mark_of(alloc: Global, tag: u32) -> Result<Vec<u8>, AllocError>
+    ensures { IfOk result (λ mark. mark.items ≡ mark_of tag) }
 {
     let digits = tag.to_string(alloc)?;
     let mut mark = Vec::new(alloc);
     mark.extend_from_slice(b"m")?;
     mark.extend_from_slice(digits.as_bytes())?;
     mark.extend_from_slice(b"r")?;
-    Ok(TextLine::new(mark))
+    Ok(mark)
+}
+
+fn mark_line(alloc: Global, tag: u32) -> Result<TextLine, AllocError>
+    ensures { IfOk result (λ mark. mark ≡ mark_of tag) }
+{
+    Ok(TextLine::new(mark_of(alloc, tag)?))
 }
 
 fn is_not_r(byte: u8) -> bool
@@ -141,7 +147,7 @@ pub fn tag(alloc: Global, dataset: &DataSet) -> Result<u32, AllocError>
 {
     let taken = taken_marks(alloc, dataset)?;
     for tag in 1..u32::MAX {
-        let mark = mark_of(alloc, tag)?;
+        let mark = mark_line(alloc, tag)?;
         if !taken.contains(&mark) {
             return Ok(tag);
         }

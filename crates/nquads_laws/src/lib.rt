@@ -1,18 +1,21 @@
 //! Laws of reading and writing: what is written spells the dataset again. Each function has one law, and calls those that it stands on.
 #![tactic(auto)]
 
-ghost use Rattle.std.specs.Prelude.{◌≡◌, All, List, ℕ, true, false};
-ghost use Rattle.std.specs.List.{Contains};
+ghost use Rattle.std.specs.Prelude.{◌≡◌, ◌∷◌, ◌++◌, All, List, ℕ, true, false, Some, IsUtf8};
+ghost use Rattle.std.specs.List.{Contains, list_all};
 ghost use Rattle.datasets.specs.Dataset.{Dataset};
 ghost use Rattle.terms.specs.declared.term.Term.{Term};
+ghost use Rattle.terms.specs.Canonical.{term_text};
+ghost use Rattle.nquads.specs.Lines.{is_inner};
+ghost use Rattle.nquads.specs.ReadTerms.{object_at};
 ghost use Rattle.nquads.specs.Spelled.{Spells};
 ghost use Rattle.nquads.specs.Tag.{is_taken};
 ghost use Rattle.nquads.specs.Canonical.{canonical};
-ghost use Rattle.nquads_laws.specs.WellFormed.{IsWellFormed, terms_of, is_written};
+ghost use Rattle.nquads_laws.specs.WellFormed.{IsTerm, IsWellFormed, terms_of, is_written};
 ghost use Rattle.nquads_laws.specs.Named.{named_term, named};
 
 use iris::laws::runs_are_longest;
-use nquads::laws::{first_line_is_ended, one_dataset};
+use nquads::laws::{first_line_is_ended, objects_are_read, one_dataset};
 
 /// The canonical text of a well-formed dataset spells it with each made node as the blank node of its label, whatever the tag. Where no
 /// blank label begins with the tag's mark, no two terms of the dataset become one.
@@ -24,6 +27,19 @@ pub fn spells_again()
     first_line_is_ended();
     one_dataset();
 }
+
+/// The text of a term, with a space behind it, is read as the term, where a made node is the blank node of its label.
+pub fn terms_are_read()
+    ensures { (tag : ℕ) (t : Term) (rest : List ℕ) → IsTerm t → object_at (term_text tag t ++ 32 ∷ rest) ≡ Some (named_term tag t, 32 ∷ rest) }
+{
+    objects_are_read();
+}
+
+/// The text of a term is UTF-8, and no line ends in it.
+pub fn terms_end_no_line()
+    ensures utf8 { (tag : ℕ) (t : Term) → IsTerm t → IsUtf8 (term_text tag t) }
+    ensures inner { (tag : ℕ) (t : Term) → IsTerm t → list_all is_inner (term_text tag t) ≡ true }
+{}
 
 /// What a text spells is well-formed, and has no made node.
 pub fn spelled_is_well_formed()
