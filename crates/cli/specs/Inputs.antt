@@ -64,3 +64,9 @@ IsFaultOf base block told.Memory = Unit {0}
 IsFaultOf base block (told.CannotRead file.Base) = Unit {0}
 IsFaultOf base block (told.CannotWrite file.Answer) = Unit {0}
 IsFaultOf base block _ = ⊥
+
+-- why the bytes of a journal did not come
+abbrev pub IsUnreadJournal : Fault → Type 0
+IsUnreadJournal told.Memory = Unit {0}
+IsUnreadJournal (told.CannotRead file.Journal) = Unit {0}
+IsUnreadJournal _ = ⊥

@@ -1,14 +1,14 @@
-//! The base and the block, as their readers give them.
-ghost use Rattle.std.specs.Prelude.{◌≡◌, ◌<◌, ◌≤◌, ◌-◌, ◌^◌, false, Ok, Err, IfSome, IfOk, length, List, ℕ};
+//! The base, the block and the journal, as their readers give them.
+ghost use Rattle.std.specs.Prelude.{◌≡◌, ◌<◌, ◌≤◌, ◌-◌, ◌^◌, false, Ok, Err, IfSome, IfOk, IfErr, length, List, ℕ};
 ghost use Rattle.devices.specs.Front.{IsFront};
 ghost use Rattle.rules.specs.Requests.{AreVerdicts, IsSplit};
 ghost use Rattle.update.specs.Asked.{AreShort};
 ghost use Rattle.cli.specs.Failures.{is_unread, FailedIf, TellsNoOther};
-ghost use Rattle.cli.specs.Inputs.{IsBaseAnswer, IsBlockAnswer, base_fault as the_base_fault, block_fault as the_block_fault, device_fault as the_device_fault};
+ghost use Rattle.cli.specs.Inputs.{IsBaseAnswer, IsBlockAnswer, IsUnreadJournal, base_fault as the_base_fault, block_fault as the_block_fault, device_fault as the_device_fault};
 ghost use Rattle.cli.specs.Verdicts.{IsJudgement};
 
 use command_line::{Fault, File};
-use devices::{ReadFault, Watched, front_of};
+use devices::{ReadFault, Watched, all_of, front_of};
 use nquads::BaseFault;
 use rules::laws::requests_are_short;
 use rules::{Block, BlockFault, Verdict, split, verdicts};
@@ -126,4 +126,22 @@ pub fn read_verdicts<R: Read>(
         Err(fault) => return Err(device_fault(fault)),
     };
     judged(alloc, bytes.as_slice())
+}
+
+/// The bytes of the journal that a reader gives. `CannotRead` comes where a read failed, and only there; any other fault is want of memory.
+pub fn read_journal_bytes<R: Read>(
+    alloc: Global,
+    reader: &mut Watched<R>,
+) -> Result<Vec<u8>, Fault>
+    requires { reader.old.failures < 2 ^ 64 - 1 }
+    ensures bytes { IfOk result (λ bytes. IfSome (R.remaining reader.old.inner) (λ text. bytes.items ≡ text)) }
+    ensures fault { IfErr result IsUnreadJournal }
+    ensures failures { FailedIf (is_unread File.Journal result) reader.old.failures reader.new.failures }
+    ensures others { TellsNoOther File.Journal result }
+{
+    match all_of(alloc, reader) {
+        Ok(bytes) => Ok(bytes),
+        Err(ReadFault::OutOfMemory) => Err(Fault::Memory),
+        Err(ReadFault::Device) => Err(Fault::CannotRead(File::Journal)),
+    }
 }
