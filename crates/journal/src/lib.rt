@@ -11,6 +11,8 @@ pub mod laws;
 mod lines;
 mod read_terms;
 mod words;
+mod writer;
 
 pub use fault::JournalFault;
 pub use lines::{Event, Line, Reply};
+pub use writer::write_lines;
