@@ -26,6 +26,16 @@ union_begins (p ∷ ps) first le is =
     ap (λ f. united_with (plan_of f) (map plan_of ps)) (sym is)
     ∙ ap (λ xs. united_with (plan_of first) (map plan_of xs)) (sym (take_all (length (p ∷ ps) - 1) ps (omega (arith, le))))
 
+-- no filters let all pass
+module _ (passes : Expression Id → Mapping Id → Bool) where
+  all_kept : (xs : List (Mapping Id)) → filter (passes_all passes []) xs ≡ xs
+  all_kept [] = refl
+  all_kept (x ∷ xs) = ap (λ ys. x ∷ ys) (all_kept xs)
+
+  pub unfiltered : {A : Type 0} (f : A → Expression Id) (es : List A) (xs : List (Mapping Id)) → length es ≡ 0 → filter (passes_all passes (map f es)) xs ≡ xs
+  unfiltered f [] xs e = all_kept xs
+  unfiltered f (x ∷ es) xs e = absurd (omega arith)
+
 module _ (passes : Expression Id → Mapping Id → Bool) (width : ℕ) (d : View) (graph : Option Id) where
   abbrev pub solved : Plan Id → List (Mapping Id)
   solved p = solutions id_order passes width p d graph
@@ -35,7 +45,7 @@ module _ (passes : Expression Id → Mapping Id → Bool) (width : ℕ) (d : Vie
   parts_on found [] = found
   parts_on found (part ∷ parts) = parts_on (combined passes part.0 found (solved (plan_of part.1))) parts
 
-  linked_solved : (l : Link Id) (before p : Plan Id) → combined passes l (solved before) (solved p) ≡ solved (linked before l p)
+  pub linked_solved : (l : Link Id) (before p : Plan Id) → combined passes l (solved before) (solved p) ≡ solved (linked before l p)
   linked_solved link.Join before p = refl
   linked_solved (link.LeftJoin es) before p = refl
   linked_solved link.Minus before p = refl
@@ -55,10 +65,6 @@ module _ (passes : Expression Id → Mapping Id → Bool) (width : ℕ) (d : Vie
   union_solved before (plan ∷ plans) = union_solved (Union before (plan_of plan)) plans
 
   -- filters over a pattern, where there are any
-  all_kept : (xs : List (Mapping Id)) → xs ≡ filter (passes_all passes []) xs
-  all_kept [] = refl
-  all_kept (x ∷ xs) = ap (λ ys. x ∷ ys) (all_kept xs)
-
   pub filtered_solved : (es : List (Expression Id)) (p : Plan Id) → filter (passes_all passes es) (solved p) ≡ solved (filtered es p)
-  filtered_solved [] p = sym (all_kept (solved p))
+  filtered_solved [] p = all_kept passes (solved p)
   filtered_solved (e ∷ es) p = refl

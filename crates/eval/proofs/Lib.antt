@@ -1,4 +1,7 @@
+pub mod Alone
+pub mod Few
 pub mod Folds
+pub mod Lasts
 pub mod Maps
 pub mod Members
 pub mod Nearness

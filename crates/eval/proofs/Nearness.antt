@@ -38,17 +38,24 @@ module _ (written : Option (Slot Id)) where
   linked_is link.Minus before p (GraphIs g) = refl
   linked_is link.Minus before p Graphs = refl
 
+  -- a read for what a group goes on from, or for what it goes on with
+  pub before_near : (l : Link Id) (before p : Plan Id) (r : Read) → for before r ≡ true → for (linked before l p) r ≡ true
+  before_near l before p r h = linked_is l before p r ∙ or_left _ _ h
+
+  pub next_near : (l : Link Id) (before p : Plan Id) (r : Read) → for p r ≡ true → for (linked before l p) r ≡ true
+  next_near l before p r h = linked_is l before p r ∙ or_right _ _ h
+
   before_parts : (before : Plan Id) (parts : List (Link Id × Plan Id)) (r : Read) → for before r ≡ true → for (linked_all before parts) r ≡ true
   before_parts before [] r h = h
   before_parts before (part ∷ parts) r h =
-      before_parts (linked before part.0 part.1) parts r (linked_is part.0 before part.1 r ∙ or_left _ _ h)
+      before_parts (linked before part.0 part.1) parts r (before_near part.0 before part.1 r h)
 
   -- a read for a part of a group
   pub part_near : (before : Plan Id) (parts : List (Link Id × Kept Id)) (i : ℕ) (part : Link Id × Kept Id) → i < length parts
       → (r : Read) → for (plan_of (get_or parts i part).1) r ≡ true → for (linked_all before (parts_of parts)) r ≡ true
   part_near before [] i part lt r h = absurd (omega (arith, lt))
   part_near before (p ∷ ps) zero part lt r h =
-      before_parts (linked before p.0 (plan_of p.1)) (parts_of ps) r (linked_is p.0 before (plan_of p.1) r ∙ or_right _ _ h)
+      before_parts (linked before p.0 (plan_of p.1)) (parts_of ps) r (next_near p.0 before (plan_of p.1) r h)
   part_near before (p ∷ ps) (suc i) part lt r h = part_near (linked before p.0 (plan_of p.1)) ps i part (omega (arith, lt)) r h
 
   union_is : (a b : Plan Id) (r : Read) → for (Union a b) r ≡ (for a r || for b r)

@@ -1,21 +1,23 @@
 //! The solutions of a basic graph pattern.
-ghost use Rattle.std.specs.Prelude.{◌≡◌, Bool, true, IfOk};
+ghost use Rattle.std.specs.Prelude.{◌≡◌, ◌≤◌, Bool, true, length, map, filter, IfOk, IfSome};
+ghost use Rattle.algebra.specs.Expressions.{expression_of};
 ghost use Rattle.datasets.specs.Dataset.{quads_in};
 ghost use Rattle.datasets.specs.Id.{id_order};
 ghost use Rattle.datasets.specs.declared.read.Read.TheVariants.{Scan};
 ghost use Rattle.meaning.specs.Operators.{join as the_join};
-ghost use Rattle.meaning.specs.Solutions.{solutions_among, basic_solutions};
+ghost use Rattle.meaning.specs.Solutions.{solutions_among, basic_solutions, passes_all};
 ghost use Rattle.reads.specs.Reads.{View, Read as Reading, applied};
 ghost use Rattle.reads.specs.Runs.{Agrees};
 ghost use Rattle.asking.specs.Goes.{Goes};
+ghost use Rattle.solution.specs.Limits.{up_to};
 ghost use Rattle.eval.specs.Scans.{scan_of as the_scan_of, term_of as the_term_of, AskedPatterns};
 
 use crate::query::Query;
 use crate::scanning::scan;
-use algebra::{Place, TriplePattern};
+use algebra::{Expression, Place, TriplePattern};
 use datasets::{GraphPlace, Id, QuadPattern};
 use reads::{Note, Source, Stop};
-use solution::Solutions;
+use solution::{Filters, Solutions};
 
 // The term of a place, and nothing for a variable.
 fn term_of(place: Place<Id>) -> Option<Id>
@@ -39,7 +41,25 @@ fn scan_of(pattern: &TriplePattern<Id>, graph: Option<Id>) -> QuadPattern<Id>
     }
 }
 
-// These solutions, joined with those of a triple pattern, which is asked for by one scan.
+// The solutions of a triple pattern, which is asked for by one scan.
+fn solve_triple<S: Source, F>(
+    query: &Query<'_, F>,
+    pattern: &TriplePattern<Id>,
+    graph: Option<Id>,
+    source: &mut S,
+    notes: &mut Vec<Note>,
+) -> Result<Solutions, Stop>
+    ensures about { S.subject source.new ≡ S.subject source.old }
+    ensures goes { (allowed : Reading → Bool) → allowed (Scan (the_scan_of pattern.now graph)) ≡ true → Goes allowed (S.may source.old) (S.may source.new) notes.old.items notes.new.items }
+    ensures solved { IfOk result (λ found. (d : View) → Agrees notes.new.items d → found ≡ solutions_among id_order query.now.width pattern.now (quads_in id_order graph (applied query.now.changes.now d).quads)) }
+{
+    let wanted = scan_of(pattern, graph);
+    let quads = scan(query.alloc, &wanted, query.changes, source, notes)?;
+    let found = Solutions::among(query.alloc, query.width, pattern, &quads)?;
+    Ok(found)
+}
+
+// These solutions, joined with those of a triple pattern.
 fn join_scanned<S: Source, F>(
     query: &Query<'_, F>,
     before: &Solutions,
@@ -52,9 +72,7 @@ fn join_scanned<S: Source, F>(
     ensures goes { (allowed : Reading → Bool) → allowed (Scan (the_scan_of pattern.now graph)) ≡ true → Goes allowed (S.may source.old) (S.may source.new) notes.old.items notes.new.items }
     ensures solved { IfOk result (λ found. (d : View) → Agrees notes.new.items d → found ≡ the_join id_order before.now (solutions_among id_order query.now.width pattern.now (quads_in id_order graph (applied query.now.changes.now d).quads))) }
 {
-    let wanted = scan_of(pattern, graph);
-    let quads = scan(query.alloc, &wanted, query.changes, source, notes)?;
-    let found = Solutions::among(query.alloc, query.width, pattern, &quads)?;
+    let found = solve_triple(query, pattern, graph, source, notes)?;
     let joined = before.join(query.alloc, found)?;
     Ok(joined)
 }
@@ -76,5 +94,33 @@ pub fn solve_basic<S: Source, F>(
     for pattern in patterns {
         found = join_scanned(query, &found, pattern, graph, source, notes)?;
     }
+    Ok(found)
+}
+
+/// The solutions of a basic graph pattern that pass each filter, unless there are more than the limit. Its last join ends as soon as
+/// there are.
+#[tactic(auto, using(crate::proofs::Few::few_of))]
+pub fn solve_basic_up_to<S: Source, F: Filters>(
+    query: &Query<'_, F>,
+    patterns: &[TriplePattern<Id>],
+    filters: &[Expression<Id>],
+    graph: Option<Id>,
+    limit: usize,
+    source: &mut S,
+    notes: &mut Vec<Note>,
+) -> Result<Option<Solutions>, Stop>
+    ensures about { S.subject source.new ≡ S.subject source.old }
+    ensures goes { (allowed : Reading → Bool) → AskedPatterns allowed graph patterns.now → Goes allowed (S.may source.old) (S.may source.new) notes.old.items notes.new.items }
+    ensures solved { IfOk result (λ found. (d : View) → Agrees notes.new.items d → found ≡ up_to limit (filter (passes_all (F.passes query.now.filters.now) (map expression_of filters.now)) (basic_solutions id_order query.now.width patterns.now (quads_in id_order graph (applied query.now.changes.now d).quads)))) }
+    ensures few { IfOk result (λ found. IfSome found (λ few. length few ≤ limit)) }
+{
+    let [first @ .., last] = patterns else {
+        let empty = Solutions::empty_mapping(query.alloc, query.width)?;
+        let kept = empty.filter(query.alloc, filters, query.filters)?;
+        return Ok(kept.up_to(limit));
+    };
+    let before = solve_basic(query, first, graph, source, notes)?;
+    let next = solve_triple(query, last, graph, source, notes)?;
+    let found = before.join_up_to(query.alloc, next, filters, query.filters, limit)?;
     Ok(found)
 }

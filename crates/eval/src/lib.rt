@@ -8,6 +8,7 @@
 mod basic;
 mod changes;
 mod lacking;
+mod limited;
 mod naming;
 mod query;
 mod scanning;
@@ -15,6 +16,7 @@ mod solving;
 
 pub use changes::replaced;
 pub use lacking::{names_lacking, quads_lacking};
+pub use limited::solve_up_to;
 pub use naming::{graphs, is_graph};
 pub use query::Query;
 pub use scanning::scan;

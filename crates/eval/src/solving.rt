@@ -66,10 +66,10 @@ pub fn solve<S: Source, F: Filters>(
     }
 }
 
-// The solutions of a group's patterns, each as the group goes on with it.
+/// The solutions of a group's patterns, each as the group goes on with it.
 #[cycle(solve)]
 #[tactic(auto, using(asking::proofs::Notes::goes_on))]
-fn solve_parts<S: Source, F: Filters>(
+pub(crate) fn solve_parts<S: Source, F: Filters>(
     query: &Query<'_, F>,
     parts: &[(Link<Id>, Plan<Id>)],
     active: Option<Id>,
@@ -113,11 +113,11 @@ fn solve_union<S: Source, F: Filters>(
     Ok(found)
 }
 
-// The solutions of a pattern in the graph of this name, or in each. A name is asked for first, and where it is absent nothing within; for
-// a variable all names are asked for.
+/// The solutions of a pattern in the graph of this name, or in each. A name is asked for first, and where it is absent nothing within; for
+/// a variable all names are asked for.
 #[cycle(solve)]
 #[tactic(auto, using(asking::proofs::Notes::goes_on))]
-fn solve_in<S: Source, F: Filters>(
+pub(crate) fn solve_in<S: Source, F: Filters>(
     query: &Query<'_, F>,
     place: Place<Id>,
     plan: &Plan<Id>,

@@ -1,33 +1,7 @@
 use Rattle.std.proofs.Common.{ap, ◌∙◌}
-use Rattle.std.specs.Prelude.{filter}
-use Rattle.datasets.specs.Dataset.{matches}
 use Rattle.datasets.specs.Id.{id_order}
-use Rattle.datasets.specs.declared.read.Read.TheVariants.{Scan}
 use Rattle.meaning.specs.Operators.{join}
-use Rattle.meaning.specs.Solutions.{solutions_among}
-use Rattle.reads.specs.Reads.{applied}
-use Rattle.eval.proofs.Scanned.{solutions_scanned}
 use Rattle.eval.proofs.basic.join_scanned.Goals as goal
 
-pub returns-in_err-quads-clause-goes : goal.returns-in_err-quads-clause-goes
-returns-in_err-quads-clause-goes g c allowed h = c.scan.ensures.goes allowed (ap (λ p. allowed (Scan p)) c.scan_of-wanted.ensures ∙ h)
-
-pub returns-in_err-found-clause-goes : goal.returns-in_err-found-clause-goes
-returns-in_err-found-clause-goes g c allowed h = c.scan.ensures.goes allowed (ap (λ p. allowed (Scan p)) c.scan_of-wanted.ensures ∙ h)
-
-pub returns-in_err-joined-clause-goes : goal.returns-in_err-joined-clause-goes
-returns-in_err-joined-clause-goes g c allowed h = c.scan.ensures.goes allowed (ap (λ p. allowed (Scan p)) c.scan_of-wanted.ensures ∙ h)
-
-pub returns-clause-goes : goal.returns-clause-goes
-returns-clause-goes g c allowed h = c.scan.ensures.goes allowed (ap (λ p. allowed (Scan p)) c.scan_of-wanted.ensures ∙ h)
-
 pub returns-clause-solved : goal.returns-clause-solved
-returns-clause-solved g c d a =
-    let width = c.args.query.now.width in
-    let quads = (applied c.args.query.now.changes.now d).quads in
-    c.in_ok-joined.ensures
-    ∙ ap (join id_order c.args.before.now)
-    (c.in_ok-found.ensures
-    ∙ ap (solutions_among id_order width c.args.pattern.now)
-    (c.deref.ensures.value ∙ c.in_ok-quads.ensures.seen d a ∙ ap (λ s. filter (matches id_order s) quads) c.scan_of-wanted.ensures)
-    ∙ solutions_scanned width c.args.pattern.now c.args.graph quads)
+returns-clause-solved g c d a = c.in_ok-joined.ensures ∙ ap (join id_order c.args.before.now) (c.in_ok-found.ensures.solved d a)
