@@ -10,6 +10,7 @@ mod fault;
 pub mod laws;
 mod lines;
 mod read_terms;
+mod reader;
 mod words;
 mod writer;
 

@@ -1,0 +1,114 @@
+-- Entries and lines.
+use Rattle.std.specs.Prelude.{ℕ, Bool, ◌==◌, ◌≢◌, ◌+◌, ◌⊎◌, nat_eq, All}
+use Rattle.std.proofs.Common.{◌≡◌, true, false, cond, List, [], ◌∷◌, ◌++◌, Option, Some, None, refl, sym, ap, ◌∙◌, subst, length, append_assoc, arith, inl, inr}
+use Rattle.std.specs.List.{list_all, flat_map, AllByRecursion}
+use Rattle.std.specs.Cmp.Lexicographic.{pointwise, same_text}
+use Rattle.std.proofs.lemmas.Bool.{eqb-true}
+use Rattle.std.proofs.lemmas.Cmp.{nat_list_eq_equiv}
+use Rattle.std.proofs.lemmas.List.{append_cancel_left, length-append}
+use Rattle.std.proofs.lemmas.List.Elements.{recursion_from_All}
+use Rattle.std.proofs.lemmas.Option.{same_Some, cond_some}
+use Rattle.iris.specs.Runs.{run_of, rest_of, IsRun, RunsAreLongest}
+use Rattle.iris.specs.Bracketed.{◌>>=◌}
+use Rattle.nquads.specs.Lines.{is_inner}
+use Rattle.nquads.specs.Tag.{mark_of}
+use Rattle.nquads.proofs.QuotedLaws.{bind_some}
+use Rattle.journal.specs.declared.lines.Line.{Line}
+use Rattle.journal.specs.Text.{line_body, line_text, first_line, journal_text}
+use Rattle.journal.specs.Lines.{IsLine}
+use Rattle.journal.specs.Journal.{IsJournal, IsForeign, IsBad, IsBadBehind, IsFirstBad}
+use Rattle.journal.specs.Reading.{line_of}
+use Rattle.journal.specs.Entry.{after_lf, line_at, entry_at}
+use Rattle.journal.proofs.LineLaws.{TermsArePieces, body_piece}
+
+-- a line's text and what follows it
+ended : (tag : ℕ) (l : Line) (rest : List ℕ) → line_text tag l ++ rest ≡ line_body tag l ++ 10 ∷ rest
+ended tag l rest = append_assoc (line_body tag l) (10 ∷ []) rest
+
+after_lf_is : (text rest : List ℕ) → after_lf text ≡ Some rest → text ≡ 10 ∷ rest
+after_lf_is [] rest e = absurd cc
+after_lf_is (b ∷ bs) rest e =
+    let h = cond_some (b == 10) bs rest e in
+    let first : b ≡ 10 = eqb-true b 10 h.0 in
+    let same : bs ≡ rest = h.1 in
+    λ i. first i ∷ same i
+
+line_found : (tag : ℕ) (mark bytes : List ℕ) (l : Line) → line_at tag mark bytes ≡ Some l → line_body tag l ≡ bytes
+unfolding line_at
+line_found tag mark bytes l e =
+    let m = bind_some (line_of mark bytes) (λ l. cond (pointwise nat_eq (line_body tag l) bytes) (Some l) None) l e in
+    let h = cond_some (pointwise nat_eq (line_body tag m.0) bytes) m.0 l m.2 in
+    ap (line_body tag) (sym h.1) ∙ same_text (line_body tag m.0) bytes (sym h.0)
+
+pub entry_found : RunsAreLongest → (tag : ℕ) (text rest : List ℕ) (l : Line) → entry_at tag (mark_of tag) text ≡ Some (l, rest) → text ≡ line_text tag l ++ rest
+unfolding entry_at
+entry_found runs tag text rest l e =
+    let r = bind_some (after_lf (rest_of is_inner text)) (λ rest. line_at tag (mark_of tag) (run_of is_inner text) >>= λ l. Some (l, rest)) (l, rest) e in
+    let m = bind_some (line_at tag (mark_of tag) (run_of is_inner text)) (λ l. Some (l, r.0)) (l, rest) r.2 in
+    let same = same_Some (m.0, r.0) (l, rest) m.2 in
+    let is : IsRun is_inner text (run_of is_inner text) (rest_of is_inner text) = (runs is_inner text (run_of is_inner text) (rest_of is_inner text)).0 (refl, refl) in
+    let body : line_body tag l ≡ run_of is_inner text = line_found tag (mark_of tag) (run_of is_inner text) l (m.1 ∙ ap (λ (x : Line × List ℕ). Some x.0) same) in
+    let later : rest_of is_inner text ≡ 10 ∷ rest = after_lf_is (rest_of is_inner text) rest (r.1 ∙ ap (λ (x : Line × List ℕ). Some x.1) same) in
+    is.cut ∙ (λ i. sym body i ++ later i) ∙ sym (ended tag l rest)
+
+abbrev LinesAreRead : Type 0
+LinesAreRead = (tag : ℕ) (l : Line) → IsLine (mark_of tag) l → line_of (mark_of tag) (line_body tag l) ≡ Some l
+
+line_again : LinesAreRead → (tag : ℕ) (l : Line) → IsLine (mark_of tag) l → line_at tag (mark_of tag) (line_body tag l) ≡ Some l
+unfolding line_at
+line_again lines tag l is = rw (lines tag l is, nat_list_eq_equiv.refl (line_body tag l)) refl
+
+pub entry_again : RunsAreLongest → TermsArePieces → LinesAreRead → (tag : ℕ) (rest : List ℕ) (l : Line) → IsLine (mark_of tag) l
+    → entry_at tag (mark_of tag) (line_text tag l ++ rest) ≡ Some (l, rest)
+unfolding entry_at
+entry_again runs pieces lines tag rest l is =
+    let h = (runs is_inner (line_text tag l ++ rest) (line_body tag l) (10 ∷ rest)).1
+    (record { cut = ended tag l rest; all = (body_piece pieces tag (mark_of tag) l is).inner; stops = refl }) in
+    rw (h.0, h.1, line_again lines tag l is) refl
+
+-- ---- whole journals
+
+abbrev EntriesAreRead : Type 0
+EntriesAreRead = (tag : ℕ) (rest : List ℕ) (l : Line) → IsLine (mark_of tag) l → entry_at tag (mark_of tag) (line_text tag l ++ rest) ≡ Some (l, rest)
+
+no_text : (tag : ℕ) (l : Line) (rest : List ℕ) → line_text tag l ++ rest ≡ [] → ⊥
+no_text tag l rest e = absurd (omega (arith, length-append (line_body tag l) (10 ∷ rest), ap length (sym (ended tag l rest) ∙ e)))
+
+same_first : EntriesAreRead → (tag : ℕ) (l m : Line) (r s : List ℕ) → IsLine (mark_of tag) l → IsLine (mark_of tag) m → line_text tag l ++ r ≡ line_text tag m ++ s → (l ≡ m) × (r ≡ s)
+same_first entries tag l m r s a b e =
+    let same = same_Some (l, r) (m, s) (sym (entries tag r l a) ∙ ap (entry_at tag (mark_of tag)) e ∙ entries tag s m b) in
+    (ap (λ (x : Line × List ℕ). x.0) same, ap (λ (x : Line × List ℕ). x.1) same)
+
+same_lines : EntriesAreRead → (tag : ℕ) (ls ms : List Line) → AllByRecursion (IsLine (mark_of tag)) ls → AllByRecursion (IsLine (mark_of tag)) ms
+    → flat_map (line_text tag) ls ≡ flat_map (line_text tag) ms → ls ≡ ms
+same_lines entries tag [] [] a b e = refl
+same_lines entries tag [] (m ∷ ms) a b e = absurd (no_text tag m (flat_map (line_text tag) ms) (sym e))
+same_lines entries tag (l ∷ ls) [] a b e = absurd (no_text tag l (flat_map (line_text tag) ls) e)
+same_lines entries tag (l ∷ ls) (m ∷ ms) a b e =
+    let h = same_first entries tag l m (flat_map (line_text tag) ls) (flat_map (line_text tag) ms) a.0 b.0 e in
+    let first = h.0 in
+    let later = same_lines entries tag ls ms a.1 b.1 h.1 in
+    λ i. first i ∷ later i
+
+pub one_journal : EntriesAreRead → (tag : ℕ) (bytes : List ℕ) (a b : List Line) → IsJournal tag bytes a → IsJournal tag bytes b → a ≡ b
+one_journal entries tag bytes a b p q =
+    same_lines entries tag a b (recursion_from_All (IsLine (mark_of tag)) a p.each) (recursion_from_All (IsLine (mark_of tag)) b q.each)
+    (append_cancel_left first_line (flat_map (line_text tag) a) (flat_map (line_text tag) b) (sym p.text ∙ q.text))
+
+-- what stands behind some lines is no line's text
+bad_behind : EntriesAreRead → (tag : ℕ) (ls ms : List Line) (rest : List ℕ) → AllByRecursion (IsLine (mark_of tag)) ls → AllByRecursion (IsLine (mark_of tag)) ms
+    → rest ≢ [] → IsBad tag rest → flat_map (line_text tag) ls ++ rest ≡ flat_map (line_text tag) ms → ⊥
+bad_behind entries tag [] [] rest a b more bad e = more e
+bad_behind entries tag [] (m ∷ ms) rest a b more bad e = bad m (flat_map (line_text tag) ms) b.0 e
+bad_behind entries tag (l ∷ ls) [] rest a b more bad e =
+    no_text tag l (flat_map (line_text tag) ls ++ rest) (sym (append_assoc (line_text tag l) (flat_map (line_text tag) ls) rest) ∙ e)
+bad_behind entries tag (l ∷ ls) (m ∷ ms) rest a b more bad e =
+    let h = same_first entries tag l m (flat_map (line_text tag) ls ++ rest) (flat_map (line_text tag) ms) a.0 b.0 (sym (append_assoc (line_text tag l) (flat_map (line_text tag) ls) rest) ∙ e) in
+    bad_behind entries tag ls ms rest a.1 b.1 more bad h.1
+
+pub no_journal : EntriesAreRead → (tag : ℕ) (bytes : List ℕ) (n : ℕ) (a : List Line) → IsFirstBad tag bytes n → IsJournal tag bytes a → ⊥
+no_journal entries tag bytes n a (inl foreign) p = foreign.1 (flat_map (line_text tag) a) p.text
+no_journal entries tag bytes n a (inr bad) p =
+    bad_behind entries tag bad.before a bad.rest (recursion_from_All (IsLine (mark_of tag)) bad.before bad.each) (recursion_from_All (IsLine (mark_of tag)) a p.each) bad.more bad.here
+    (append_cancel_left first_line (flat_map (line_text tag) bad.before ++ bad.rest) (flat_map (line_text tag) a)
+    (sym (append_assoc first_line (flat_map (line_text tag) bad.before) bad.rest) ∙ sym bad.text ∙ p.text))

@@ -1,0 +1,24 @@
+-- The line at the front of a text, and what follows it.
+use Rattle.std.specs.Prelude.{ℕ, ◌==◌, nat_eq, List, [], ◌∷◌, Option, Some, None, if◌then◌else◌}
+use Rattle.std.specs.Cmp.Lexicographic.{pointwise}
+use Rattle.iris.specs.Runs.{run_of, rest_of}
+use Rattle.iris.specs.Bracketed.{◌>>=◌}
+use Rattle.nquads.specs.Lines.{is_inner}
+use Rattle.journal.specs.declared.lines.Line.{Line}
+use Rattle.journal.specs.Text.{line_body}
+use Rattle.journal.specs.Reading.{line_of}
+
+-- what follows an LF
+abbrev pub after_lf : List ℕ → Option (List ℕ)
+after_lf [] = None
+after_lf (b ∷ bs) = if b == 10 then Some bs else None
+
+-- the line that these bytes are the text of
+unfoldable pub line_at : ℕ → List ℕ → List ℕ → Option Line
+line_at tag mark bytes = line_of mark bytes >>= λ l. if pointwise nat_eq (line_body tag l) bytes then Some l else None
+
+unfoldable pub entry_at : ℕ → List ℕ → List ℕ → Option (Line × List ℕ)
+entry_at tag mark text = do
+  rest ← after_lf (rest_of is_inner text)
+  l ← line_at tag mark (run_of is_inner text)
+  Some (l, rest)
