@@ -28,21 +28,18 @@ workers_rule = record workers_option_rule { value_names = 1; defaults = codes "4
 abbrev pub journal_rule : Rule
 journal_rule = record (new_rule (codes "journal")) { long = Some (codes "journal"); value_names = 1 }
 
-abbrev pub run_of_base_app : App
-run_of_base_app = with_rule (new_app (codes "run")) (file_rule (codes "BASE"))
+-- a command of a base and a block
+abbrev pub app_of_block : Text → App
+app_of_block name = with_rule (with_rule (new_app name) (file_rule (codes "BASE"))) (file_rule (codes "BLOCK"))
 
 abbrev pub run_app : App
-run_app =
-    with_rule (with_rule (with_rule (with_rule run_of_base_app (file_rule (codes "BLOCK"))) (file_rule (codes "OUT"))) workers_rule) journal_rule
+run_app = with_rule (with_rule (with_rule (app_of_block (codes "run")) (file_rule (codes "OUT"))) workers_rule) journal_rule
 
 abbrev pub serial_app : App
-serial_app = with_rule (with_rule (with_rule (new_app (codes "serial")) (file_rule (codes "BASE"))) (file_rule (codes "BLOCK"))) (file_rule (codes "OUT"))
+serial_app = with_rule (app_of_block (codes "serial")) (file_rule (codes "OUT"))
 
 abbrev pub replay_app : App
-replay_app =
-    with_rule
-    (with_rule (with_rule (with_rule (new_app (codes "replay")) (file_rule (codes "BASE"))) (file_rule (codes "BLOCK"))) (file_rule (codes "JOURNAL")))
-    (file_rule (codes "OUT"))
+replay_app = with_rule (with_rule (app_of_block (codes "replay")) (file_rule (codes "JOURNAL"))) (file_rule (codes "OUT"))
 
 abbrev pub check_app : App
 check_app = with_rule (new_app (codes "check")) (file_rule (codes "BLOCK"))

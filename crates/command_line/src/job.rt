@@ -1,8 +1,8 @@
 //! The command line and the job that it asks for.
 ghost use Rattle.std.specs.Prelude.{◌≡◌, codes, false, map, IfOk, string_bytes};
 ghost use Rattle.clap.specs.declared.builder.command.Command.TheViews.{out-Command as fields_of};
-ghost use Rattle.clap.specs.Words.{app_of, first_of, found_of, kind_of, one_of, rows_of, rule_of};
-ghost use Rattle.command_line.specs.CommandLine.{IsAnswer, IsCommandAnswer, IsFileAnswer, IsToldAs, IsWorkersAnswer, IsJournalAnswer, file_rule, journal_rule, workers_option_rule, workers_rule, check_app, replay_app, run_app, serial_app, run_of_base_app, bare_program, program_of_runs, program as the_program};
+ghost use Rattle.clap.specs.Words.{app_of, first_of, found_of, kind_of, new_app, one_of, rows_of, rule_of, with_rule};
+ghost use Rattle.command_line.specs.CommandLine.{IsAnswer, IsCommandAnswer, IsFileAnswer, IsToldAs, IsWorkersAnswer, IsJournalAnswer, file_rule, journal_rule, workers_option_rule, workers_rule, check_app, replay_app, run_app, serial_app, app_of_block, bare_program, program_of_runs, program as the_program};
 
 use crate::fault::{LineFault, Message};
 use clap::error::ErrorKind;
@@ -11,6 +11,10 @@ use std::alloc::{AllocError, Global};
 
 /// The most workers that a run may have.
 const MAX_WORKERS: u32 = 64;
+
+const BLOCK_HELP: &str = "The block, requests that lines ---- part";
+
+const OUT_HELP: &str = "The file that the dataset is written to";
 
 /// What the program is asked to do.
 #[derive(Debug, Drop)]
@@ -104,23 +108,49 @@ fn journal_argument<'a>(alloc: Global) -> Arg<'a>
         .help("The file that the journal of the run is written to")
 }
 
-/// `run` with its first file.
-fn run_of_base<'a>(alloc: Global) -> Result<Command<'a>, AllocError>
-    ensures app { IfOk result (λ c. app_of c ≡ run_of_base_app) }
+/// The command with one more file that must be named.
+fn with_file<'a>(
+    alloc: Global,
+    command: Command<'a>,
+    id: &'a str,
+    help: &'a str,
+) -> Result<Command<'a>, AllocError>
+    requires local { (fields_of command).has_globals ≡ false }
+    ensures app { IfOk result (λ c. app_of c ≡ with_rule (app_of command) (file_rule id.entry.now)) }
     ensures local { IfOk result (λ c. (fields_of c).has_globals ≡ false) }
 {
-    Command::new(alloc, "run")
-        .about("Runs a block of SPARQL updates on a base of N-Quads")
-        .arg(file_argument(alloc, "BASE", "The base, a file of N-Quads"))
+    command.arg(file_argument(alloc, id, help))
+}
+
+/// A command with no argument yet.
+fn bare_command<'a>(alloc: Global, name: &'a str, about: &'a str) -> Command<'a>
+    ensures app { app_of result ≡ new_app name.entry.now }
+    ensures local { (fields_of result).has_globals ≡ false }
+{
+    Command::new(alloc, name).about(about)
+}
+
+/// A command of a base and a block.
+fn command_of_block<'a>(
+    alloc: Global,
+    name: &'a str,
+    about: &'a str,
+) -> Result<Command<'a>, AllocError>
+    ensures app { IfOk result (λ c. app_of c ≡ app_of_block name.entry.now) }
+    ensures local { IfOk result (λ c. (fields_of c).has_globals ≡ false) }
+{
+    let command = bare_command(alloc, name, about);
+    let command = with_file(alloc, command, "BASE", "The base, a file of N-Quads")?;
+    with_file(alloc, command, "BLOCK", BLOCK_HELP)
 }
 
 fn run_command<'a>(alloc: Global) -> Result<Command<'a>, AllocError>
     ensures app { IfOk result (λ c. app_of c ≡ run_app) }
     ensures local { IfOk result (λ c. (fields_of c).has_globals ≡ false) }
 {
-    run_of_base(alloc)?
-        .arg(file_argument(alloc, "BLOCK", "The block, requests that lines ---- part"))?
-        .arg(file_argument(alloc, "OUT", "The file that the dataset is written to"))?
+    let about = "Runs a block of SPARQL updates on a base of N-Quads";
+    let command = command_of_block(alloc, "run", about)?;
+    with_file(alloc, command, "OUT", OUT_HELP)?
         .arg(workers_argument(alloc))?
         .arg(journal_argument(alloc))
 }
@@ -129,32 +159,27 @@ fn serial_command<'a>(alloc: Global) -> Result<Command<'a>, AllocError>
     ensures app { IfOk result (λ c. app_of c ≡ serial_app) }
     ensures local { IfOk result (λ c. (fields_of c).has_globals ≡ false) }
 {
-    Command::new(alloc, "serial")
-        .about("Runs a block of SPARQL updates on a base of N-Quads, one request after another")
-        .arg(file_argument(alloc, "BASE", "The base, a file of N-Quads"))?
-        .arg(file_argument(alloc, "BLOCK", "The block, requests that lines ---- part"))?
-        .arg(file_argument(alloc, "OUT", "The file that the dataset is written to"))
+    let about = "Runs a block of SPARQL updates on a base of N-Quads, one request after another";
+    let command = command_of_block(alloc, "serial", about)?;
+    with_file(alloc, command, "OUT", OUT_HELP)
 }
 
 fn replay_command<'a>(alloc: Global) -> Result<Command<'a>, AllocError>
     ensures app { IfOk result (λ c. app_of c ≡ replay_app) }
     ensures local { IfOk result (λ c. (fields_of c).has_globals ≡ false) }
 {
-    Command::new(alloc, "replay")
-        .about("Replays the journal of a run of a block on a base")
-        .arg(file_argument(alloc, "BASE", "The base, a file of N-Quads"))?
-        .arg(file_argument(alloc, "BLOCK", "The block, requests that lines ---- part"))?
-        .arg(file_argument(alloc, "JOURNAL", "The journal of the run"))?
-        .arg(file_argument(alloc, "OUT", "The file that the dataset is written to"))
+    let command = command_of_block(alloc, "replay", "Replays the journal of a run")?;
+    let command = with_file(alloc, command, "JOURNAL", "The journal of the run")?;
+    with_file(alloc, command, "OUT", OUT_HELP)
 }
 
 fn check_command<'a>(alloc: Global) -> Result<Command<'a>, AllocError>
     ensures app { IfOk result (λ c. app_of c ≡ check_app) }
     ensures local { IfOk result (λ c. (fields_of c).has_globals ≡ false) }
 {
-    Command::new(alloc, "check")
-        .about("Tells of each request of a block whether it is accepted")
-        .arg(file_argument(alloc, "BLOCK", "The block, requests that lines ---- part"))
+    let about = "Tells of each request of a block whether it is accepted";
+    let command = bare_command(alloc, "check", about);
+    with_file(alloc, command, "BLOCK", BLOCK_HELP)
 }
 
 /// The program with no subcommand yet.
