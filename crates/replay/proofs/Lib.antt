@@ -1,0 +1,4 @@
+pub mod Finding
+pub mod Replies
+pub mod Steps
+pub mod Going

@@ -1,0 +1,4 @@
+pub mod Lines
+pub mod Found
+pub mod Replays
+pub mod Following

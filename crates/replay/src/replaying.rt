@@ -1,0 +1,40 @@
+//! Lines of a journal, played into a book.
+ghost use Rattle.std.specs.Prelude.{◌<◌, ◌^◌, length, IfOk, IfErr};
+ghost use Rattle.reads.specs.Reads.{IsDataset};
+ghost use Rattle.update.specs.Asked.{AreShort};
+ghost use Rattle.replay.specs.Replays.{IsReplayOf, IsFault};
+
+use crate::following::follow_line;
+use book::Book;
+use datasets::Id;
+use dict::Dict;
+use journal::{JournalFault, Line};
+use meaning::Request;
+use reads::View;
+use std::alloc::Global;
+
+/// The book whose journal has these lines, of a base and a block at a dictionary's numbers. It makes the answers itself, and the runs that
+/// were published from what was noted. An error is want of memory, or `Illegal` with the number, from 1, of the first line at which the
+/// book doesn't go on: no entry of it is lawful there, or it tells of a publication and the notes are not what a run asks for.
+pub fn replay<'a>(
+    alloc: Global,
+    terms: &'a Dict,
+    base: &'a View,
+    block: &'a [Request<Id>],
+    lines: &[Line],
+) -> Result<Book<'a>, JournalFault>
+    requires base { IsDataset base.now }
+    requires size { length block.now < 2 ^ 32 }
+    requires short { AreShort block.now }
+    ensures book { IfOk result (IsReplayOf terms.now base.now block.now lines.now) }
+    ensures fault { IfErr result (IsFault terms.now base.now block.now lines.now) }
+{
+    let mut book = Book::new(alloc, terms, base, block)?;
+    for line in lines {
+        let number = book.journal().len() as u64 + 1;
+        if !follow_line(alloc, &mut book, line)? {
+            return Err(JournalFault::Illegal(number));
+        }
+    }
+    Ok(book)
+}
