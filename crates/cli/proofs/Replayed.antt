@@ -21,18 +21,18 @@ module _ (base : Base) (block : List (Request Id)) (lines : List Line) (outcome 
   unfolding front
   front_is =
       h.outcome_is
-      ∙ ap (λ (ts : List Term). run_of_first (numbers ts) front h.book.block h.book.base) h.replayed.terms
-      ∙ ap (λ (b : List (Request Id)). run_of_first (numbers base.terms) front b h.book.base) h.replayed.block
-      ∙ ap (λ (d : Dataset Id). run_of_first (numbers base.terms) front block d) h.replayed.base
+      ∙ ap (λ (ts : List Term). run_of_first (numbers ts) front h.book.block h.book.base) h.replayed.terms_are
+      ∙ ap (λ (b : List (Request Id)). run_of_first (numbers base.terms) front b h.book.base) h.replayed.block_is
+      ∙ ap (λ (d : Dataset Id). run_of_first (numbers base.terms) front block d) h.replayed.base_is
 
   pub journal_at : (journal : List ℕ) → journal ≡ journal_text base.tag lines → IsJournalAt base block journal front
   unfolding front
   journal_at journal is = record {
     book = h.book;
-    terms_are = h.replayed.terms;
-    dataset_is = h.replayed.base;
-    block_is = h.replayed.block;
+    terms_are = h.replayed.terms_are;
+    dataset_is = h.replayed.base_is;
+    block_is = h.replayed.block_is;
     lawful = h.lawful;
-    journal_is = is ∙ ap (journal_text base.tag) (sym h.replayed.lines.printed);
+    journal_is = is ∙ ap (journal_text base.tag) (sym h.replayed.journal.printed);
     front_is = refl;
   }

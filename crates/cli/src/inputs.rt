@@ -129,10 +129,7 @@ pub fn read_verdicts<R: Read>(
 }
 
 /// The bytes of the journal that a reader gives. `CannotRead` comes where a read failed, and only there; any other fault is want of memory.
-pub fn read_journal_bytes<R: Read>(
-    alloc: Global,
-    reader: &mut Watched<R>,
-) -> Result<Vec<u8>, Fault>
+pub fn read_journal_bytes<R: Read>(alloc: Global, reader: &mut Watched<R>) -> Result<Vec<u8>, Fault>
     requires { reader.old.failures < 2 ^ 64 - 1 }
     ensures bytes { IfOk result (λ bytes. IfSome (R.remaining reader.old.inner) (λ text. bytes.items ≡ text)) }
     ensures fault { IfErr result IsUnreadJournal }

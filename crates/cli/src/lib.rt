@@ -11,9 +11,11 @@ mod files;
 mod in_order;
 mod inputs;
 mod outputs;
+mod recorded;
 
 pub use check::check_engine;
 pub use command_line::{Fault, File, Job, LineFault, Message, read_job};
 pub use engine::run_engine;
 pub use files::{InFile, OutFile};
 pub use in_order::serial_engine;
+pub use recorded::run_with_journal_engine;

@@ -1,0 +1,53 @@
+use Rattle.std.proofs.Common.{◌∙◌, ℕ, ap, arith}
+use Rattle.nquads.specs.Canonical.{canonical}
+use Rattle.command_line.specs.Replies.{reply_lines}
+use Rattle.cli.proofs.Composed.{short, same_length, known, named_dataset, named_is, replies_are, all_of}
+use Rattle.cli.proofs.recorded.texts_with_journal.Goals as goal
+
+pub recorded-requires-clause-few : goal.recorded-requires-clause-few
+recorded-requires-clause-few g c =
+    let same = same_length _ _ _ _ c.in_ok-numbered.ensures in
+    let few = c.requires.few in
+    omega (arith, same, few)
+
+pub recorded-requires-clause-short : goal.recorded-requires-clause-short
+recorded-requires-clause-short g c = short _ _ _ _ c.in_ok-numbered.ensures c.requires.short
+
+pub texts_of_outcome-requires-clause-known : goal.texts_of_outcome-requires-clause-known
+texts_of_outcome-requires-clause-known g c =
+    let whole = c.in_ok-outcome.ensures.outcome in
+    known _ _ _ _ c.in_ok-numbered.ensures c.carries_block.ensures c.parts-parts.ensures.dataset whole.0 _ _ whole.2
+
+pub texts_of_outcome-requires-clause-dataset : goal.texts_of_outcome-requires-clause-dataset
+texts_of_outcome-requires-clause-dataset g c =
+    let whole = c.in_ok-outcome.ensures.outcome in
+    named_dataset _ _ _ _ c.in_ok-numbered.ensures c.carries_block.ensures c.parts-parts.ensures.dataset whole.0 _ _ whole.2
+
+pub returns-clause-answer : goal.returns-clause-answer
+returns-clause-answer g c =
+    let whole = c.in_ok-outcome.ensures.outcome in
+    let numbered = c.in_ok-numbered.ensures in
+    let all = all_of _ _ _ _ numbered whole.0 whole.1 in
+    record {
+      tag = c.in_ok-numbered.numbered.base.tag;
+      tagged = numbered.base.tag_is;
+      dataset_is =
+          c.in_ok-answer.ensures.dataset
+          ∙ ap (λ e. canonical e c.in_ok-numbered.numbered.base.tag)
+          (named_is _ _ _ _ numbered c.carries_block.ensures c.parts-parts.ensures.dataset whole.0 _ _ whole.2 ∙ ap (λ p. p.0) all);
+      replies_are =
+          c.in_ok-answer.ensures.replies
+          ∙ ap reply_lines (replies_are _ _ _ _ numbered c.carries_block.ensures c.parts-parts.ensures.dataset whole.0 _ _ whole.2 ∙ ap (λ p. p.1) all);
+    }
+
+pub returns-clause-journal : goal.returns-clause-journal
+returns-clause-journal g c =
+    let journal = c.in_ok-outcome.ensures.journal in
+    let numbered = c.in_ok-numbered.ensures in
+    let same = same_length _ _ _ _ numbered in
+    let whole = journal.1 in
+    (
+      journal.0,
+      omega (arith, same, whole),
+      record { base = c.in_ok-numbered.numbered.base; block = c.in_ok-numbered.numbered.block.items; numbered = numbered; journal_is = journal.2 },
+    )

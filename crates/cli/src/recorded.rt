@@ -1,0 +1,146 @@
+//! The engine of the command `run` with a journal.
+ghost use Rattle.std.specs.Prelude.{◌≡◌, ◌≢◌, ◌<◌, ◌≤◌, ◌-◌, ◌^◌, ℕ, true, length, IfOk, IfErr, IfSome, OnOk, IsErrOf, string_bytes};
+ghost use Rattle.cli.specs.Failures.{is_unread, is_unwritten, is_journal_unwritten, FailedIf, OneFailedIf};
+ghost use Rattle.update.specs.Asked.{AreShort};
+ghost use Rattle.cli.specs.Journals.{IsFaultWithJournal, IsJournalAt, IsJournalOf, WroteJournal, WroteJournalInPart};
+ghost use Rattle.cli.specs.Outputs.{IsAnswerTo, IsWhole, Wrote, WroteInPart};
+
+use crate::engine::texts_of_outcome;
+use crate::inputs::{read_base, read_block};
+use crate::outputs::{Texts, write_journal, write_texts};
+use command_line::{Fault, File};
+use delta::Outcome;
+use devices::Watched;
+use journal::write_lines;
+use numbering::laws::carries_block;
+use numbering::{Numbered, number};
+use pool::{Open, run_book};
+use replay::lines_of;
+use rules::Block;
+use std::alloc::{AllocError, Global};
+use std::io::{Read, Write};
+use std::sync::Wait;
+use std::thread::Threads;
+use terms::DataSet;
+
+/// What a run of a block comes to at numbers of terms, and the text of its journal.
+#[derive(Drop)]
+struct Record {
+    outcome: Outcome,
+    journal: Vec<u8>,
+}
+
+/// The texts of an answer, and that of the journal.
+#[derive(Drop)]
+struct RecordTexts {
+    answer: Texts,
+    journal: Vec<u8>,
+}
+
+/// Runs a block by this many workers, from 1 to 64, and makes the text of the journal.
+fn recorded<T: Threads + Wait + Sync>(
+    rt: &T,
+    alloc: Global,
+    numbered: &Numbered,
+    workers: u32,
+) -> Result<Record, AllocError>
+    requires some { 0 < workers }
+    requires most { workers ≤ 64 }
+    requires few { length numbered.now.block.items < 2 ^ 32 }
+    requires short { AreShort numbered.now.block.items }
+    ensures outcome { IfOk result (λ r. IsWhole numbered.now.base.terms numbered.now.base.dataset numbered.now.block.items r.outcome.dataset r.outcome.replies) }
+    ensures journal { IfOk result (λ r. (front : ℕ) × (length numbered.now.block.items ≤ front) × IsJournalAt numbered.now.base numbered.now.block.items r.journal.items front) }
+{
+    let (base, block) = (&numbered.base, numbered.block.as_slice());
+    let (terms, dataset) = (base.terms(), base.dataset());
+    let book = run_book(rt, alloc, terms, dataset, block, workers, &Open)?;
+    // (for the proof: it is a history)
+    let _journal = book.journal();
+    let outcome = book.outcome(alloc)?;
+    let lines = lines_of(alloc, &book)?;
+    drop(book);
+    let journal = write_lines(alloc, lines.as_slice(), base.tag())?;
+    Ok(Record { outcome, journal })
+}
+
+/// The texts of the answer to a base and a block, and that of the journal of their run.
+fn texts_with_journal<T: Threads + Wait + Sync>(
+    rt: &T,
+    alloc: Global,
+    base: DataSet,
+    block: &Block,
+    workers: u32,
+) -> Result<RecordTexts, AllocError>
+    requires some { 0 < workers }
+    requires most { workers ≤ 64 }
+    requires few { length block.now ≤ 4096 }
+    requires short { AreShort block.now }
+    ensures answer { IfOk result (λ texts. IsAnswerTo base block.now texts.answer.dataset.items (string_bytes texts.answer.replies)) }
+    ensures journal { IfOk result (λ texts. (front : ℕ) × (length block.now ≤ front) × IsJournalOf base block.now texts.journal.items front) }
+{
+    carries_block();
+    let _parts = base.parts();
+    let numbered = number(alloc, &base, block)?;
+    drop(base);
+    let Record { outcome, journal } = recorded(rt, alloc, &numbered, workers)?;
+    let answer = texts_of_outcome(alloc, numbered, outcome)?;
+    Ok(RecordTexts { answer, journal })
+}
+
+/// Reads a base and a block, runs the block by this many workers, and writes the canonical text of the new dataset, one line a request, and the
+/// journal of the run. The base is read before the block, and all texts are made before a writer is touched; then the dataset, the replies and
+/// the journal are written in this order, each flushed, also where it is empty. Workers are from 1 to 64, each on a thread of its own where one
+/// can be had, and change nothing in the answer. A fault is the first that comes: of the base, of the block, want of memory, or of a writer.
+pub fn run_with_journal_engine<
+    T: Threads + Wait + Sync,
+    B: Read,
+    K: Read,
+    D: Write,
+    A: Write,
+    J: Write,
+>(
+    rt: &T,
+    alloc: Global,
+    base: &mut Watched<B>,
+    block: &mut Watched<K>,
+    dataset: &mut Watched<D>,
+    replies: &mut Watched<A>,
+    journal: &mut Watched<J>,
+    workers: u32,
+) -> Result<(), Fault>
+    requires base { base.old.failures < 2 ^ 64 - 1 }
+    requires block { block.old.failures < 2 ^ 64 - 1 }
+    requires dataset { dataset.old.failures < 2 ^ 64 - 1 }
+    requires replies { replies.old.failures < 2 ^ 64 - 1 }
+    requires journal { journal.old.failures < 2 ^ 64 - 1 }
+    requires some { 0 < workers }
+    requires most { workers ≤ 64 }
+    // What was written is the output of what was read.
+    ensures answer { OnOk result (IfSome (B.remaining base.old.inner) (λ b. IfSome (K.remaining block.old.inner) (λ k. Wrote b k (D.contents dataset.old.inner) (D.contents dataset.new.inner) (A.contents replies.old.inner) (A.contents replies.new.inner)))) }
+    // And the journal is of a run of the whole block.
+    ensures journal { OnOk result (IfSome (B.remaining base.old.inner) (λ b. IfSome (K.remaining block.old.inner) (λ k. WroteJournal b k (J.contents journal.old.inner) (J.contents journal.new.inner)))) }
+    // All texts were flushed, also where they are empty.
+    ensures flushed { OnOk result ((dataset.new.is_flushed ≡ true) × (replies.new.is_flushed ≡ true) × (journal.new.is_flushed ≡ true)) }
+    // After a failed write the texts before it are whole, and of its own a beginning was written.
+    ensures part { IsErrOf result (Fault.CannotWrite File.Answer) → IfSome (B.remaining base.old.inner) (λ b. IfSome (K.remaining block.old.inner) (λ k. WroteInPart b k (D.contents dataset.old.inner) (D.contents dataset.new.inner) (A.contents replies.old.inner) (A.contents replies.new.inner))) }
+    ensures whole { IsErrOf result (Fault.CannotWrite File.Journal) → IfSome (B.remaining base.old.inner) (λ b. IfSome (K.remaining block.old.inner) (λ k. Wrote b k (D.contents dataset.old.inner) (D.contents dataset.new.inner) (A.contents replies.old.inner) (A.contents replies.new.inner))) }
+    ensures journal_part { IsErrOf result (Fault.CannotWrite File.Journal) → IfSome (B.remaining base.old.inner) (λ b. IfSome (K.remaining block.old.inner) (λ k. WroteJournalInPart b k (J.contents journal.old.inner) (J.contents journal.new.inner))) }
+    // Any other fault comes before a writer is touched, and one of the answer's before that of the journal is.
+    ensures untouched { IfErr result (λ fault. fault ≢ Fault.CannotWrite File.Answer → fault ≢ Fault.CannotWrite File.Journal → (dataset.new ≡ dataset.old) × (replies.new ≡ replies.old)) }
+    ensures journal_untouched { IfErr result (λ fault. fault ≢ Fault.CannotWrite File.Journal → journal.new ≡ journal.old) }
+    // Each fault is told only where it is there.
+    ensures fault { IfErr result (λ fault. IfSome (B.remaining base.old.inner) (λ b. IfSome (K.remaining block.old.inner) (λ k. IsFaultWithJournal b k fault))) }
+    // A device that failed is told, and only where one did.
+    ensures base_failures { FailedIf (is_unread File.Base result) base.old.failures base.new.failures }
+    ensures block_failures { FailedIf (is_unread File.Block result) block.old.failures block.new.failures }
+    ensures write_failures { OneFailedIf (is_unwritten result) dataset.old.failures dataset.new.failures replies.old.failures replies.new.failures }
+    ensures journal_failures { FailedIf (is_journal_unwritten result) journal.old.failures journal.new.failures }
+{
+    let read = read_base(alloc, base)?;
+    let requests = read_block(alloc, block)?;
+    let Ok(texts) = texts_with_journal(rt, alloc, read, &requests, workers) else {
+        return Err(Fault::Memory);
+    };
+    write_texts(&texts.answer, dataset, replies)?;
+    write_journal(journal, texts.journal.as_slice())
+}
