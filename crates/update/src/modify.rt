@@ -1,5 +1,5 @@
 //! DELETE and INSERT over the solutions of WHERE (SPARQL 1.1 Update, 3.1.3).
-ghost use Rattle.std.specs.Prelude.{◌≡◌, Bool, true, IfOk};
+ghost use Rattle.std.specs.Prelude.{◌≡◌, ◌≤◌, Bool, true, length, IfOk, IfSome};
 ghost use Rattle.datasets.specs.Id.{id_order};
 ghost use Rattle.dict.specs.Dictionary.{numbers};
 ghost use Rattle.meaning.specs.Effect.{effect_of};
@@ -9,6 +9,7 @@ ghost use Rattle.algebra.specs.declared.update.Operation.TheVariants as operatio
 ghost use Rattle.reads.specs.Reads.{View, Read as Reading, applied};
 ghost use Rattle.reads.specs.Runs.{Agrees};
 ghost use Rattle.asking.specs.Goes.{Goes};
+ghost use Rattle.solution.specs.Limits.{up_to};
 ghost use Rattle.update.specs.Asked.{IsWithin};
 ghost use Rattle.update.specs.Changed.{changed};
 
@@ -16,7 +17,7 @@ use crate::template::instances;
 use algebra::Modify;
 use delta::Delta;
 use dict::{Dict, Id};
-use eval::{Query, replaced, solve};
+use eval::{Query, replaced, solve_up_to};
 use expr::Filtering;
 use meaning::Cause;
 use reads::{Note, Source, Stop};
@@ -26,7 +27,7 @@ use std::alloc::Global;
 /// More solutions than this are too many.
 const MOST_SOLUTIONS: usize = 1_000_000;
 
-// The solutions of WHERE, where the operations before it led.
+// The solutions of WHERE, where the operations before it led, unless they are too many.
 fn solutions_of<S: Source>(
     alloc: Global,
     dict: &Dict,
@@ -34,10 +35,11 @@ fn solutions_of<S: Source>(
     changes: &Delta,
     source: &mut S,
     notes: &mut Vec<Note>,
-) -> Result<Solutions, Stop>
+) -> Result<Option<Solutions>, Stop>
     ensures about { S.subject source.new ≡ S.subject source.old }
     ensures goes { Goes (is_near id_order (operation.Modify modify.now)) (S.may source.old) (S.may source.new) notes.old.items notes.new.items }
-    ensures solved { IfOk result (λ found. (d : View) → Agrees notes.new.items d → found ≡ solutions id_order (numbers dict.now).passes modify.now.width modify.now.pattern (applied changes.now d) modify.now.active) }
+    ensures solved { IfOk result (λ found. (d : View) → Agrees notes.new.items d → found ≡ up_to 1000000 (solutions id_order (numbers dict.now).passes modify.now.width modify.now.pattern (applied changes.now d) modify.now.active)) }
+    ensures few { IfOk result (λ found. IfSome found (λ few. length few ≤ 1000000)) }
 {
     let query = Query {
         alloc,
@@ -45,7 +47,8 @@ fn solutions_of<S: Source>(
         filters: &Filtering::new(dict),
         changes,
     };
-    solve(&query, modify.pattern.plan(), modify.active, source, notes)
+    let plan = modify.pattern.plan();
+    solve_up_to(&query, plan, &[], modify.active, MOST_SOLUTIONS, source, notes)
 }
 
 /// The change that goes on with an operation, or why the operation fails, from a change to which the operations before it led. WHERE is
@@ -65,10 +68,9 @@ pub fn modify<S: Source>(
     ensures effect { IfOk result (λ outcome. (d : View) → Agrees notes.new.items d → changed d outcome ≡ effect_of (numbers dict.now) request op (operation.Modify modify.now) (applied changes.now d)) }
     ensures within { (allowed : Reading → Bool) → ((r : Reading) → is_near id_order (operation.Modify modify.now) r ≡ true → allowed r ≡ true) → IsWithin allowed changes.now → IfOk result (λ outcome. IfOk outcome (λ change. IsWithin allowed change)) }
 {
-    let found = solutions_of(alloc, dict, modify, changes, source, notes)?;
-    if found.len() > MOST_SOLUTIONS {
+    let Some(found) = solutions_of(alloc, dict, modify, changes, source, notes)? else {
         return Ok(Err(Cause::TooManySolutions));
-    }
+    };
     let deleted = instances(
         alloc,
         dict,
