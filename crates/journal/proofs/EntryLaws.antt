@@ -1,25 +1,30 @@
 -- Entries and lines.
-use Rattle.std.specs.Prelude.{ℕ, Bool, ◌==◌, ◌≢◌, ◌+◌, ◌⊎◌, nat_eq, All}
-use Rattle.std.proofs.Common.{◌≡◌, true, false, cond, List, [], ◌∷◌, ◌++◌, Option, Some, None, refl, sym, ap, ◌∙◌, subst, length, append_assoc, arith, inl, inr}
-use Rattle.std.specs.List.{list_all, flat_map, AllByRecursion}
+use Rattle.std.specs.Prelude.{ℕ, Bool, ◌==◌, ◌≢◌, ◌+◌, ◌⊎◌, nat_eq, All, Result, Ok, Err, IfOk, MatchResult}
+use Rattle.std.proofs.Common.{◌≡◌, true, false, cond, List, [], ◌∷◌, ◌++◌, Option, Some, None, refl, sym, ap, ◌∙◌, subst, length, take, drop, append_assoc, arith, inl, inr}
+use Rattle.std.specs.List.{list_all, flat_map, starts_with, AllByRecursion}
 use Rattle.std.specs.Cmp.Lexicographic.{pointwise, same_text}
 use Rattle.std.proofs.lemmas.Bool.{eqb-true}
 use Rattle.std.proofs.lemmas.Cmp.{nat_list_eq_equiv}
-use Rattle.std.proofs.lemmas.List.{append_cancel_left, length-append}
-use Rattle.std.proofs.lemmas.List.Elements.{recursion_from_All}
+use Rattle.std.proofs.lemmas.List.{append-nil, append_cancel_left, length-append, take-append-drop}
+use Rattle.std.proofs.lemmas.List.Elements.{recursion_from_All, All-from_recursion, All-append}
 use Rattle.std.proofs.lemmas.Option.{same_Some, cond_some}
 use Rattle.iris.specs.Runs.{run_of, rest_of, IsRun, RunsAreLongest}
 use Rattle.iris.specs.Bracketed.{◌>>=◌}
 use Rattle.nquads.specs.Lines.{is_inner}
 use Rattle.nquads.specs.Tag.{mark_of}
-use Rattle.nquads.proofs.QuotedLaws.{bind_some}
+use Rattle.journal.specs.declared.fault.JournalFault.{JournalFault}
+use Rattle.journal.specs.declared.fault.JournalFault.TheVariants as fault
 use Rattle.journal.specs.declared.lines.Line.{Line}
 use Rattle.journal.specs.Text.{line_body, line_text, first_line, journal_text}
 use Rattle.journal.specs.Lines.{IsLine}
 use Rattle.journal.specs.Journal.{IsJournal, IsForeign, IsBad, IsBadBehind, IsFirstBad}
 use Rattle.journal.specs.Reading.{line_of}
-use Rattle.journal.specs.Entry.{after_lf, line_at, entry_at}
+use Rattle.journal.specs.Entry.{after_lf, line_at, entry_at, Faults}
 use Rattle.journal.proofs.LineLaws.{TermsArePieces, body_piece}
+
+bind_some : {A B : Type 0} (o : Option A) (f : A → Option B) (y : B) → (o >>= f) ≡ Some y → (x : A) × (o ≡ Some x) × (f x ≡ Some y)
+bind_some None f y e = absurd cc
+bind_some (Some x) f y e = (x, refl, e)
 
 -- a line's text and what follows it
 ended : (tag : ℕ) (l : Line) (rest : List ℕ) → line_text tag l ++ rest ≡ line_body tag l ++ 10 ∷ rest
@@ -112,3 +117,53 @@ no_journal entries tag bytes n a (inr bad) p =
     bad_behind entries tag bad.before a bad.rest (recursion_from_All (IsLine (mark_of tag)) bad.before bad.each) (recursion_from_All (IsLine (mark_of tag)) a p.each) bad.more bad.here
     (append_cancel_left first_line (flat_map (line_text tag) bad.before ++ bad.rest) (flat_map (line_text tag) a)
     (sym (append_assoc first_line (flat_map (line_text tag) bad.before) bad.rest) ∙ sym bad.text ∙ p.text))
+
+-- ---- reading on
+
+-- one more line
+pub more_text : (tag : ℕ) (before after : List Line) (l : Line) (text rest later : List ℕ) → text ≡ flat_map (line_text tag) before ++ rest → rest ≡ line_text tag l ++ later
+    → after ≡ before ++ l ∷ [] → text ≡ flat_map (line_text tag) after ++ later
+more_text tag before after l text rest later e f g =
+    e ∙ ap (λ (r : List ℕ). flat_map (line_text tag) before ++ r) f ∙ sym (append_assoc (flat_map (line_text tag) before) (line_text tag l) later)
+    ∙ ap (λ (t : List ℕ). t ++ later) (sym (one_more tag before l)) ∙ ap (λ (ls : List Line). flat_map (line_text tag) ls ++ later) (sym g)
+  where
+    one_more : (tag : ℕ) (before : List Line) (l : Line) → flat_map (line_text tag) (before ++ l ∷ []) ≡ flat_map (line_text tag) before ++ line_text tag l
+    one_more tag [] l = append-nil (line_text tag l)
+    one_more tag (x ∷ before) l =
+        ap (λ (t : List ℕ). line_text tag x ++ t) (one_more tag before l) ∙ sym (append_assoc (line_text tag x) (flat_map (line_text tag) before) (line_text tag l))
+
+pub more_lines : (mark own : List ℕ) (before after : List Line) (l : Line) → own ≡ mark → All (IsLine mark) before → IsLine own l → after ≡ before ++ l ∷ [] → All (IsLine mark) after
+more_lines mark own before after l same each is g =
+    subst (All (IsLine mark)) (sym g) (All-append (IsLine mark) before (l ∷ []) each (All-from_recursion (IsLine mark) (l ∷ []) (subst (λ (m : List ℕ). IsLine m l) same is, tt)))
+
+-- the entry behind some lines is bad
+pub bad_here : (tag : ℕ) (text rest : List ℕ) (before : List Line) (number : ℕ) (e : JournalFault) (n : ℕ) → text ≡ flat_map (line_text tag) before ++ rest → All (IsLine (mark_of tag)) before
+    → rest ≢ [] → number ≡ length before + 1 → Faults tag rest number e → e ≡ fault.BadEntry n → IsBadBehind tag (first_line ++ text) n
+bad_here tag text rest before number fault.OutOfMemory n cut each more count why same = absurd cc
+bad_here tag text rest before number (fault.BadEntry m) n cut each more count why same = record {
+  before = before;
+  rest = rest;
+  text = ap (λ (t : List ℕ). first_line ++ t) cut ∙ sym (append_assoc first_line (flat_map (line_text tag) before) rest);
+  each = each;
+  number = (let eq : n ≡ m = cc in eq) ∙ why.0 ∙ count;
+  more = more;
+  here = why.1;
+}
+bad_here tag text rest before number (fault.Illegal m) n cut each more count why same = absurd why
+
+-- what begins with the first line
+pub begun : (bytes rest : List ℕ) → starts_with nat_eq bytes first_line ≡ true → rest ≡ drop (length first_line) bytes → first_line ++ rest ≡ bytes
+begun bytes rest e f =
+    ap (λ (t : List ℕ). first_line ++ t) f ∙ ap (λ (t : List ℕ). t ++ drop (length first_line) bytes) (same_text first_line (take (length first_line) bytes) (sym e))
+    ∙ take-append-drop (length first_line) bytes
+
+-- an answer that tells only what is so is the one
+pub only_lines : {V : Type 0} (items : V → List Line) (r : Result V JournalFault) (tag : ℕ) (bytes : List ℕ)
+    → ((tag : ℕ) (bytes : List ℕ) (a b : List Line) → IsJournal tag bytes a → IsJournal tag bytes b → a ≡ b)
+    → ((tag : ℕ) (bytes : List ℕ) (n : ℕ) (a : List Line) → IsFirstBad tag bytes n → IsJournal tag bytes a → ⊥)
+    → IfOk r (λ v. IsJournal tag bytes (items v)) → ((n : ℕ) → r ≡ Err (fault.BadEntry n) → IsFirstBad tag bytes n) → ((n : ℕ) → r ≡ Err (fault.Illegal n) → ⊥)
+    → (lines : List Line) → IsJournal tag bytes lines → MatchResult r (λ v. items v ≡ lines) (λ e. e ≡ fault.OutOfMemory)
+only_lines items (Ok v) tag bytes one none ok bad legal lines is = one tag bytes (items v) lines ok is
+only_lines items (Err fault.OutOfMemory) tag bytes one none ok bad legal lines is = refl
+only_lines items (Err (fault.BadEntry n)) tag bytes one none ok bad legal lines is = absurd (none tag bytes n lines (bad n refl) is)
+only_lines items (Err (fault.Illegal n)) tag bytes one none ok bad legal lines is = absurd (legal n refl)

@@ -1,3 +1,4 @@
+pub mod TextLaws
 pub mod NumberLaws
 pub mod TermLaws
 pub mod LineLaws

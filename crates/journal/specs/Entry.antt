@@ -1,10 +1,13 @@
 -- The line at the front of a text, and what follows it.
-use Rattle.std.specs.Prelude.{ℕ, ◌==◌, nat_eq, List, [], ◌∷◌, Option, Some, None, if◌then◌else◌}
+use Rattle.std.specs.Prelude.{ℕ, ◌≡◌, ◌==◌, nat_eq, List, [], ◌∷◌, Option, Some, None, if◌then◌else◌}
 use Rattle.std.specs.Cmp.Lexicographic.{pointwise}
 use Rattle.iris.specs.Runs.{run_of, rest_of}
 use Rattle.iris.specs.Bracketed.{◌>>=◌}
 use Rattle.nquads.specs.Lines.{is_inner}
+use Rattle.journal.specs.declared.fault.JournalFault.{JournalFault}
+use Rattle.journal.specs.declared.fault.JournalFault.TheVariants as fault
 use Rattle.journal.specs.declared.lines.Line.{Line}
+use Rattle.journal.specs.Journal.{IsBad}
 use Rattle.journal.specs.Text.{line_body}
 use Rattle.journal.specs.Reading.{line_of}
 
@@ -22,3 +25,9 @@ entry_at tag mark text = do
   rest ← after_lf (rest_of is_inner text)
   l ← line_at tag mark (run_of is_inner text)
   Some (l, rest)
+
+-- Why no line was read at the front of a text, which would be this entry.
+abbrev pub Faults : ℕ → List ℕ → ℕ → JournalFault → Type 0
+Faults tag text n fault.OutOfMemory = Unit {0}
+Faults tag text n (fault.BadEntry m) = (m ≡ n) × IsBad tag text
+Faults tag text n (fault.Illegal m) = ⊥

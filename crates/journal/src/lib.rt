@@ -16,4 +16,5 @@ mod writer;
 
 pub use fault::JournalFault;
 pub use lines::{Event, Line, Reply};
+pub use reader::read_journal;
 pub use writer::write_lines;

@@ -1,22 +1,24 @@
 //! The lines of a journal, from its bytes.
-ghost use Rattle.std.specs.Prelude.{◌≡◌, ◌≤◌, ◌<◌, ◌+◌, ◌++◌, ◌^◌, ℕ, List, [], length, nat_eq, IfOk, IfSome, IsErrOf, MatchOption, MatchResult, None, Some};
-ghost use Rattle.std.specs.List.{prefix_len};
+ghost use Rattle.std.specs.Prelude.{◌≡◌, ◌≤◌, ◌<◌, ◌++◌, ℕ, List, length, drop, nat_eq, true, false, IfOk, IfErr, IsErrOf, MatchOption, MatchResult, None, Some};
+ghost use Rattle.std.specs.List.{prefix_len, starts_with};
 ghost use Rattle.std.specs.Cmp.Lexicographic.{pointwise};
 ghost use Rattle.iris.specs.Runs.{run_of, rest_of};
 ghost use Rattle.nquads.specs.Lines.{is_inner};
 ghost use Rattle.nquads.specs.Reading.{Gives};
 ghost use Rattle.nquads.specs.Tag.{mark_of};
 ghost use Rattle.journal.specs.declared.lines.Line.{Line};
-ghost use Rattle.journal.specs.Text.{line_body};
+ghost use Rattle.journal.specs.Text.{line_body, line_text, first_line};
 ghost use Rattle.journal.specs.Lines.{IsLine};
-ghost use Rattle.journal.specs.Journal.{IsJournal, IsFirstBad};
-ghost use Rattle.journal.specs.Entry.{after_lf, line_at, entry_at};
+ghost use Rattle.journal.specs.Journal.{IsJournal, IsBadBehind, IsFirstBad};
+ghost use Rattle.journal.specs.Entry.{after_lf, line_at, entry_at, Faults};
 
 use crate::entries::line_of;
+use crate::fault::JournalFault;
+use crate::laws::{entries_are_lines, one_journal};
 use crate::lines::Line;
-use crate::writer::push_body;
+use crate::writer::{FIRST_LINE, push_body};
 use iris::laws::run_by_length;
-use nquads::Stop;
+use nquads::{Stop, mark_of};
 use std::alloc::{AllocError, Global};
 
 fn is_inner(b: u8) -> bool
@@ -82,4 +84,82 @@ fn entry_at<'a>(
         return Err(Stop::Bad);
     };
     Ok((line_at(alloc, tag, mark, line)?, rest))
+}
+
+/// The line of this entry at the front of a text, and what follows it.
+fn next_entry<'a>(
+    alloc: Global,
+    tag: u32,
+    mark: &[u8],
+    text: &'a [u8],
+    number: u64,
+) -> Result<(Line, &'a [u8]), JournalFault>
+    requires { mark.now ≡ mark_of tag }
+    ensures text { IfOk result (λ x. text.entry.now ≡ line_text tag x.0 ++ x.1.now) }
+    ensures form { IfOk result (λ x. IsLine mark.now x.0) }
+    ensures bad { IfErr result (λ e. Faults tag text.entry.now number e) }
+{
+    entries_are_lines();
+    match entry_at(alloc, tag, mark, text) {
+        Ok(entry) => Ok(entry),
+        Err(Stop::Memory) => Err(JournalFault::OutOfMemory),
+        Err(Stop::Bad) => Err(JournalFault::BadEntry(number)),
+    }
+}
+
+/// The lines behind the first line of a journal.
+fn read_lines(alloc: Global, tag: u32, mark: &[u8], text: &[u8]) -> Result<Vec<Line>, JournalFault>
+    requires { mark.now ≡ mark_of tag }
+    ensures lines { IfOk result (λ v. IsJournal tag (first_line ++ text.now) v.items) }
+    ensures bad { (n : ℕ) → IsErrOf result (JournalFault.BadEntry n) → IsBadBehind tag (first_line ++ text.now) n }
+    ensures legal { (n : ℕ) → IsErrOf result (JournalFault.Illegal n) → ⊥ }
+{
+    let mut lines = Vec::new(alloc);
+    let mut rest = text;
+    while !rest.is_empty() {
+        let number = lines.len() as u64 + 1;
+        match next_entry(alloc, tag, mark, rest, number) {
+            Ok((line, after)) => {
+                lines.push(line)?;
+                rest = after;
+            }
+            Err(fault) => return Err(fault),
+        }
+    }
+    Ok(lines)
+}
+
+/// What follows the first line of a journal.
+fn after_first_line(bytes: &[u8]) -> Option<&[u8]>
+    ensures { MatchOption result (starts_with nat_eq bytes.now first_line ≡ false) (λ rest. (starts_with nat_eq bytes.now first_line ≡ true) × (rest.now ≡ drop (length first_line) bytes.now)) }
+{
+    if !bytes.starts_with(FIRST_LINE) {
+        return None;
+    }
+    Some(&bytes[FIRST_LINE.len()..])
+}
+
+fn read_bytes(alloc: Global, bytes: &[u8], tag: u32) -> Result<Vec<Line>, JournalFault>
+    ensures lines { IfOk result (λ v. IsJournal tag bytes.now v.items) }
+    ensures bad { (n : ℕ) → IsErrOf result (JournalFault.BadEntry n) → IsFirstBad tag bytes.now n }
+    ensures legal { (n : ℕ) → IsErrOf result (JournalFault.Illegal n) → ⊥ }
+{
+    let mark = mark_of(alloc, tag)?;
+    let Some(text) = after_first_line(bytes) else {
+        return Err(JournalFault::BadEntry(0));
+    };
+    read_lines(alloc, tag, mark.as_slice(), text)
+}
+
+/// The lines that these bytes are the text of, with the base's tag in the labels of made nodes. `BadEntry` tells of the first entry whose
+/// line is no line's text, counted from 1, or 0 where the first line is another; `OutOfMemory` may come at any bytes, and `Illegal` never.
+pub fn read_journal(alloc: Global, bytes: &[u8], tag: u32) -> Result<Vec<Line>, JournalFault>
+    ensures lines { IfOk result (λ v. IsJournal tag bytes.now v.items) }
+    ensures bad { (n : ℕ) → IsErrOf result (JournalFault.BadEntry n) → IsFirstBad tag bytes.now n }
+    ensures legal { (n : ℕ) → IsErrOf result (JournalFault.Illegal n) → ⊥ }
+    // What is a journal is read, unless memory runs out.
+    ensures only { (lines : List Line) → IsJournal tag bytes.now lines → MatchResult result (λ v. v.items ≡ lines) (λ e. e ≡ JournalFault.OutOfMemory) }
+{
+    one_journal();
+    read_bytes(alloc, bytes, tag)
 }

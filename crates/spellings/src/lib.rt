@@ -1,9 +1,11 @@
-//! Worked examples of lists, IRIs, terms and datasets, of N-Quads texts and the datasets that they spell, and of readers and writers that are
-//! slow or fail.
+//! Worked examples of lists, IRIs, terms and datasets, of N-Quads texts and the datasets that they spell, of journals' texts, and of readers and
+//! writers that are slow or fail.
 #![tactic(auto)]
 
 #[cfg(test)]
 mod datasets_of_terms;
+#[cfg(test)]
+mod journals;
 #[cfg(test)]
 mod lists;
 #[cfg(test)]
