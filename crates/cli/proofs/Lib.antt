@@ -1,4 +1,4 @@
 pub mod Composed
 pub mod Blocks
 pub mod Bytes
-pub mod Recorded
+pub mod Committed

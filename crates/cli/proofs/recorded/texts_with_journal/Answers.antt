@@ -11,7 +11,7 @@ recorded-requires-clause-few g c =
     omega (arith, same, few)
 
 pub recorded-requires-clause-short : goal.recorded-requires-clause-short
-recorded-requires-clause-short g c = short _ _ _ _ c.in_ok-numbered.ensures c.requires.short
+recorded-requires-clause-short g c _ _ = short _ _ _ _ c.in_ok-numbered.ensures c.requires.short
 
 pub texts_of_outcome-requires-clause-known : goal.texts_of_outcome-requires-clause-known
 texts_of_outcome-requires-clause-known g c =
@@ -45,8 +45,7 @@ returns-clause-journal g c =
     let journal = c.in_ok-outcome.ensures.journal in
     let numbered = c.in_ok-numbered.ensures in
     let same = same_length _ _ _ _ numbered in
-    let whole = journal.1 in
-    (
+    let whole = journal.1 in (
       journal.0,
       omega (arith, same, whole),
       record { base = c.in_ok-numbered.numbered.base; block = c.in_ok-numbered.numbered.block.items; numbered = numbered; journal_is = journal.2 },
