@@ -48,7 +48,15 @@ fn solutions_of<S: Source>(
         changes,
     };
     let plan = modify.pattern.plan();
-    solve_up_to(&query, plan, &[], modify.active, MOST_SOLUTIONS, source, notes)
+    solve_up_to(
+        &query,
+        plan,
+        &[],
+        modify.active,
+        MOST_SOLUTIONS,
+        source,
+        notes,
+    )
 }
 
 /// The change that goes on with an operation, or why the operation fails, from a change to which the operations before it led. WHERE is
