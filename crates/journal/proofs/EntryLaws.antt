@@ -1,7 +1,7 @@
 -- Entries and lines.
-use Rattle.std.specs.Prelude.{ℕ, Bool, ◌==◌, ◌≢◌, ◌+◌, ◌⊎◌, nat_eq, All, Result, Ok, Err, IfOk, MatchResult}
-use Rattle.std.proofs.Common.{◌≡◌, true, false, cond, List, [], ◌∷◌, ◌++◌, Option, Some, None, refl, sym, ap, ◌∙◌, subst, length, take, drop, append_assoc, arith, inl, inr}
-use Rattle.std.specs.List.{list_all, flat_map, starts_with, AllByRecursion}
+use Rattle.std.specs.Prelude.{ℕ, ◌==◌, ◌≢◌, ◌+◌, nat_eq, All, Result, Ok, Err, IfOk, MatchResult}
+use Rattle.std.proofs.Common.{◌≡◌, true, cond, List, [], ◌∷◌, ◌++◌, Option, Some, None, refl, sym, ap, ◌∙◌, subst, length, take, drop, append_assoc, arith, inl, inr}
+use Rattle.std.specs.List.{flat_map, starts_with, AllByRecursion}
 use Rattle.std.specs.Cmp.Lexicographic.{pointwise, same_text}
 use Rattle.std.proofs.lemmas.Bool.{eqb-true}
 use Rattle.std.proofs.lemmas.Cmp.{nat_list_eq_equiv}
@@ -15,9 +15,9 @@ use Rattle.nquads.specs.Tag.{mark_of}
 use Rattle.journal.specs.declared.fault.JournalFault.{JournalFault}
 use Rattle.journal.specs.declared.fault.JournalFault.TheVariants as fault
 use Rattle.journal.specs.declared.lines.Line.{Line}
-use Rattle.journal.specs.Text.{line_body, line_text, first_line, journal_text}
+use Rattle.journal.specs.Text.{line_body, line_text, first_line}
 use Rattle.journal.specs.Lines.{IsLine}
-use Rattle.journal.specs.Journal.{IsJournal, IsForeign, IsBad, IsBadBehind, IsFirstBad}
+use Rattle.journal.specs.Journal.{IsJournal, IsBad, IsBadBehind, IsFirstBad}
 use Rattle.journal.specs.Reading.{line_of}
 use Rattle.journal.specs.Entry.{after_lf, line_at, entry_at, Faults}
 use Rattle.journal.proofs.LineLaws.{TermsArePieces, body_piece}

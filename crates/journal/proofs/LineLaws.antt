@@ -1,16 +1,15 @@
 -- The lines that are written are read.
-use Rattle.std.specs.Prelude.{ℕ, zero, suc, Bool, not, ◌&&◌, ◌==◌, ◌<◌, ◌^◌, nat_eq, nat_lt, codes}
-use Rattle.std.proofs.Common.{◌≡◌, true, false, List, [], ◌∷◌, ◌++◌, Option, Some, None, refl, sym, ap, ◌∙◌, subst, length, drop, IsUtf8, append_assoc, arith}
-use Rattle.std.specs.Str.{IsAscii, is_utf8}
+use Rattle.std.specs.Prelude.{ℕ, zero, suc, Bool, ◌&&◌, nat_lt, codes}
+use Rattle.std.proofs.Common.{◌≡◌, true, List, [], ◌∷◌, ◌++◌, Option, Some, None, refl, subst, IsUtf8, arith}
+use Rattle.std.specs.Str.{IsAscii}
 use Rattle.std.specs.List.{list_all, flat_map}
 use Rattle.std.specs.Fmt.{decimal}
-use Rattle.std.proofs.lemmas.Bool.{eqb-true, ltb-true, and_parts, and_from}
+use Rattle.std.proofs.lemmas.Bool.{ltb-true, and_parts, and_from}
 use Rattle.std.proofs.lemmas.Bool.Decides.{nat_tests}
 use Rattle.std.proofs.lemmas.List.{append-nil}
 use Rattle.std.proofs.lemmas.Str.{IsUtf8-append, IsUtf8-from_ascii, is_utf8-from_IsUtf8}
 use Rattle.iris.specs.Iri.{is_digit}
 use Rattle.iris.specs.Runs.{RunsAreLongest}
-use Rattle.iris.specs.Bracketed.{◌>>=◌}
 use Rattle.datasets.specs.declared.read.Read.{Read}
 use Rattle.datasets.specs.declared.read.Read.TheVariants.{Scan, GraphIs, Graphs}
 use Rattle.datasets.specs.declared.read.GraphPlace.{GraphPlace}
@@ -27,8 +26,7 @@ use Rattle.journal.specs.declared.lines.Reply.TheVariants as reply
 use Rattle.journal.specs.declared.lines.Line.{Line}
 use Rattle.journal.specs.Text.{worker_word, request_word, place_word, graph_word, read_words, event_words, reply_words, spaced, line_body}
 use Rattle.journal.specs.Lines.{IsPlace, IsGraphPlace, IsRead, IsEvent, IsReply, IsLine, IsRequest, IsCount}
-use Rattle.journal.specs.Words.{is_word_byte, word, behind, number_of, number_below}
-use Rattle.journal.specs.ReadTerms.{read_at}
+use Rattle.journal.specs.Words.{is_word_byte, word, behind}
 use Rattle.journal.specs.Reading.{event_at, reply_at, body_at, line_of}
 use Rattle.journal.proofs.NumberLaws.{all_joined, decimal_digits, worker_digits, request_digits, decimal_is_read, worker_is_read, request_is_read}
 use Rattle.journal.proofs.TermLaws.{word_front, word_last, joined, TermsAreRead, read_front}

@@ -1,17 +1,14 @@
 -- The words and terms that are written are read.
-use Rattle.std.specs.Prelude.{ℕ, Bool, not, ◌==◌, ◌<◌, ◌^◌, nat_eq, codes}
-use Rattle.std.proofs.Common.{◌≡◌, true, false, List, [], ◌∷◌, ◌++◌, Option, Some, None, refl, sym, ap, ◌∙◌, length, drop, append_assoc, arith}
+use Rattle.std.specs.Prelude.{ℕ, ◌<◌, ◌^◌, nat_eq, codes}
+use Rattle.std.proofs.Common.{◌≡◌, true, false, List, [], ◌∷◌, ◌++◌, Option, Some, None, refl, sym, ap, ◌∙◌, drop, append_assoc, arith}
 use Rattle.std.specs.List.{list_all, flat_map, starts_with}
 use Rattle.std.specs.Fmt.{decimal}
 use Rattle.std.specs.Cmp.Lexicographic.{pointwise}
 use Rattle.std.proofs.Math.Seq.{take-append_seam, drop-append_seam}
-use Rattle.std.proofs.lemmas.Bool.{eqb-true}
-use Rattle.std.proofs.lemmas.Bool.Decides.{nat_tests}
 use Rattle.std.proofs.lemmas.Cmp.{nat_list_eq_equiv}
 use Rattle.std.proofs.lemmas.List.{append-nil}
 use Rattle.iris.specs.Iri.{is_digit}
-use Rattle.iris.specs.Runs.{run_of, rest_of, RunsAreLongest}
-use Rattle.iris.specs.Bracketed.{◌>>=◌}
+use Rattle.iris.specs.Runs.{RunsAreLongest}
 use Rattle.datasets.specs.declared.read.GraphPlace.{GraphPlace}
 use Rattle.datasets.specs.declared.read.GraphPlace.TheVariants.{Any, Only}
 use Rattle.datasets.specs.declared.read.Read.{Read}

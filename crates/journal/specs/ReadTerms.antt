@@ -1,5 +1,5 @@
 -- The terms of a line, read from left to right.
-use Rattle.std.specs.Prelude.{ℕ, ◌^◌, nat_eq, List, [], length, drop, Option, Some, None, codes, if◌then◌else◌}
+use Rattle.std.specs.Prelude.{ℕ, ◌^◌, nat_eq, List, length, drop, Option, Some, None, codes, if◌then◌else◌}
 use Rattle.std.specs.List.{starts_with}
 use Rattle.std.specs.Cmp.Lexicographic.{pointwise}
 use Rattle.iris.specs.Iri.{is_digit}
