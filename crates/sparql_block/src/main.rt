@@ -5,8 +5,8 @@ ghost use Rattle.std.specs.Prelude.{◌≤◌};
 ghost use Rattle.command_line.specs.CommandLine.{HasWorkers};
 
 use cli::{
-    Fault, InFile, Job, LineFault, Message, OutFile, check_engine, read_job, replay_engine, run_engine,
-    run_with_journal_engine, serial_engine,
+    Fault, InFile, Job, LineFault, Message, OutFile, check_engine, read_job, replay_engine,
+    run_engine, run_with_journal_engine, serial_engine,
 };
 use devices::Watched;
 use std::process::ExitCode;
