@@ -117,8 +117,13 @@ pub fn replay_engine<B: Read, K: Read, J: Read, D: Write, A: Write>(
     ensures write_failures { OneFailedIf (is_unwritten result) dataset.old.failures dataset.new.failures replies.old.failures replies.new.failures }
 {
     let read = read_base(alloc, base)?;
-    let requests = read_block(alloc, block)?;
+    let requests = match read_block(alloc, block) {
+        Ok(requests) => requests,
+        Err(fault) => return Err(fault),
+    };
     let bytes = read_journal_bytes(alloc, journal)?;
-    let texts = texts_of_journal(alloc, read, &requests, bytes)?;
-    write_texts(&texts, dataset, replies)
+    match texts_of_journal(alloc, read, &requests, bytes) {
+        Ok(texts) => write_texts(&texts, dataset, replies),
+        Err(fault) => Err(fault),
+    }
 }
