@@ -9,8 +9,6 @@ mod files;
 #[cfg(test)]
 mod graphs;
 #[cfg(test)]
-mod journals;
-#[cfg(test)]
 mod tests;
 #[cfg(test)]
 mod told_lines;

@@ -10,7 +10,7 @@ use std::sync::Wait;
 use std::thread::Threads;
 
 /// What the engine wrote, and its status.
-#[derive(Drop, PartialEq)]
+#[derive(Drop)]
 pub(crate) struct Answer {
     status: u8,
     dataset: Vec<u8>,
@@ -69,18 +69,6 @@ pub(crate) fn serial_answer_to(alloc: Global, base: &[u8], block: &[u8]) -> Answ
 }
 
 impl Answer {
-    pub(crate) fn new(outcome: &Result<(), Fault>, dataset: Vec<u8>, replies: Vec<u8>) -> Answer {
-        Answer {
-            status: status_of(outcome),
-            dataset,
-            replies,
-        }
-    }
-
-    pub(crate) fn status(&self) -> u8 {
-        self.status
-    }
-
     /// Whether it went well, with a dataset of so many lines and these replies.
     pub(crate) fn has(&self, lines: usize, replies: &str) -> bool {
         self.status == 0
@@ -92,7 +80,7 @@ impl Answer {
 /// A base, a block, the status, the new dataset and the replies.
 pub(crate) type Row = (&'static str, &'static str, u8, &'static str, &'static str);
 
-pub(crate) const ROWS: [Row; 25] = [
+const ROWS: [Row; 25] = [
     ("", "", 0, "", ""),
     ("", "\n", 0, "", "0 ok +0 -0\n"),
     (

@@ -21,8 +21,22 @@ fn told_job(alloc: Global, job: &Job) -> Result<String, AllocError> {
             block,
             out,
             workers,
+            journal: None,
         } => format!(in alloc; "{base} {block} {out} {workers}"),
+        Job::Run {
+            base,
+            block,
+            out,
+            workers,
+            journal: Some(journal),
+        } => format!(in alloc; "{base} {block} {out} {workers} {journal}"),
         Job::Serial { base, block, out } => format!(in alloc; "serial {base} {block} {out}"),
+        Job::Replay {
+            base,
+            block,
+            journal,
+            out,
+        } => format!(in alloc; "replay {base} {block} {journal} {out}"),
         Job::Check { block } => format!(in alloc; "check {block}"),
     }
 }
@@ -37,7 +51,7 @@ fn tell(alloc: Global, line: &str) -> Result<String, AllocError> {
 }
 
 /// Command lines, and what each comes to.
-const COMMANDS: [(&str, &str); 30] = [
+const COMMANDS: [(&str, &str); 34] = [
     ("x run a b c", "a b c 4"),
     ("x run a b c --workers 64", "a b c 64"),
     ("x run --workers=1 a b c", "a b c 1"),
@@ -45,7 +59,11 @@ const COMMANDS: [(&str, &str); 30] = [
     ("x run a b c --workers 65", "2"),
     ("x run a b c --workers x", "2"),
     ("x run a b c --workers", "2"),
-    ("x run a b c --journal never", "2"),
+    ("x run a b c --journal d", "a b c 4 d"),
+    ("x run --journal=d a b c --workers 2", "a b c 2 d"),
+    ("x run a b c --journal", "2"),
+    ("x replay a b c d", "replay a b c d"),
+    ("x replay a b c", "2"),
     ("x run a b c --shards 2", "2"),
     ("x run a b c d", "2"),
     ("x run a b", "2"),
