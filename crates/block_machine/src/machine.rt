@@ -17,7 +17,7 @@ use crate::{incarnations, slot};
 use datasets::{Id, Read};
 use delta::Finished;
 use reads::same::same_reads;
-use reads::{Note, View};
+use reads::{IndexedView, Note, View};
 use stamp_tree::StampTree;
 use std::alloc::{AllocError, Global};
 use std::marker::Model;
@@ -101,7 +101,7 @@ impl Machine {
     }
 
     /// The view of the committed requests.
-    pub fn front_view(&self, alloc: Global, base: &View) -> Result<View, AllocError>
+    pub fn front_view(&self, alloc: Global, base: &IndexedView) -> Result<View, AllocError>
         requires { self.now.front ≤ length self.now.slots }
         ensures { IfOk result (λ view. view ≡ view_at base.now self.now.slots self.now.front) }
     {
@@ -120,7 +120,7 @@ impl Machine {
     pub fn step(
         &mut self,
         alloc: Global,
-        base: &View,
+        base: &IndexedView,
         worker: u32,
         event: &Event,
     ) -> Result<(Reply, Reply), AllocError>
@@ -185,7 +185,7 @@ impl Machine {
     fn read(
         &mut self,
         alloc: Global,
-        base: &View,
+        base: &IndexedView,
         worker: u32,
         i: usize,
         n: u64,
@@ -288,7 +288,7 @@ impl Machine {
     pub fn check_as(
         &mut self,
         alloc: Global,
-        base: &View,
+        base: &IndexedView,
         worker: u32,
         i: usize,
         n: u64,
@@ -310,7 +310,7 @@ impl Machine {
     fn check(
         &mut self,
         alloc: Global,
-        base: &View,
+        base: &IndexedView,
         worker: u32,
         i: usize,
         n: u64,
@@ -355,7 +355,7 @@ impl Machine {
     fn next_verdict(
         &self,
         alloc: Global,
-        base: &View,
+        base: &IndexedView,
         i: usize,
         stands: Pass,
         passed: bool,
@@ -467,7 +467,7 @@ fn twice(reply: Reply) -> (Reply, Reply)
 // The read, its answer, and its touching list.
 fn noted(
     alloc: Global,
-    base: &View,
+    base: &IndexedView,
     slots: &[Slot],
     list: &[usize],
     i: usize,

@@ -9,7 +9,7 @@ use crate::spoken::Spoken;
 use crate::state::{Noted, Slot};
 use crate::version_overlay::{answer_before, blocker, touching};
 use datasets::{Id, Read};
-use reads::View;
+use reads::IndexedView;
 use std::alloc::{AllocError, Global};
 
 /// What a check of a note finds.
@@ -26,7 +26,7 @@ pub enum Verdict {
 /// Compares a note's answer with the answer now, at request `i`.
 pub(crate) fn check(
     alloc: Global,
-    base: &View,
+    base: &IndexedView,
     spoken: &Spoken,
     slots: &[Slot],
     i: usize,

@@ -10,12 +10,17 @@ ghost use Rattle.block_machine.specs.Lower.{Leads};
 use crate::state::Slot;
 use datasets::{Id, Read};
 use delta::Delta;
-use reads::{Answered, View};
+use reads::{Answered, IndexedView, View};
 use sets::Items;
 use std::alloc::{AllocError, Global};
 
 /// The base with the deltas of the requests below `i`.
-pub fn view_before(alloc: Global, base: &View, slots: &[Slot], i: usize) -> Result<View, AllocError>
+pub fn view_before(
+    alloc: Global,
+    base: &IndexedView,
+    slots: &[Slot],
+    i: usize,
+) -> Result<View, AllocError>
     requires { i ≤ length slots.now }
     ensures { IfOk result (λ view. view ≡ view_at base.now slots.now i) }
 {
@@ -45,7 +50,7 @@ fn changes(alloc: Global, slots: &[Slot], low: usize, high: usize) -> Result<Del
 #[tactic(auto, using(crate::proofs::Overlay::starts))]
 pub fn answer_before(
     alloc: Global,
-    base: &View,
+    base: &IndexedView,
     slots: &[Slot],
     list: &[usize],
     i: usize,
@@ -68,7 +73,7 @@ pub fn answer_before(
 #[tactic(auto, using(crate::proofs::Overlay::next_covered, crate::proofs::Overlay::next_uncovered))]
 fn applied_part(
     alloc: Global,
-    base: &View,
+    base: &IndexedView,
     slots: &[Slot],
     j: usize,
     read: &Read<Id>,

@@ -13,7 +13,7 @@ use datasets::Id;
 use delta::Outcome;
 use dict::Dict;
 use meaning::Request;
-use reads::View;
+use reads::{IndexedView, View};
 use sets::Items;
 use std::alloc::{AllocError, Global};
 use std::marker::Model;
@@ -22,7 +22,7 @@ use std::marker::Model;
 #[derive(Drop)]
 pub struct Book<'a> {
     terms: &'a Dict,
-    base: &'a View,
+    base: &'a IndexedView,
     block: &'a [Request<Id>],
     machine: Machine,
     journal: Vec<Entry>,
@@ -48,7 +48,7 @@ impl<'a> Book<'a> {
     pub fn new(
         alloc: Global,
         terms: &'a Dict,
-        base: &'a View,
+        base: &'a IndexedView,
         block: &'a [Request<Id>],
     ) -> Result<Book<'a>, AllocError>
         requires { IsDataset base.now }
@@ -214,7 +214,7 @@ impl<'a> Book<'a> {
     }
 
     /// The dataset before the first request.
-    pub fn base(&self) -> &'a View
+    pub fn base(&self) -> &'a IndexedView
         ensures { result.now ≡ self.now.base }
     {
         self.base

@@ -5,6 +5,7 @@ ghost use Rattle.std.specs.List.Sorted.{IsStrictlySortedBy};
 ghost use Rattle.sets.specs.Sets.{has, without, union, set_of as the_set_of};
 ghost use Rattle.datasets.specs.Id.{id_order};
 ghost use Rattle.datasets.specs.Dataset.{quad_order, matches};
+ghost use Rattle.change_laws.specs.Laws.{IsRising};
 ghost use Rattle.reads.specs.Reads.{View as Dataset, says, applied, covers as the_covers, no_change};
 ghost use Rattle.delta.specs.Same.{delta_eq};
 
@@ -12,20 +13,20 @@ use crate::lists::{has_names, names_without, quads_without};
 use datasets::{Id, Quad, QuadPattern, Read};
 use quad_index::matching::{is_any_in_set, matching};
 use quad_index::part_of_set;
-use reads::View;
 use reads::lists::{copied_names, copied_quads, name_if, names_union, quads_union};
 use reads::same::{same_names, same_quads};
+use reads::{SharedItems, View};
 use sets::{is_member, set_of};
 use std::alloc::{AllocError, Global};
 use std::marker::Model;
 
-/// A change: quads that come to be present or absent, and graphs that come to be there or gone.
+/// A change: quads that come to be present or absent, and graphs that come to be there or gone. Its lists are shared, and not copied.
 #[derive(Drop)]
 pub struct Delta {
-    present: Vec<Quad<Id>>,
-    absent: Vec<Quad<Id>>,
-    there: Vec<Id>,
-    gone: Vec<Id>,
+    present: SharedItems<Quad<Id>>,
+    absent: SharedItems<Quad<Id>>,
+    there: SharedItems<Id>,
+    gone: SharedItems<Id>,
 }
 
 impl Model for Delta {
@@ -34,47 +35,63 @@ impl Model for Delta {
 
     ghost Value = { Change Id };
 
-    ghost view = { λ d. record { present = d.present.items; absent = d.absent.items; there = d.there.items; gone = d.gone.items } };
+    ghost view = { λ d. record { present = d.present; absent = d.absent; there = d.there; gone = d.gone } };
 
     ghost use Rattle.datasets.specs.Id.{id_order};
     ghost use Rattle.change_laws.specs.Laws.{IsRising};
 
-    ghost invariant = { λ d. IsRising id_order (record { quads = d.present.items; names = d.there.items }) × IsRising id_order (record { quads = d.absent.items; names = d.gone.items }) };
+    ghost invariant = { λ d. IsRising id_order (record { quads = d.present; names = d.there }) × IsRising id_order (record { quads = d.absent; names = d.gone }) };
 }
 
 impl Delta {
-    /// No change.
-    pub fn new(alloc: Global) -> Self
+    /// No change. It takes no memory.
+    pub fn new(_alloc: Global) -> Self
         ensures { result ≡ no_change }
     {
-        let (present, absent) = (Vec::new(alloc), Vec::new(alloc));
-        let (there, gone) = (Vec::new(alloc), Vec::new(alloc));
         Delta {
-            present,
-            absent,
-            there,
-            gone,
+            present: SharedItems::new(),
+            absent: SharedItems::new(),
+            there: SharedItems::new(),
+            gone: SharedItems::new(),
         }
     }
 
-    /// The change that speaks of the sets of these, in any order and with repeats. It takes no memory.
+    /// The change that speaks of the sets of these, in any order and with repeats.
     pub fn from_parts(
+        alloc: Global,
         present: Vec<Quad<Id>>,
         absent: Vec<Quad<Id>>,
         there: Vec<Id>,
         gone: Vec<Id>,
-    ) -> Self
-        ensures present { result.present ≡ the_set_of (quad_order id_order) present.items }
-        ensures absent { result.absent ≡ the_set_of (quad_order id_order) absent.items }
-        ensures there { result.there ≡ the_set_of id_order there.items }
-        ensures gone { result.gone ≡ the_set_of id_order gone.items }
+    ) -> Result<Self, AllocError>
+        ensures present { IfOk result (λ change. change.present ≡ the_set_of (quad_order id_order) present.items) }
+        ensures absent { IfOk result (λ change. change.absent ≡ the_set_of (quad_order id_order) absent.items) }
+        ensures there { IfOk result (λ change. change.there ≡ the_set_of id_order there.items) }
+        ensures gone { IfOk result (λ change. change.gone ≡ the_set_of id_order gone.items) }
     {
-        Delta {
-            present: set_of(present),
-            absent: set_of(absent),
-            there: set_of(there),
-            gone: set_of(gone),
-        }
+        let (present, absent) = (set_of(present), set_of(absent));
+        let (there, gone) = (set_of(there), set_of(gone));
+        Delta::from_sets(alloc, present, absent, there, gone)
+    }
+
+    /// The change that speaks of these sets.
+    pub fn from_sets(
+        alloc: Global,
+        present: Vec<Quad<Id>>,
+        absent: Vec<Quad<Id>>,
+        there: Vec<Id>,
+        gone: Vec<Id>,
+    ) -> Result<Self, AllocError>
+        requires come { IsRising id_order (record { quads = present.items; names = there.items }) }
+        requires go { IsRising id_order (record { quads = absent.items; names = gone.items }) }
+        ensures { IfOk result (λ change. change ≡ record { present = present.items; absent = absent.items; there = there.items; gone = gone.items }) }
+    {
+        Ok(Delta {
+            present: SharedItems::from_vec(alloc, present)?,
+            absent: SharedItems::from_vec(alloc, absent)?,
+            there: SharedItems::from_vec(alloc, there)?,
+            gone: SharedItems::from_vec(alloc, gone)?,
+        })
     }
 
     /// The quads that come to be present.
@@ -116,10 +133,10 @@ impl Delta {
     {
         match read {
             Read::Scan(pattern) => {
-                is_any_in_set(&self.present, pattern) || is_any_in_set(&self.absent, pattern)
+                is_any_in_set(self.present(), pattern) || is_any_in_set(self.absent(), pattern)
             }
-            Read::GraphIs(name) => is_member(&self.there, name) || is_member(&self.gone, name),
-            Read::Graphs => has_names(&self.there) || has_names(&self.gone),
+            Read::GraphIs(name) => is_member(self.there(), name) || is_member(self.gone(), name),
+            Read::Graphs => has_names(self.there()) || has_names(self.gone()),
         }
     }
 
@@ -127,41 +144,29 @@ impl Delta {
     fn matching_part(&self, alloc: Global, pattern: &QuadPattern<Id>) -> Result<Delta, AllocError>
         ensures { IfOk result (λ part. part ≡ record { present = filter (matches id_order pattern.now) self.now.present; absent = filter (matches id_order pattern.now) self.now.absent; there = []; gone = [] }) }
     {
-        let present = matching(alloc, pattern, part_of_set(&self.present, pattern))?;
-        let absent = matching(alloc, pattern, part_of_set(&self.absent, pattern))?;
-        Ok(Delta {
-            present,
-            absent,
-            there: Vec::new(alloc),
-            gone: Vec::new(alloc),
-        })
+        let present = matching(alloc, pattern, part_of_set(self.present(), pattern))?;
+        let absent = matching(alloc, pattern, part_of_set(self.absent(), pattern))?;
+        Delta::from_sets(alloc, present, absent, Vec::new(alloc), Vec::new(alloc))
     }
 
     // The graph of this name, if the change speaks of it.
     fn name_part(&self, alloc: Global, name: &Id) -> Result<Delta, AllocError>
         ensures { IfOk result (λ part. part ≡ record { present = []; absent = []; there = if has id_order self.now.there name.now then name.now ∷ [] else []; gone = if has id_order self.now.gone name.now then name.now ∷ [] else [] }) }
     {
-        let there = name_if(alloc, is_member(&self.there, name), name)?;
-        let gone = name_if(alloc, is_member(&self.gone, name), name)?;
-        Ok(Delta {
-            present: Vec::new(alloc),
-            absent: Vec::new(alloc),
-            there,
-            gone,
-        })
+        let there = name_if(alloc, is_member(self.there(), name), name)?;
+        let gone = name_if(alloc, is_member(self.gone(), name), name)?;
+        Delta::from_sets(alloc, Vec::new(alloc), Vec::new(alloc), there, gone)
     }
 
     // The graphs.
-    fn names_part(&self, alloc: Global) -> Result<Delta, AllocError>
+    fn names_part(&self) -> Result<Delta, AllocError>
         ensures { IfOk result (λ part. part ≡ record { present = []; absent = []; there = self.now.there; gone = self.now.gone }) }
     {
-        let there = copied_names(alloc, &self.there)?;
-        let gone = copied_names(alloc, &self.gone)?;
         Ok(Delta {
-            present: Vec::new(alloc),
-            absent: Vec::new(alloc),
-            there,
-            gone,
+            present: SharedItems::new(),
+            absent: SharedItems::new(),
+            there: self.there.copied()?,
+            gone: self.gone.copied()?,
         })
     }
 
@@ -172,7 +177,7 @@ impl Delta {
         match read {
             Read::Scan(pattern) => self.matching_part(alloc, pattern),
             Read::GraphIs(name) => self.name_part(alloc, name),
-            Read::Graphs => self.names_part(alloc),
+            Read::Graphs => self.names_part(),
         }
     }
 
@@ -182,10 +187,10 @@ impl Delta {
         ensures { IfOk result (λ after. after ≡ applied self.now view) }
     {
         let (quads, names) = view.into_parts();
-        let present = copied_quads(alloc, &self.present)?;
-        let there = copied_names(alloc, &self.there)?;
-        let quads = quads_union(quads_without(quads, &self.absent), present)?;
-        let names = names_union(names_without(names, &self.gone), there)?;
+        let present = copied_quads(alloc, self.present())?;
+        let there = copied_names(alloc, self.there())?;
+        let quads = quads_union(quads_without(quads, self.absent()), present)?;
+        let names = names_union(names_without(names, self.gone()), there)?;
         Ok(View::from_sets(quads, names))
     }
 
@@ -193,37 +198,26 @@ impl Delta {
     pub fn followed_by(self, alloc: Global, later: &Delta) -> Result<Delta, AllocError>
         ensures { IfOk result (λ both. (d : Dataset) → applied both d ≡ applied later.now (applied self d)) }
     {
-        let Delta {
-            present,
-            absent,
-            there,
-            gone,
-        } = self;
-        let more_present = copied_quads(alloc, &later.present)?;
-        let more_absent = copied_quads(alloc, &later.absent)?;
-        let more_there = copied_names(alloc, &later.there)?;
-        let more_gone = copied_names(alloc, &later.gone)?;
-        Ok(Delta {
-            present: quads_union(quads_without(present, &later.absent), more_present)?,
-            absent: quads_union(absent, more_absent)?,
-            there: names_union(names_without(there, &later.gone), more_there)?,
-            gone: names_union(gone, more_gone)?,
-        })
+        let left = quads_without(self.present.into_vec(alloc)?, later.absent());
+        let present = quads_union(left, copied_quads(alloc, later.present())?)?;
+        let earlier = self.absent.into_vec(alloc)?;
+        let absent = quads_union(earlier, copied_quads(alloc, later.absent())?)?;
+        let left = names_without(self.there.into_vec(alloc)?, later.gone());
+        let there = names_union(left, copied_names(alloc, later.there())?)?;
+        let earlier = self.gone.into_vec(alloc)?;
+        let gone = names_union(earlier, copied_names(alloc, later.gone())?)?;
+        Delta::from_sets(alloc, present, absent, there, gone)
     }
 
-    /// The same change again.
-    pub fn copied(&self, alloc: Global) -> Result<Self, AllocError>
+    /// The same change again, with the same lists. It takes no memory, and fails only where they have too many owners.
+    pub fn copied(&self, _alloc: Global) -> Result<Self, AllocError>
         ensures { IfOk result (λ copy. copy ≡ self.now) }
     {
-        let present = copied_quads(alloc, &self.present)?;
-        let absent = copied_quads(alloc, &self.absent)?;
-        let there = copied_names(alloc, &self.there)?;
-        let gone = copied_names(alloc, &self.gone)?;
         Ok(Delta {
-            present,
-            absent,
-            there,
-            gone,
+            present: self.present.copied()?,
+            absent: self.absent.copied()?,
+            there: self.there.copied()?,
+            gone: self.gone.copied()?,
         })
     }
 
@@ -231,9 +225,9 @@ impl Delta {
     pub fn is_same(&self, other: &Delta) -> bool
         ensures { result ≡ delta_eq self.now other.now }
     {
-        same_quads(&self.present, &other.present)
-            && same_quads(&self.absent, &other.absent)
-            && same_names(&self.there, &other.there)
-            && same_names(&self.gone, &other.gone)
+        same_quads(self.present(), other.present())
+            && same_quads(self.absent(), other.absent())
+            && same_names(self.there(), other.there())
+            && same_names(self.gone(), other.gone())
     }
 }

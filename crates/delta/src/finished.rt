@@ -2,7 +2,7 @@
 ghost use Rattle.std.specs.Prelude.{◌≡◌, IfOk};
 
 use crate::delta::Delta;
-use reads::{Note, View};
+use reads::{Note, SharedItems, View};
 use sets::Items;
 use std::alloc::{AllocError, Global};
 
@@ -10,7 +10,7 @@ use std::alloc::{AllocError, Global};
 /// Specs/Sound.antt says when it is sound.
 #[derive(Drop)]
 pub struct Finished {
-    pub transcript: Items<Note>,
+    pub transcript: SharedItems<Note>,
     pub delta: Delta,
     pub reply: meaning::Reply,
 }
@@ -23,18 +23,13 @@ pub struct Outcome {
 }
 
 impl Finished {
-    /// The same again.
+    /// The same again: its transcript and its change are shared, and not copied.
     pub fn copied(&self, alloc: Global) -> Result<Finished, AllocError>
         ensures { IfOk result (λ copy. copy ≡ self.now) }
     {
-        let mut notes = Vec::new(alloc);
-        for note in self.transcript.as_slice() {
-            notes.push(note.copied(alloc)?)?;
-        }
-        let delta = self.delta.copied(alloc)?;
         Ok(Finished {
-            transcript: Items::from_vec(notes),
-            delta,
+            transcript: self.transcript.copied()?,
+            delta: self.delta.copied(alloc)?,
             reply: self.reply,
         })
     }

@@ -1,10 +1,11 @@
--- Those that are none of some values.
+-- Sets of some values, and those that are none of them.
 use Rattle.std.specs.Prelude.{not, cond}
 use Rattle.std.specs.declared.cmp.Ordering.{Ordering}
 use Rattle.std.specs.Cmp.{IsTotalOrder}
-use Rattle.std.proofs.Common.{◌≡◌, List, [], ◌∷◌, refl}
+use Rattle.std.specs.List.Sorted.{IsStrictlySortedBy}
+use Rattle.std.proofs.Common.{◌≡◌, List, [], ◌∷◌, refl, sym, subst}
 use Rattle.sets.specs.Sets.{set_of, without}
-use Rattle.sets.proofs.SetLaws.{has-set_of}
+use Rattle.sets.proofs.SetLaws.{has-set_of, sorted-set_of}
 
 module _ {A : Type 0} {R : A → A → Ordering} (o : IsTotalOrder R) where
   -- those outside the set of some values are those that are none of them
@@ -12,3 +13,6 @@ module _ {A : Type 0} {R : A → A → Ordering} (o : IsTotalOrder R) where
   outside_set [] ys = refl
   outside_set (x ∷ xs) ys =
       λ i. cond (not (has-set_of o x ys i)) (x ∷ outside_set xs ys i) (outside_set xs ys i)
+
+  pub rises_as_set : (xs ys : List A) → xs ≡ set_of R ys → IsStrictlySortedBy R xs
+  rises_as_set xs ys e = subst (λ zs. IsStrictlySortedBy R zs) (sym e) (sorted-set_of o ys)

@@ -6,10 +6,11 @@ ghost use Rattle.datasets.specs.Id.{id_order};
 ghost use Rattle.eval.specs.Changes.{seen_through, replaced_change, with_replaced};
 ghost use Rattle.reads.specs.Reads.{View, applied};
 
-use crate::lacking::{names_lacking, quads_lacking};
+use crate::lacking::{names_outside, quads_lacking, quads_outside};
 use datasets::{Id, Quad, QuadPattern};
 use delta::Delta;
 use quad_index::matching::matching;
+use quad_index::part_of_set;
 use reads::lists::{copied_names, copied_quads, names_union, quads_union};
 use sets::is_member;
 use std::alloc::{AllocError, Global};
@@ -24,8 +25,9 @@ pub fn quads_after(
     ensures { IfOk result (λ quads. quads.items ≡ seen_through changes.now pattern.now told.now) }
 {
     let matched = matching(alloc, pattern, told)?;
-    let kept = quads_lacking(alloc, &matched, changes.absent())?;
-    let added = matching(alloc, pattern, changes.present())?;
+    let kept = quads_outside(alloc, &matched, changes.absent())?;
+    let part = part_of_set(changes.present(), pattern);
+    let added = matching(alloc, pattern, part)?;
     quads_union(kept, added)
 }
 
@@ -33,7 +35,7 @@ pub fn quads_after(
 pub fn names_after(alloc: Global, changes: &Delta, told: &[Id]) -> Result<Vec<Id>, AllocError>
     ensures { IfOk result (λ names. names.items ≡ union id_order (without id_order told.now changes.now.gone) changes.now.there) }
 {
-    let kept = names_lacking(alloc, told, changes.gone())?;
+    let kept = names_outside(alloc, told, changes.gone())?;
     let added = copied_names(alloc, changes.there())?;
     names_union(kept, added)
 }
@@ -62,14 +64,12 @@ pub fn replaced(
     ensures change { IfOk result (λ change. change ≡ replaced_change changes.now deleted.items inserted.items) }
     ensures effect { IfOk result (λ change. (d : View) → applied change d ≡ with_replaced (applied changes.now d) deleted.items inserted.items) }
 {
-    let mut deleted = deleted;
-    let mut inserted = inserted;
-    let mut there = copied_names(alloc, changes.there())?;
-    there.append(&mut names_of(alloc, &inserted)?)?;
+    let names = names_of(alloc, &inserted)?;
+    let there = names_union(copied_names(alloc, changes.there())?, names)?;
     let gone = copied_names(alloc, changes.gone())?;
-    let mut present = quads_lacking(alloc, changes.present(), &deleted)?;
-    present.append(&mut inserted)?;
-    let mut absent = copied_quads(alloc, changes.absent())?;
-    absent.append(&mut deleted)?;
-    Ok(Delta::from_parts(present, absent, there, gone))
+    let kept = quads_lacking(alloc, changes.present(), &deleted)?;
+    let present = quads_union(kept, inserted)?;
+    let absent = quads_union(copied_quads(alloc, changes.absent())?, deleted)?;
+    let change = Delta::from_sets(alloc, present, absent, there, gone)?;
+    Ok(change)
 }

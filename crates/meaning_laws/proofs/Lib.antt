@@ -11,3 +11,4 @@ pub mod Answers
 pub mod Members
 pub mod Bindings
 pub mod BasicPatterns
+pub mod SetMembers

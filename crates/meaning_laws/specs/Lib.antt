@@ -1,3 +1,4 @@
 pub mod Renaming
 pub mod Answers
 pub mod BasicPatterns
+pub mod Members

@@ -2,6 +2,7 @@
 ghost use Rattle.meaning_laws.specs.Renaming.{CarriesRun};
 ghost use Rattle.meaning_laws.specs.Answers.{AnswersWithDatasets, GoesOnByOne};
 ghost use Rattle.meaning_laws.specs.BasicPatterns.{JoinsAreSolutions};
+ghost use Rattle.meaning_laws.specs.Members.{SetsHaveMembers, MembersMakeSets};
 
 /// The run of a renamed block on a renamed dataset is the renamed run, with the same replies.
 pub fn run_is_renamed<A, B>()
@@ -22,4 +23,10 @@ pub fn goes_on_by_one<K>()
 /// that bind just the variables of the pattern and under which it is a part of the graph.
 pub fn joins_are_solutions<K>()
     ensures { JoinsAreSolutions K }
+{}
+
+/// The set of a list's members rises strictly and has just the values that the list has; and it is the one list that does.
+pub fn sets_are_members<A>()
+    ensures members { SetsHaveMembers A }
+    ensures one { MembersMakeSets A }
 {}

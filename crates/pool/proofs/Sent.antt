@@ -9,7 +9,7 @@ use denote.Struct.Tuple.{TupleAt}
 use denote.RattleType.{RattleType}
 use denote.Param.Send.{IsSend, IsSync, sendable, param_send, arg_send}
 use Rattle.std.proofs.Crossing.{crosses}
-use Rattle.shared.proofs.Sent.{requests, dict, view, shared, passes}
+use Rattle.shared.proofs.Sent.{requests, dict, indexed_view, shared, passes}
 use Rattle.std.specs.contracts.alloc.Global as Global
 use Rattle.std.specs.contracts.alloc.AllocError as AllocError
 use Rattle.std.proofs.alloc.AllocError.TheSendSync as refused
@@ -26,7 +26,7 @@ use Rattle.pool.specs.contracts.worker.Workers as Workers
 
 module _ (a lent : NamedLft) (T G : RattleType) (y : IsSync T) (z : IsSync G) where
   workers : IsSend (Workers.the_row lent a T G)
-  workers = let s = shared a in let r = requests in let d = dict in let v = view in search (sendable, crosses) depth 20
+  workers = let s = shared a in let r = requests in let d = dict in let v = indexed_view in search (sendable, crosses) depth 20
 
   pub crew : IsSend (Crew.the_row lent a T G)
   crew = let w = workers in let p = passes a in search (sendable, crosses) depth 20

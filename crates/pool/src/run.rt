@@ -15,7 +15,7 @@ use datasets::Id;
 use delta::Outcome;
 use dict::Dict;
 use meaning::Request;
-use reads::View;
+use reads::IndexedView;
 use shared::{Pass, SharedBlock};
 use std::alloc::{AllocError, Global};
 use std::sync::Wait;
@@ -26,7 +26,7 @@ use std::thread::Threads;
 fn opened<'a>(
     alloc: Global,
     terms: &'a Dict,
-    base: &'a View,
+    base: &'a IndexedView,
     block: &'a [Request<Id>],
     workers: u32,
 ) -> Result<(SharedBlock<'a>, Vec<Pass<'a>>), AllocError>
@@ -46,7 +46,7 @@ pub fn run_book<'a, R: Threads + Wait + Sync, G: Gate + Sync>(
     rt: &R,
     alloc: Global,
     terms: &'a Dict,
-    base: &'a View,
+    base: &'a IndexedView,
     block: &'a [Request<Id>],
     workers: u32,
     gate: &G,
@@ -84,7 +84,7 @@ pub fn run_block<R: Threads + Wait + Sync, G: Gate + Sync>(
     rt: &R,
     alloc: Global,
     terms: &Dict,
-    base: &View,
+    base: &IndexedView,
     block: &[Request<Id>],
     workers: u32,
     gate: &G,

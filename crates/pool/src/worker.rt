@@ -13,7 +13,7 @@ use datasets::Id;
 use delta::Finished;
 use dict::Dict;
 use meaning::Request;
-use reads::{Stop, View};
+use reads::{IndexedView, Stop};
 use scheduler::Task;
 use shared::{Pass, SharedBlock};
 use std::alloc::{AllocError, Global};
@@ -36,7 +36,7 @@ pub struct Workers<'s, 'a, R: Wait, G: Gate> {
     pub(crate) alloc: Global,
     pub(crate) shared: &'s SharedBlock<'a>,
     pub(crate) terms: &'a Dict,
-    pub(crate) base: &'a View,
+    pub(crate) base: &'a IndexedView,
     pub(crate) block: &'a [Request<Id>],
     pub(crate) gate: &'s G,
     // Whether one of them was refused memory.

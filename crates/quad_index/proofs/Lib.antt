@@ -1,3 +1,4 @@
+pub mod Alike
 pub mod Joined
 pub mod Requests
 pub mod Searching

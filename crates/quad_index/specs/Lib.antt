@@ -1,2 +1,4 @@
 pub mod Keys
 pub mod Hints
+pub mod Known
+pub mod Index

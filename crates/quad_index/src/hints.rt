@@ -6,10 +6,10 @@ ghost use Rattle.datasets.specs.Dataset.{matches};
 ghost use Rattle.quad_index.specs.declared.run.Hint.{Hint};
 ghost use Rattle.quad_index.specs.Hints.{hints_of};
 
-use crate::key::Arrangement;
+use crate::key::{Arrangement, order_for};
 use crate::run::Hint;
 use crate::sorted_hints::SortedHints;
-use datasets::{GraphPlace, Id, Quad, QuadPattern};
+use datasets::{Id, Quad, QuadPattern};
 use std::alloc::{AllocError, Global};
 use std::marker::Model;
 
@@ -92,23 +92,5 @@ impl Hints {
         ensures { IfOk result (λ found. (j : ℕ) → list_any (λ h. matches id_order pattern.now h.quad && (h.request == j)) self.now ≡ true → list_any (λ r. r == j) found.items ≡ true) }
     {
         self.sorted(order_for(pattern)).requests(alloc, pattern)
-    }
-}
-
-// The order that begins with the bound places.
-fn order_for(pattern: &QuadPattern<Id>) -> Arrangement {
-    let s = pattern.subject.is_some();
-    let p = pattern.predicate.is_some();
-    let o = pattern.object.is_some();
-    let g = matches!(pattern.graph, GraphPlace::Only(_));
-    match (s, p, o, g) {
-        (true, true, true, _) | (true, _, false, false) | (false, false, false, false) => {
-            Arrangement::Spog
-        }
-        (false, true, true, _) | (false, true, false, false) => Arrangement::Pogs,
-        (false, false, true, _) | (true, false, true, true) => Arrangement::Ogsp,
-        (true, _, false, true) | (false, false, false, true) => Arrangement::Gspo,
-        (false, true, false, true) => Arrangement::Gpso,
-        (true, false, true, false) => Arrangement::Ospg,
     }
 }

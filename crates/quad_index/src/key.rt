@@ -25,6 +25,15 @@ pub enum Arrangement {
     Ospg,
 }
 
+/// The five orders beside SPOG.
+pub const BESIDE_SPOG: [Arrangement; 5] = [
+    Arrangement::Pogs,
+    Arrangement::Ogsp,
+    Arrangement::Gspo,
+    Arrangement::Gpso,
+    Arrangement::Ospg,
+];
+
 /// How many of the first places are bound.
 #[derive(Clone, Copy, PartialEq, Eq, Debug)]
 pub enum Depth {
@@ -184,5 +193,23 @@ impl Depth {
             }
             Depth::Four => key.cmp(target),
         }
+    }
+}
+
+/// The order that begins with the bound places.
+pub(crate) fn order_for(pattern: &QuadPattern<Id>) -> Arrangement {
+    let s = pattern.subject.is_some();
+    let p = pattern.predicate.is_some();
+    let o = pattern.object.is_some();
+    let g = matches!(pattern.graph, GraphPlace::Only(_));
+    match (s, p, o, g) {
+        (true, true, true, _) | (true, _, false, false) | (false, false, false, false) => {
+            Arrangement::Spog
+        }
+        (false, true, true, _) | (false, true, false, false) => Arrangement::Pogs,
+        (false, false, true, _) | (true, false, true, true) => Arrangement::Ogsp,
+        (true, _, false, true) | (false, false, false, true) => Arrangement::Gspo,
+        (false, true, false, true) => Arrangement::Gpso,
+        (true, false, true, false) => Arrangement::Ospg,
     }
 }

@@ -1,15 +1,21 @@
-//! Quads in sorted orders: the six orders of a quad's places, binary search in entries that are sorted by one of them, and hints, which
-//! say at which request of a block a quad may have been spoken of. Stands on `datasets`.
+//! Quads in sorted orders: the six orders of a quad's places, binary search in entries that are sorted by one of them, a set of quads kept
+//! in several of them, and hints, which say at which request of a block a quad may have been spoken of. Stands on `datasets`.
 //!
-//! The contracts used above: `part_of_set` has all quads of a set that a pattern matches; what `Hints::put` put, `Hints::requests` finds.
+//! The contracts used above: `part_of_set` has all quads of a set that a pattern matches; `Index::scan` is a filter of the whole set; what
+//! `Hints::put` put, `Hints::requests` finds.
 #![tactic(auto)]
 
 mod hints;
+mod index;
 mod key;
+mod known;
 pub mod matching;
+mod order;
 mod run;
 mod search;
 mod sorted_hints;
 
 pub use hints::Hints;
+pub use index::Index;
+pub use key::{Arrangement, BESIDE_SPOG};
 pub use search::part_of_set;

@@ -1,15 +1,16 @@
 -- A read asks only for what matches of a dataset.
 use Rattle.std.specs.Prelude.{Bool, filter, ◌||◌, if◌then◌else◌}
-use Rattle.std.proofs.Common.{◌≡◌, true, false, cond, List, [], ◌∷◌, refl, ap, ◌∙◌}
+use Rattle.std.proofs.Common.{◌≡◌, true, false, cond, List, [], ◌∷◌, refl, sym, ap, ◌∙◌}
 use Rattle.std.specs.Cmp.{tied_itself}
 use Rattle.std.specs.Ordering.{is_eq}
 use Rattle.sets.specs.Sets.{has}
 use Rattle.datasets.specs.declared.id.Id.{Id}
+use Rattle.datasets.specs.declared.quad.Quad.{Quad}
 use Rattle.datasets.specs.declared.read.QuadPattern.{QuadPattern}
 use Rattle.datasets.specs.declared.read.Read.TheVariants.{Scan, GraphIs, Graphs}
-use Rattle.datasets.specs.Dataset.{Quads, Is, matches}
+use Rattle.datasets.specs.Dataset.{Quads, Is, Names, matches}
 use Rattle.datasets.specs.Id.{id_order, id_total}
-use Rattle.reads.specs.Reads.{View, says}
+use Rattle.reads.specs.Reads.{View, Read, says}
 
 filter_kept : {A : Type 0} (p : A → Bool) (b : Bool) (x : A) (xs : List A) → p x ≡ b → filter p xs ≡ xs → filter p (cond b (x ∷ xs) xs) ≡ cond b (x ∷ xs) xs
 filter_kept p true x xs e h = ap (λ t. cond t (x ∷ filter p xs) (filter p xs)) e ∙ ap (λ ys. x ∷ ys) h
@@ -34,3 +35,17 @@ says-name g d = ap Is (has_one g (has id_order d.names g))
 pub says-names : (d : View) → says Graphs (record { quads = []; names = d.names }) ≡ says Graphs d
 unfolding says
 says-names d = refl
+
+-- ---- datasets with the same names
+
+pub says-one_name : (r : Read) (g : Id) (a b : View) → a.names ≡ b.names → r ≡ GraphIs g → says r a ≡ says r b
+unfolding says
+says-one_name r g a b e is = ap (λ z. says z a) is ∙ ap (λ (ns : List Id). Is (has id_order ns g)) e ∙ ap (λ z. says z b) (sym is)
+
+pub says-each_name : (r : Read) (a b : View) → a.names ≡ b.names → r ≡ Graphs → says r a ≡ says r b
+unfolding says
+says-each_name r a b e is = ap (λ z. says z a) is ∙ ap Names e ∙ ap (λ z. says z b) (sym is)
+
+pub says-quads : (r : Read) (p : QuadPattern Id) (quads : List (Quad Id)) (d : View) → quads ≡ filter (matches id_order p) d.quads → r ≡ Scan p → Quads quads ≡ says r d
+unfolding says
+says-quads r p quads d e is = ap Quads e ∙ ap (λ z. says z d) (sym is)

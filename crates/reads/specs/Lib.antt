@@ -1,3 +1,4 @@
 pub mod Reads
 pub mod Same
 pub mod Runs
+pub mod Shared

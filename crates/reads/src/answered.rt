@@ -4,40 +4,43 @@ ghost use Rattle.datasets.specs.Dataset.{told, Quads, Is, Names};
 ghost use Rattle.reads.specs.Reads.{told_quads, told_names, told_is};
 ghost use Rattle.reads.specs.Same.{answer_eq};
 
-use crate::lists::{copied_names, copied_quads};
 use crate::same::{same_bool, same_names, same_quads};
 use datasets::{Answer, Id, Quad};
 use std::alloc::{AllocError, Global};
 use std::marker::Model;
+use std::sync::Arc;
 
-/// An answer to a read. Contracts see what it tells.
+/// An answer to a read, which is shared and not copied. Contracts see what it tells.
 #[derive(Drop)]
 pub struct Answered {
-    answer: Answer<Id>,
+    answer: Arc<Answer<Id>, Global>,
 }
 
 impl Model for Answered {
     ghost use Rattle.datasets.specs.Dataset.{Told, told};
     ghost use Rattle.datasets.specs.declared.id.Id.{Id};
+    ghost use Rattle.std.specs.Arc.{arc_value};
 
     ghost Value = { Told Id };
 
-    ghost view = { λ a. told a.answer };
+    ghost view = { λ a. told (arc_value a.answer) };
 }
 
 impl Answered {
     /// This answer.
-    pub fn new(answer: Answer<Id>) -> Answered
-        ensures { result ≡ told answer }
+    pub fn new(alloc: Global, answer: Answer<Id>) -> Result<Answered, AllocError>
+        ensures { IfOk result (λ shared. shared ≡ told answer) }
     {
-        Answered { answer }
+        Ok(Answered {
+            answer: Arc::new(alloc, answer)?,
+        })
     }
 
     /// The quads, if it is the answer to a scan.
     pub fn quads(&self) -> Option<&[Quad<Id>]>
         ensures { option_copied result ≡ told_quads self.now }
     {
-        match &self.answer {
+        match &*self.answer {
             Answer::Quads(quads) => Some(quads.as_slice()),
             _ => None,
         }
@@ -47,7 +50,7 @@ impl Answered {
     pub fn is(&self) -> Option<bool>
         ensures { result ≡ told_is self.now }
     {
-        match &self.answer {
+        match &*self.answer {
             Answer::Is(so) => Some(*so),
             _ => None,
         }
@@ -57,21 +60,17 @@ impl Answered {
     pub fn names(&self) -> Option<&[Id]>
         ensures { option_copied result ≡ told_names self.now }
     {
-        match &self.answer {
+        match &*self.answer {
             Answer::Names(names) => Some(names.as_slice()),
             _ => None,
         }
     }
 
-    /// The same answer again.
-    pub fn copied(&self, alloc: Global) -> Result<Self, AllocError>
+    /// The same answer again, for one owner more. It takes no memory, and fails only where there are too many owners.
+    pub fn copied(&self, _alloc: Global) -> Result<Self, AllocError>
         ensures { IfOk result (λ copy. copy ≡ self.now) }
     {
-        let answer = match &self.answer {
-            Answer::Quads(quads) => Answer::Quads(copied_quads(alloc, quads)?),
-            Answer::Is(so) => Answer::Is(*so),
-            Answer::Names(names) => Answer::Names(copied_names(alloc, names)?),
-        };
+        let answer = Arc::try_clone(&self.answer)?;
         Ok(Answered { answer })
     }
 
@@ -79,7 +78,7 @@ impl Answered {
     fn equals(&self, other: &Answered) -> bool
         ensures { result ≡ answer_eq self.now other.now }
     {
-        match (&self.answer, &other.answer) {
+        match (&*self.answer, &*other.answer) {
             (Answer::Quads(x), Answer::Quads(y)) => same_quads(x, y),
             (Answer::Is(x), Answer::Is(y)) => same_bool(*x, *y),
             (Answer::Names(x), Answer::Names(y)) => same_names(x, y),

@@ -1,17 +1,21 @@
 //! Datasets and reads at numbers of terms: what a read says of a dataset, reads with their answers, and what answers them. Stands on
 //! `datasets`, `change_laws` and `quad_index`.
 //!
-//! The contract used above: `View::answer` is `says` of specs/Reads.antt.
+//! The contract used above: `View::answer` and `IndexedView::answer` are `says` of specs/Reads.antt.
 #![tactic(auto)]
 
 mod answered;
+mod indexed;
 pub mod lists;
 mod note;
 pub mod same;
+mod shared_items;
 mod source;
 mod view;
 
 pub use answered::Answered;
+pub use indexed::IndexedView;
 pub use note::Note;
+pub use shared_items::SharedItems;
 pub use source::{Source, Stop};
 pub use view::View;

@@ -1,12 +1,21 @@
 //! Lists of quads and of graph names: unions, copies.
 ghost use Rattle.std.specs.Prelude.{◌≡◌, ◌∷◌, [], IfOk, if◌then◌else◌};
-ghost use Rattle.sets.specs.Sets.{union};
+ghost use Rattle.sets.specs.Sets.{set_of, union};
 ghost use Rattle.datasets.specs.Id.{id_order};
 ghost use Rattle.datasets.specs.Dataset.{quad_order};
 
 use datasets::{Id, Quad};
-use sets::set_of;
+use sets::Exact;
 use std::alloc::{AllocError, Global};
+
+// The set of the members of a vector. Of members that come in a few sorted runs it takes time in their number.
+fn merged<T: Exact + Drop>(mut members: Vec<T>) -> Result<Vec<T>, AllocError>
+    ensures { IfOk result (λ set. set.items ≡ set_of T.cmp members.items) }
+{
+    members.sort()?;
+    members.dedup();
+    Ok(members)
+}
 
 /// The same quads again.
 pub fn copied_quads(alloc: Global, quads: &[Quad<Id>]) -> Result<Vec<Quad<Id>>, AllocError>
@@ -41,7 +50,7 @@ pub fn quads_union(
     ensures { IfOk result (λ all. all.items ≡ union (quad_order id_order) quads.items others.items) }
 {
     quads.append(&mut others)?;
-    Ok(set_of(quads))
+    merged(quads)
 }
 
 /// The set of both lists' names.
@@ -49,5 +58,5 @@ pub fn names_union(mut names: Vec<Id>, mut others: Vec<Id>) -> Result<Vec<Id>, A
     ensures { IfOk result (λ all. all.items ≡ union id_order names.items others.items) }
 {
     names.append(&mut others)?;
-    Ok(set_of(names))
+    merged(names)
 }

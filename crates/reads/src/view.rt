@@ -163,6 +163,6 @@ impl View {
             Read::GraphIs(name) => Answer::Is(is_member(&self.names, name)),
             Read::Graphs => Answer::Names(copied_names(alloc, &self.names)?),
         };
-        Ok(Answered::new(answer))
+        Answered::new(alloc, answer)
     }
 }

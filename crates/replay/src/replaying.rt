@@ -10,7 +10,7 @@ use datasets::Id;
 use dict::Dict;
 use journal::{JournalFault, Line};
 use meaning::Request;
-use reads::View;
+use reads::IndexedView;
 use std::alloc::Global;
 
 /// The book whose journal has these lines, of a base and a block at a dictionary's numbers. It makes the answers itself, and the runs that
@@ -19,7 +19,7 @@ use std::alloc::Global;
 pub fn replay<'a>(
     alloc: Global,
     terms: &'a Dict,
-    base: &'a View,
+    base: &'a IndexedView,
     block: &'a [Request<Id>],
     lines: &[Line],
 ) -> Result<Book<'a>, JournalFault>

@@ -38,7 +38,8 @@ fn comes_to_numbers(alloc: Global, block: &Block) -> Result<bool, BaseFault> {
 fn back(alloc: Global, dataset: &DataSet, block: &Block) -> Result<DataSet, AllocError> {
     let _ = dataset.parts();
     let numbered = number(alloc, dataset, block)?;
-    named(alloc, numbered.base.terms(), numbered.base.dataset())
+    let dataset = numbered.base.dataset().copied(alloc)?;
+    named(alloc, numbered.base.terms(), &dataset)
 }
 
 fn text_back(alloc: Global, dataset: &DataSet, block: &Block) -> Result<Vec<u8>, AllocError> {

@@ -1,11 +1,11 @@
-//! Blocks with operations on whole graphs, blocks whose requests meet, and a request with a million solutions.
+//! Blocks with operations on whole graphs, blocks whose requests meet, a request with a million solutions, and large answers.
 use crate::tests::{Row, answer_to, check_rows, serial_answer_to};
 use std::alloc::Global;
 use std::io;
 use std::io::Write;
 use std::test::Fail;
 
-const ROWS: [Row; 13] = [
+pub(crate) const ROWS: [Row; 13] = [
     // A request reads what the one before it wrote.
     (
         "",
@@ -150,5 +150,19 @@ fn more_than_a_million_solutions(rt: HostRuntime) -> Result<(), Fail> {
     let base = thousands(alloc, 1001)?;
     let answer = serial_answer_to(alloc, &base, SOLUTIONS.as_bytes());
     assert!(rt; answer.has(2001, "0 failed 1 too-many-solutions\n"));
+    Ok(())
+}
+
+const SCANS: &str =
+    "PREFIX ex: <http://e/> INSERT { ex:a ex:n 1 } WHERE { ?s ex:p ?o }\n----\nPREFIX ex: <http://e/> INSERT { ex:a ex:m 1 } WHERE { ?s ex:p ?o }";
+
+// Answers that are as long as this on the stacks of threads.
+#[test]
+fn large_answers(rt: HostRuntime) -> Result<(), Fail> {
+    let alloc = rt.alloc();
+    let mut base = Vec::new(alloc);
+    put_lines(&mut base, "p", 30_000)?;
+    let answer = answer_to(&rt, alloc, &base, SCANS.as_bytes(), 2);
+    assert!(rt; answer.has(30_002, "0 ok +1 -0\n1 ok +1 -0\n"));
     Ok(())
 }

@@ -80,7 +80,7 @@ impl Answer {
 /// A base, a block, the status, the new dataset and the replies.
 pub(crate) type Row = (&'static str, &'static str, u8, &'static str, &'static str);
 
-const ROWS: [Row; 25] = [
+pub(crate) const ROWS: [Row; 25] = [
     ("", "", 0, "", ""),
     ("", "\n", 0, "", "0 ok +0 -0\n"),
     (

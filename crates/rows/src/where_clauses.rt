@@ -2,7 +2,7 @@
 
 use crate::tests::{Row, check_rows};
 
-const ROWS: [Row; 21] = [
+pub(crate) const ROWS: [Row; 21] = [
     // Taking out the last triple of a graph leaves the graph there.
     (
         "",

@@ -10,14 +10,14 @@ ghost use Rattle.serial.specs.Current.{after_all};
 
 use datasets::{Id, Read};
 use delta::Delta;
-use reads::{Answered, Source, Stop, View};
+use reads::{Answered, IndexedView, Source, Stop, View};
 use std::alloc::{AllocError, Global};
 use std::marker::Model;
 
 /// A base with changes of it, one after another. Contracts see the dataset that they make.
 #[derive(Drop)]
 pub(crate) struct Current<'a> {
-    base: &'a View,
+    base: &'a IndexedView,
     levels: Vec<Delta>,
 }
 
@@ -50,7 +50,7 @@ fn part_after(
 // What the read says of a base after these changes. It copies only what the read asks for.
 fn answer_after(
     alloc: Global,
-    base: &View,
+    base: &IndexedView,
     changes: &[Delta],
     read: &Read<Id>,
 ) -> Result<Answered, AllocError>
@@ -107,7 +107,11 @@ fn settle(alloc: Global, changes: &mut Vec<Delta>) -> Result<(), AllocError>
 }
 
 // A base after these changes. They are joined before the base is gone over.
-fn dataset_after(alloc: Global, base: &View, mut changes: Vec<Delta>) -> Result<View, AllocError>
+fn dataset_after(
+    alloc: Global,
+    base: &IndexedView,
+    mut changes: Vec<Delta>,
+) -> Result<View, AllocError>
     ensures { IfOk result (λ dataset. dataset ≡ after_all changes.items base.now) }
 {
     while changes.len() > 1 {
@@ -122,7 +126,7 @@ fn dataset_after(alloc: Global, base: &View, mut changes: Vec<Delta>) -> Result<
 
 impl<'a> Current<'a> {
     /// The base, before any change.
-    pub(crate) fn new(alloc: Global, base: &'a View) -> Current<'a>
+    pub(crate) fn new(alloc: Global, base: &'a IndexedView) -> Current<'a>
         ensures { result ≡ base.now }
     {
         Current {

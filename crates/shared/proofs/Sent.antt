@@ -35,16 +35,22 @@ use Rattle.datasets.proofs.id.Id.TheSendSync as id
 use Rattle.datasets.specs.contracts.quad.Quad as Quad
 use Rattle.datasets.specs.contracts.read.Read as Read
 use Rattle.datasets.specs.contracts.read.QuadPattern as QuadPattern
+use Rattle.datasets.specs.contracts.read.Answer as Answer
 use Rattle.iris.specs.contracts.iri.Iri as Iri
 use Rattle.terms.specs.contracts.literal.Literal as Literal
 use Rattle.terms.specs.contracts.literal.Blank as Blank
 use Rattle.terms.specs.contracts.term.Term as Term
 use Rattle.dict.specs.contracts.dictionary.Dict as Dict
 use Rattle.reads.specs.contracts.view.View as View
+use Rattle.reads.specs.contracts.indexed.IndexedView as IndexedView
 use Rattle.reads.specs.contracts.answered.Answered as Answered
+use Rattle.reads.specs.contracts.shared_items.SharedItems as SharedItems
 use Rattle.delta.specs.contracts.delta.Delta as Delta
 use Rattle.delta.specs.contracts.finished.Finished as Finished
 use Rattle.reads.specs.contracts.note.Note as Note
+use Rattle.quad_index.specs.contracts.known.KnownQuad as KnownQuad
+use Rattle.quad_index.specs.contracts.order.Order as Order
+use Rattle.quad_index.specs.contracts.index.Index as Index
 use Rattle.quad_index.specs.contracts.hints.Hints as Hints
 use Rattle.quad_index.specs.contracts.sorted_hints.SortedHints as SortedHints
 use Rattle.block_machine.specs.contracts.spoken.Spoken as Spoken
@@ -152,23 +158,62 @@ scan_pattern = let i = id.the_field_send in let j = id.the_send in search (senda
 read : IsSend (Read.the_field Id.the_row).row
 read = let p = scan_pattern in let i = id.the_field_send in let j = id.the_send in search (sendable, crosses) depth 20
 
+scan_pattern_sync : IsSync (QuadPattern.the_field Id.the_row).row
+scan_pattern_sync = let i = id.the_field_sync in let j = id.the_sync in search (sendable, crosses) depth 20
+
+read_sync : IsSync (Read.the_field Id.the_row).row
+read_sync = let p = scan_pattern_sync in let i = id.the_field_sync in let j = id.the_sync in search (sendable, crosses) depth 20
+
 quad : IsSend (Quad.the_row Id.the_row)
 quad = let i = id.the_field_send in search (sendable, crosses) depth 20
 
 pub view : IsSync (View.the_row)
 view = let q = quad_sync in let i = id.the_sync in search (sendable, crosses) depth 20
 
+quads_shared : IsSend (SharedItems.the_row (Quad.the_row Id.the_row))
+quads_shared = let q = quad in let y = quad_sync in search (sendable, crosses) depth 20
+
+names_shared : IsSend (SharedItems.the_row Id.the_row)
+names_shared = let i = id.the_send in let j = id.the_sync in search (sendable, crosses) depth 20
+
+answer : IsSend (Answer.the_row Id.the_row)
+answer = let q = quad in let i = id.the_send in search (sendable, crosses) depth 20
+
+answer_sync : IsSync (Answer.the_row Id.the_row)
+answer_sync = let q = quad_sync in let i = id.the_sync in search (sendable, crosses) depth 20
+
+known_quad : IsSync (KnownQuad.the_row)
+known_quad = search (sendable, crosses) depth 20
+
+order : IsSync (Order.the_row)
+order = let k = known_quad in let a = arrangement.the_field_sync in search (sendable, crosses) depth 20
+
+index : IsSync (Index.the_row)
+index = let q = quad_sync in let o = order in search (sendable, crosses) depth 20
+
+pub indexed_view : IsSync (IndexedView.the_row)
+indexed_view = let v = view in let i = index in search (sendable, crosses) depth 20
+
 answered : IsSend (Answered.the_row)
-answered = let q = quad in let i = id.the_send in search (sendable, crosses) depth 20
+answered = let a = answer in let b = answer_sync in search (sendable, crosses) depth 20
+
+answered_sync : IsSync (Answered.the_row)
+answered_sync = let a = answer in let b = answer_sync in search (sendable, crosses) depth 20
 
 delta : IsSend (Delta.the_row)
-delta = let q = quad in let i = id.the_send in search (sendable, crosses) depth 20
+delta = let q = quads_shared in let n = names_shared in search (sendable, crosses) depth 20
 
 note : IsSend (Note.the_row)
 note = let a = answered in let r = read in search (sendable, crosses) depth 20
 
+note_sync : IsSync (Note.the_row)
+note_sync = let a = answered_sync in let r = read_sync in search (sendable, crosses) depth 20
+
+transcript : IsSend (SharedItems.the_row Note.the_row)
+transcript = let n = note in let m = note_sync in search (sendable, crosses) depth 20
+
 finished : IsSend (Finished.the_field).row
-finished = let n = note in let d = delta in search (sendable, crosses) depth 20
+finished = let t = transcript in let d = delta in search (sendable, crosses) depth 20
 
 -- ---- the machine
 
@@ -221,7 +266,7 @@ entry = let e = event in let r = reply in search (sendable, crosses) depth 20
 
 module _ (a : NamedLft) where
   book : IsSend (Book.the_row a)
-  book = let r = requests in let d = dict in let v = view in let m = machine in let e = entry in search (sendable, crosses) depth 20
+  book = let r = requests in let d = dict in let v = indexed_view in let m = machine in let e = entry in search (sendable, crosses) depth 20
 
   kept : IsSend (Kept.the_row a)
   kept = let b = book in search (sendable, crosses) depth 20

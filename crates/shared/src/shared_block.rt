@@ -18,7 +18,7 @@ use datasets::Read;
 use delta::Finished;
 use dict::{Dict, Id};
 use meaning::Request;
-use reads::View;
+use reads::IndexedView;
 use scheduler::{Task, next};
 use std::alloc::{AllocError, Global};
 use std::marker::Model;
@@ -64,7 +64,7 @@ impl<'a> SharedBlock<'a> {
     pub fn new(
         alloc: Global,
         terms: &'a Dict,
-        base: &'a View,
+        base: &'a IndexedView,
         block: &'a [Request<Id>],
         seats: u32,
     ) -> Result<(SharedBlock<'a>, Vec<Pass<'a>>), AllocError>

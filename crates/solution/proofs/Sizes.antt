@@ -82,8 +82,8 @@ module _ (test : Mapping Id → Bool) where
   filter_flat_map f (x ∷ xs) = ap (λ z. filter test (f x) ++ z) (filter_flat_map f xs) ∙ sym (filter_append (f x) (flat_map f xs))
 
 -- the merges that pass a test, as a set
-pub merges_are : (test : Mapping Id → Bool) (f : Mapping Id → Mappings) (xs all : Mappings) → flat_map f xs ≡ all → set (flat_map (λ a. filter test (f a)) xs) ≡ filter test (set all)
-merges_are test f xs all e = ap set (filter_flat_map test f xs) ∙ set_filtered test (flat_map f xs) ∙ ap (λ zs. filter test (set zs)) e
+pub merges_are : (test : Mapping Id → Bool) (f : Mapping Id → Mappings) (xs all : Mappings) → set (flat_map f xs) ≡ all → set (flat_map (λ a. filter test (f a)) xs) ≡ filter test all
+merges_are test f xs all e = ap set (filter_flat_map test f xs) ∙ set_filtered test (flat_map f xs) ∙ ap (filter test) e
 
 -- a union has all of the first part
 pub union_more : (xs ys : Mappings) → length (set xs) ≤ length (set (set xs ++ ys))

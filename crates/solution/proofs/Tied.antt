@@ -1,23 +1,20 @@
 -- Mappings that have the same terms for variables that they bind.
-use Rattle.std.specs.Prelude.{ℕ, Bool, not, is_some, filter, map, filter_map, cond}
-use Rattle.std.specs.List.{AllByRecursion, list_all, flat_map, cons_option}
-use Rattle.std.specs.List.Sorted.{IsStable}
-use Rattle.std.specs.Cmp.{IsTotalOrder, on_total, Equal-is}
+use Rattle.std.specs.Prelude.{ℕ, Bool, not, is_some, filter, filter_map, cond}
+use Rattle.std.specs.List.{list_all, list_any, flat_map, cons_option}
+use Rattle.std.specs.Cmp.{Equal-is}
 use Rattle.std.specs.Option.{option_cmp}
-use Rattle.std.specs.Ordering.{is_eq, is_lt, ordering_reverse, ordering_then}
-use Rattle.std.specs.declared.cmp.Ordering.{Ordering}
-use Rattle.std.specs.declared.cmp.Ordering.TheVariants.{Less, Equal, Greater}
+use Rattle.std.specs.Ordering.{is_eq, ordering_reverse, ordering_then, eq_by_cmp}
+use Rattle.std.specs.declared.cmp.Ordering.TheVariants.{Equal}
 use Rattle.std.proofs.lemmas.Bool.{false≢true}
 use Rattle.std.proofs.Common.{◌≡◌, true, false, ◌&&◌, ◌||◌, zero, suc, List, [], ◌∷◌, ◌++◌, Option, Some, None, refl, sym, ap, ◌∙◌, subst}
 use Rattle.datasets.specs.declared.id.Id.{Id}
 use Rattle.datasets.specs.Id.{id_order, id_total}
-use Rattle.meaning.specs.Mapping.{Mapping, term_for, agree, compatible, merge, shares, joined}
-use Rattle.meaning.specs.Operators.{minus, diff}
-use Rattle.solution.specs.MappingOrder.{mapping_total}
-use Rattle.solution.specs.Lookups.{terms_at, order_at, tied, is_bound_in, AreBound, HasAll}
-
-pub order_total : (variables : List ℕ) → IsTotalOrder (order_at variables)
-order_total variables = on_total (terms_at variables) mapping_total
+use Rattle.meaning.specs.Mapping.{Mapping, mapping_cmp, term_for, agree, compatible, merge, shares, joined}
+use Rattle.meaning.specs.Operators.{join, minus, diff}
+use Rattle.sets.specs.Sets.{set_of, has}
+use Rattle.sets.proofs.SetLaws.{list_any-append, has-set_of, sorted-set_of, same_set}
+use Rattle.solution.specs.MappingOrder.{mapping_total, mapping_exact}
+use Rattle.solution.specs.Lookups.{order_at, tied, binds, near_bound, near, HasAll}
 
 -- ---- Bool
 
@@ -28,11 +25,6 @@ and_first false b e = absurd (false≢true e)
 and_second : (a b : Bool) → (a && b) ≡ true → b ≡ true
 and_second true b e = e
 and_second false b e = absurd (false≢true e)
-
-implied : (a b : Bool) → (b ≡ true → a ≡ true) → (a && b) ≡ b
-implied true b f = refl
-implied false true f = absurd (false≢true (f refl))
-implied false false f = refl
 
 -- ---- compatible mappings tie at what both bind
 
@@ -52,149 +44,139 @@ tie_at (Some x) (Some y) e f h =
 tie_at (Some x) None e f h = absurd (false≢true f)
 tie_at None y e f h = absurd (false≢true e)
 
-abbrev Bound : List ℕ → Mapping Id → Type 0
-Bound variables m = AllByRecursion (λ v. is_some (term_for m v) ≡ true) variables
-
-tied_all : (variables : List ℕ) (a b : Mapping Id) → Bound variables a → Bound variables b → compatible id_order a b ≡ true → order_at variables b a ≡ Equal
+tied_all : (variables : List ℕ) (a b : Mapping Id) → binds variables a ≡ true → binds variables b ≡ true → compatible id_order a b ≡ true → order_at variables b a ≡ Equal
 tied_all [] a b h k c = refl
 tied_all (v ∷ vs) a b h k c =
-    (λ i. ordering_then (tie_at (term_for a v) (term_for b v) h.0 k.0 (agree_at a b v c) i) (tied_all vs a b h.1 k.1 c i))
+    (λ i. ordering_then (tie_at (term_for a v) (term_for b v) (and_first _ _ h) (and_first _ _ k) (agree_at a b v c) i) (tied_all vs a b (and_second _ _ h) (and_second _ _ k) c i))
 
--- ---- what is bound in all is bound in each
+-- ---- tests of any of a list, in parts
 
-abbrev AllBound : List ℕ → List (Mapping Id) → Type 0
-AllBound variables ms = AllByRecursion (Bound variables) ms
+parts_of : (b y u w : Bool) → (((b && y) || u) || ((not b && y) || w)) ≡ (y || (u || w))
+parts_of true true u w = refl
+parts_of true false u w = refl
+parts_of false true true w = refl
+parts_of false true false w = refl
+parts_of false false u w = refl
 
-abbrev BoundIn : List (Mapping Id) → List ℕ → Type 0
-BoundIn ms variables = AllByRecursion (λ v. is_bound_in ms v ≡ true) variables
+module _ {A : Type 0} where
+  any_cond : (q : A → Bool) (b : Bool) (x : A) (us : List A) → list_any q (cond b (x ∷ us) us) ≡ ((b && q x) || list_any q us)
+  any_cond q true x us = refl
+  any_cond q false x us = refl
 
-bound_left : (left right : List (Mapping Id)) (vs : List ℕ) → AreBound left right vs → BoundIn left vs
-bound_left left right [] h = tt
-bound_left left right (v ∷ vs) h = (and_first _ _ h.0, bound_left left right vs h.1)
+  any_filter : (t q : A → Bool) (xs : List A) → list_any q (filter t xs) ≡ list_any (λ x. t x && q x) xs
+  any_filter t q [] = refl
+  any_filter t q (x ∷ xs) = any_cond q (t x) x (filter t xs) ∙ ap (λ z. (t x && q x) || z) (any_filter t q xs)
 
-bound_right : (left right : List (Mapping Id)) (vs : List ℕ) → AreBound left right vs → BoundIn right vs
-bound_right left right [] h = tt
-bound_right left right (v ∷ vs) h = (and_second _ _ h.0, bound_right left right vs h.1)
+  any_parts : (t q : A → Bool) (xs : List A) → (list_any (λ x. t x && q x) xs || list_any (λ x. not (t x) && q x) xs) ≡ list_any q xs
+  any_parts t q [] = refl
+  any_parts t q (x ∷ xs) =
+      parts_of (t x) (q x) (list_any (λ x. t x && q x) xs) (list_any (λ x. not (t x) && q x) xs) ∙ ap (λ z. q x || z) (any_parts t q xs)
 
-bound_first : (m : Mapping Id) (ms : List (Mapping Id)) (vs : List ℕ) → BoundIn (m ∷ ms) vs → Bound vs m
-bound_first m ms [] h = tt
-bound_first m ms (v ∷ vs) h = (and_first _ _ h.0, bound_first m ms vs h.1)
+  pub all_append : (t : A → Bool) (xs ys : List A) → list_all t (xs ++ ys) ≡ (list_all t xs && list_all t ys)
+  all_append t [] ys = refl
+  all_append t (x ∷ xs) ys = ap (λ z. t x && z) (all_append t xs ys) ∙ both_of (t x) (list_all t xs) (list_all t ys)
+    where
+      both_of : (x y z : Bool) → (x && (y && z)) ≡ ((x && y) && z)
+      both_of true y z = refl
+      both_of false y z = refl
 
-bound_rest : (m : Mapping Id) (ms : List (Mapping Id)) (vs : List ℕ) → BoundIn (m ∷ ms) vs → BoundIn ms vs
-bound_rest m ms [] h = tt
-bound_rest m ms (v ∷ vs) h = (and_second _ _ h.0, bound_rest m ms vs h.1)
+-- ---- what is near has all
 
-bound_each : (vs : List ℕ) (ms : List (Mapping Id)) → BoundIn ms vs → AllBound vs ms
-bound_each vs [] h = tt
-bound_each vs (m ∷ ms) h = (bound_first m ms vs h, bound_each vs ms (bound_rest m ms vs h))
+given_ties : (b t c p : Bool) → (b ≡ true → c ≡ true → t ≡ true) → (b && (t && (c && p))) ≡ (b && (c && p))
+given_ties false t c p f = refl
+given_ties true true c p f = refl
+given_ties true false true p f = absurd (false≢true (f refl refl))
+given_ties true false false p f = refl
 
--- one more variable that is bound in all
-pub bound_more : (left right : List (Mapping Id)) (vs : List ℕ) (v : ℕ) → AreBound left right vs → (is_bound_in left v && is_bound_in right v) ≡ true → AreBound left right (vs ++ v ∷ [])
-bound_more left right [] v h e = (e, tt)
-bound_more left right (w ∷ vs) v h e = (h.0, bound_more left right vs v h.1 e)
+module _ (vs : List ℕ) (found loose all : List (Mapping Id)) (same : (q : Mapping Id → Bool) → list_any q found ≡ list_any q (filter (binds vs) all)) (others : loose ≡ filter (λ m. not (binds vs m)) all) (a : Mapping Id) (p : Mapping Id → Bool) where
+  abbrev q : Mapping Id → Bool
+  q b = compatible id_order a b && p b
 
--- ---- what ties has all
+  near_bound_has : (b : Bool) → binds vs a ≡ b → list_any q (cond b (tied vs found a) found) ≡ list_any (λ x. binds vs x && q x) all
+  near_bound_has true h =
+      any_filter (λ x. is_eq (order_at vs x a)) q found
+      ∙ same (λ x. is_eq (order_at vs x a) && q x)
+      ∙ any_filter (binds vs) (λ x. is_eq (order_at vs x a) && q x) all
+      ∙ (λ i. list_any (λ x. given_ties (binds vs x) (is_eq (order_at vs x a)) (compatible id_order a x) (p x) (λ k c. ap is_eq (tied_all vs a x h k c)) i) all)
+  near_bound_has false h = same q ∙ any_filter (binds vs) q all
 
-kept_twice : {A : Type 0} (p q : A → Bool) (b : Bool) (x : A) (us : List A) → filter p (cond b (x ∷ us) us) ≡ cond (b && p x) (x ∷ filter p us) (filter p us)
-kept_twice p q true x us = refl
-kept_twice p q false x us = refl
+  near_has : list_any q (near vs found loose a) ≡ list_any q all
+  near_has =
+      list_any-append q (near_bound vs found a) loose
+      ∙ (λ i. near_bound_has (binds vs a) refl i || (ap (list_any q) others ∙ any_filter (λ m. not (binds vs m)) q all) i)
+      ∙ any_parts (binds vs) q all
 
-tied_has_all : (vs : List ℕ) (a : Mapping Id) (right : List (Mapping Id)) → Bound vs a → AllBound vs right
-    → filter (compatible id_order a) (tied vs right a) ≡ filter (compatible id_order a) right
-tied_has_all vs a [] h k = refl
-tied_has_all vs a (b ∷ right) h k =
-    let c = compatible id_order a in
-    kept_twice c c (is_eq (order_at vs b a)) b (tied vs right a)
-    ∙ (λ i. cond (implied (is_eq (order_at vs b a)) (c b) (λ e. ap is_eq (tied_all vs a b h k.0 e)) i) (b ∷ tied_has_all vs a right h k.1 i) (tied_has_all vs a right h k.1 i))
+pub has_all : (vs : List ℕ) (found loose all : List (Mapping Id)) → ((q : Mapping Id → Bool) → list_any q found ≡ list_any q (filter (binds vs) all))
+    → loose ≡ filter (λ m. not (binds vs m)) all → HasAll vs found loose all
+has_all vs found loose all same others a p = near_has vs found loose all same others a p
 
--- neither is less than the other where they tie
-ties_is : (r s : Ordering) → s ≡ ordering_reverse r → (not (is_lt s) && not (is_lt r)) ≡ is_eq r
-ties_is Less s e = ap (λ z. not (is_lt z) && false) e
-ties_is Equal s e = ap (λ z. not (is_lt z) && true) e
-ties_is Greater s e = ap (λ z. not (is_lt z) && true) e
-
-pub tied_stable : (vs : List ℕ) (xs ys : List (Mapping Id)) → IsStable (order_at vs) xs ys → (a : Mapping Id) → tied vs ys a ≡ tied vs xs a
-tied_stable vs xs ys h a =
-    let same = λ (b : Mapping Id). ties_is (order_at vs b a) (order_at vs a b) ((order_total vs).antisymm a b) in
-    sym (λ i. filter (λ b. same b i) ys) ∙ h a ∙ (λ i. filter (λ b. same b i) xs)
-
-has_each : (vs : List ℕ) (found right : List (Mapping Id)) → ((a : Mapping Id) → tied vs found a ≡ tied vs right a) → AllBound vs right
-    → (left : List (Mapping Id)) → AllBound vs left → HasAll vs found left right
-has_each vs found right e k [] h = tt
-has_each vs found right e k (a ∷ left) h =
-    (ap (filter (compatible id_order a)) (e a) ∙ tied_has_all vs a right h.0 k, has_each vs found right e k left h.1)
-
-pub has_all : (vs : List ℕ) (found left right : List (Mapping Id)) → AreBound left right vs → IsStable (order_at vs) right found → HasAll vs found left right
-has_all vs found left right h s =
-    has_each vs found right (tied_stable vs right found s) (bound_each vs right (bound_right left right vs h)) left (bound_each vs left (bound_left left right vs h))
+-- the same, of equal lists
+pub has_all_is : (vs : List ℕ) (found loose xs all : List (Mapping Id)) → xs ≡ all → HasAll vs found loose xs → HasAll vs found loose all
+has_all_is vs found loose xs all e h = subst (λ zs. HasAll vs found loose zs) e h
 
 -- ---- the operators look at compatible mappings alone
 
 module _ (a : Mapping Id) where
-  joined_of : (b : Bool) (m : Mapping Id) (x : Mapping Id) (rest : List (Mapping Id)) → cons_option (cond b (Some (merge a x)) None) (map (merge a) rest) ≡ map (merge a) (cond b (x ∷ rest) rest)
-  joined_of true m x rest = refl
-  joined_of false m x rest = refl
+  joined_step : (q : Mapping Id) (b : Bool) (y : Mapping Id) (rest : List (Mapping Id))
+      → has (mapping_cmp id_order) (cons_option (cond b (Some y) None) rest) q ≡ ((b && eq_by_cmp (mapping_cmp id_order) q y) || has (mapping_cmp id_order) rest q)
+  joined_step q true y rest = refl
+  joined_step q false y rest = refl
 
-  joined_is : (xs : List (Mapping Id)) → filter_map (joined id_order a) xs ≡ map (merge a) (filter (compatible id_order a) xs)
-  joined_is [] = refl
-  joined_is (x ∷ xs) =
-      ap (cons_option (joined id_order a x)) (joined_is xs) ∙ joined_of (compatible id_order a x) x x (filter (compatible id_order a) xs)
+  joined_has : (q : Mapping Id) (xs : List (Mapping Id)) → has (mapping_cmp id_order) (filter_map (joined id_order a) xs) q ≡ list_any (λ b. compatible id_order a b && eq_by_cmp (mapping_cmp id_order) q (merge a b)) xs
+  joined_has q [] = refl
+  joined_has q (x ∷ xs) =
+      joined_step q (compatible id_order a x) (merge a x) (filter_map (joined id_order a) xs)
+      ∙ ap (λ z. (compatible id_order a x && eq_by_cmp (mapping_cmp id_order) q (merge a x)) || z) (joined_has q xs)
 
-  unless : (p : Mapping Id → Bool) (b : Bool) (x : Mapping Id) (rest : List (Mapping Id)) → ((not b || p x) && list_all p rest) ≡ list_all p (cond b (x ∷ rest) rest)
-  unless p true x rest = refl
-  unless p false x rest = refl
+  apart_step : (c s w : Bool) → ((not c || not s) && not w) ≡ not ((c && s) || w)
+  apart_step true true w = refl
+  apart_step true false w = refl
+  apart_step false s w = refl
 
-  apart_is : (p : Mapping Id → Bool) (xs : List (Mapping Id)) → list_all (λ b. not (compatible id_order a b) || p b) xs ≡ list_all p (filter (compatible id_order a) xs)
-  apart_is p [] = refl
-  apart_is p (x ∷ xs) = ap (λ z. (not (compatible id_order a x) || p x) && z) (apart_is p xs) ∙ unless p (compatible id_order a x) x (filter (compatible id_order a) xs)
+  apart_is : (xs : List (Mapping Id)) → list_all (λ b. not (compatible id_order a b) || not (shares a b)) xs ≡ not (list_any (λ b. compatible id_order a b && shares a b) xs)
+  apart_is [] = refl
+  apart_is (x ∷ xs) =
+      ap (λ z. (not (compatible id_order a x) || not (shares a x)) && z) (apart_is xs) ∙ apart_step (compatible id_order a x) (shares a x) (list_any (λ b. compatible id_order a b && shares a b) xs)
 
-  fails_of : (p : Mapping Id → Bool) (b : Bool) (x : Mapping Id) (rest : List (Mapping Id))
-      → (not (b && p x) && list_all (λ y. not (p y)) rest) ≡ list_all (λ y. not (p y)) (cond b (x ∷ rest) rest)
-  fails_of p true x rest = refl
-  fails_of p false x rest = refl
+  fails_step : (y w : Bool) → (not y && not w) ≡ not (y || w)
+  fails_step true w = refl
+  fails_step false w = refl
 
-  fails_is : (p : Mapping Id → Bool) (xs : List (Mapping Id)) → list_all (λ b. not (compatible id_order a b && p b)) xs ≡ list_all (λ b. not (p b)) (filter (compatible id_order a) xs)
-  fails_is p [] = refl
-  fails_is p (x ∷ xs) = ap (λ z. not (compatible id_order a x && p x) && z) (fails_is p xs) ∙ fails_of p (compatible id_order a x) x (filter (compatible id_order a) xs)
+  fails_is : (t : Mapping Id → Bool) (xs : List (Mapping Id)) → list_all (λ b. not (compatible id_order a b && t b)) xs ≡ not (list_any (λ b. compatible id_order a b && t b) xs)
+  fails_is t [] = refl
+  fails_is t (x ∷ xs) =
+      ap (λ z. not (compatible id_order a x && t x) && z) (fails_is t xs) ∙ fails_step (compatible id_order a x && t x) (list_any (λ b. compatible id_order a b && t b) xs)
 
-module _ (vs : List ℕ) (found : List (Mapping Id)) where
-  -- the same, of equal lists
-  pub has_all_is : (xs left ys right : List (Mapping Id)) → xs ≡ left → ys ≡ right → HasAll vs found xs ys → HasAll vs found left right
-  has_all_is xs left ys right e f h =
-      subst (λ zs. HasAll vs found left zs) f (subst (λ zs. HasAll vs found zs ys) e h)
+module _ (vs : List ℕ) (found loose all : List (Mapping Id)) (h : HasAll vs found loose all) where
+  joined_near : (q a : Mapping Id) → has (mapping_cmp id_order) (filter_map (joined id_order a) (near vs found loose a)) q ≡ has (mapping_cmp id_order) (filter_map (joined id_order a) all) q
+  joined_near q a =
+      joined_has a q (near vs found loose a) ∙ h a (λ b. eq_by_cmp (mapping_cmp id_order) q (merge a b)) ∙ sym (joined_has a q all)
 
-  module _ (right : List (Mapping Id)) where
-    joins_each : (left : List (Mapping Id)) → HasAll vs found left right
-        → flat_map (λ a. filter_map (joined id_order a) (tied vs found a)) left ≡ flat_map (λ a. filter_map (joined id_order a) right) left
-    joins_each [] h = refl
-    joins_each (a ∷ left) h =
-        (λ i. (joined_is a (tied vs found a) ∙ ap (map (merge a)) h.0 ∙ sym (joined_is a right)) i ++ joins_each left h.1 i)
+  joins_each : (q : Mapping Id) (left : List (Mapping Id)) → has (mapping_cmp id_order) (flat_map (λ a. filter_map (joined id_order a) (near vs found loose a)) left) q
+      ≡ has (mapping_cmp id_order) (flat_map (λ a. filter_map (joined id_order a) all) left) q
+  joins_each q [] = refl
+  joins_each q (a ∷ left) =
+      let test = eq_by_cmp (mapping_cmp id_order) q in
+      let mine = filter_map (joined id_order a) (near vs found loose a) in
+      let whole = filter_map (joined id_order a) all in
+      list_any-append test mine (flat_map (λ a. filter_map (joined id_order a) (near vs found loose a)) left)
+      ∙ (λ i. joined_near q a i || joins_each q left i)
+      ∙ sym (list_any-append test whole (flat_map (λ a. filter_map (joined id_order a) all) left))
 
-    apart_each : (left : List (Mapping Id)) → HasAll vs found left right
-        → filter (λ a. list_all (λ b. not (compatible id_order a b) || not (shares a b)) (tied vs found a)) left
-        ≡ filter (λ a. list_all (λ b. not (compatible id_order a b) || not (shares a b)) right) left
-    apart_each [] h = refl
-    apart_each (a ∷ left) h =
-        let p : Mapping Id → Bool = λ b. not (shares a b) in
-        (λ i. cond ((apart_is a p (tied vs found a) ∙ ap (list_all p) h.0 ∙ sym (apart_is a p right)) i) (a ∷ apart_each left h.1 i) (apart_each left h.1 i))
+  joins_set : (left : List (Mapping Id)) → set_of (mapping_cmp id_order) (flat_map (λ a. filter_map (joined id_order a) (near vs found loose a)) left) ≡ join id_order left all
+  joins_set left =
+      let mine = flat_map (λ a. filter_map (joined id_order a) (near vs found loose a)) left in
+      let whole = flat_map (λ a. filter_map (joined id_order a) all) left in
+      same_set mapping_total mapping_exact _ _ (sorted-set_of mapping_total mine) (sorted-set_of mapping_total whole)
+      (λ q. has-set_of mapping_total q mine ∙ joins_each q left ∙ sym (has-set_of mapping_total q whole))
 
-    rest_each : (test : Mapping Id → Bool) (left : List (Mapping Id)) → HasAll vs found left right
-        → filter (λ a. list_all (λ b. not (compatible id_order a b && test (merge a b))) (tied vs found a)) left
-        ≡ filter (λ a. list_all (λ b. not (compatible id_order a b && test (merge a b))) right) left
-    rest_each test [] h = refl
-    rest_each test (a ∷ left) h =
-        let p : Mapping Id → Bool = λ b. test (merge a b) in
-        let q : Mapping Id → Bool = λ b. not (p b) in
-        (λ i. cond ((fails_is a p (tied vs found a) ∙ ap (list_all q) h.0 ∙ sym (fails_is a p right)) i) (a ∷ rest_each test left h.1 i) (rest_each test left h.1 i))
+  module _ (left xs : List (Mapping Id)) (e : xs ≡ left) where
+    pub joins_are : set_of (mapping_cmp id_order) (flat_map (λ a. filter_map (joined id_order a) (near vs found loose a)) xs) ≡ join id_order left all
+    joins_are = ap (λ zs. set_of (mapping_cmp id_order) (flat_map (λ a. filter_map (joined id_order a) (near vs found loose a)) zs)) e ∙ joins_set left
 
-    module _ (left : List (Mapping Id)) (all : HasAll vs found left right) (xs : List (Mapping Id)) (e : xs ≡ left) where
-      pub joins_are : flat_map (λ a. filter_map (joined id_order a) (tied vs found a)) xs ≡ flat_map (λ a. filter_map (joined id_order a) right) left
-      joins_are = ap (flat_map (λ a. filter_map (joined id_order a) (tied vs found a))) e ∙ joins_each left all
+    pub apart_are : filter (λ a. list_all (λ b. not (compatible id_order a b) || not (shares a b)) (near vs found loose a)) xs ≡ minus id_order left all
+    apart_are i = filter (λ a. (apart_is a (near vs found loose a) ∙ ap not (h a (shares a)) ∙ sym (apart_is a all)) i) (e i)
 
-      pub apart_are : filter (λ a. list_all (λ b. not (compatible id_order a b) || not (shares a b)) (tied vs found a)) xs ≡ minus id_order left right
-      apart_are =
-          ap (filter (λ a. list_all (λ b. not (compatible id_order a b) || not (shares a b)) (tied vs found a))) e ∙ apart_each left all
-
-      pub rest_are : (test : Mapping Id → Bool) → filter (λ a. list_all (λ b. not (compatible id_order a b && test (merge a b))) (tied vs found a)) xs ≡ diff id_order test left right
-      rest_are test =
-          ap (filter (λ a. list_all (λ b. not (compatible id_order a b && test (merge a b))) (tied vs found a))) e ∙ rest_each test left all
+    pub rest_are : (test : Mapping Id → Bool) → filter (λ a. list_all (λ b. not (compatible id_order a b && test (merge a b))) (near vs found loose a)) xs ≡ diff id_order test left all
+    rest_are test i =
+        filter (λ a. (fails_is a (λ b. test (merge a b)) (near vs found loose a) ∙ ap not (h a (λ b. test (merge a b))) ∙ sym (fails_is a (λ b. test (merge a b)) all)) i) (e i)

@@ -1,6 +1,6 @@
 -- Mappings by what they have for some variables.
-use Rattle.std.specs.Prelude.{◌≡◌, ℕ, Bool, ◌&&◌, true, false, List, map, filter, is_some}
-use Rattle.std.specs.List.{AllByRecursion, list_all}
+use Rattle.std.specs.Prelude.{◌≡◌, ℕ, Bool, ◌&&◌, true, false, if◌then◌else◌, List, ◌++◌, map, filter, is_some}
+use Rattle.std.specs.List.{list_all, list_any}
 use Rattle.std.specs.List.Sorted.{IsPartitionPoint}
 use Rattle.std.specs.declared.cmp.Ordering.{Ordering}
 use Rattle.std.specs.Ordering.{is_eq, is_lt, is_le}
@@ -30,15 +30,19 @@ abbrev pub IsEnd : List ℕ → List (Mapping Id) → Mapping Id → ℕ → Typ
 IsEnd variables ms a place =
     IsPartitionPoint (λ b. is_le (order_at variables b a) ≡ true) (λ b. is_le (order_at variables b a) ≡ false) ms place
 
--- whether a variable is bound in each of these mappings
-abbrev pub is_bound_in : List (Mapping Id) → ℕ → Bool
-is_bound_in ms v = list_all (λ m. is_some (term_for m v)) ms
+-- whether a mapping binds each of these variables
+abbrev pub binds : List ℕ → Mapping Id → Bool
+binds variables m = list_all (λ v. is_some (term_for m v)) variables
 
--- each of these variables is bound in each mapping of both lists
-abbrev pub AreBound : List (Mapping Id) → List (Mapping Id) → List ℕ → Type 0
-AreBound left right variables = AllByRecursion (λ v. (is_bound_in left v && is_bound_in right v) ≡ true) variables
+-- of mappings that bind these variables, those that tie with a mapping that binds them too; else all
+abbrev pub near_bound : List ℕ → List (Mapping Id) → Mapping Id → List (Mapping Id)
+near_bound variables found a = if binds variables a then tied variables found a else found
 
--- for each mapping on the left, all on the right that it is compatible with are among those tied with it, in their order
-abbrev pub HasAll : List ℕ → List (Mapping Id) → List (Mapping Id) → List (Mapping Id) → Type 0
-HasAll variables found left right =
-    AllByRecursion (λ a. filter (compatible id_order a) (tied variables found a) ≡ filter (compatible id_order a) right) left
+-- the same, and those that don't bind the variables
+abbrev pub near : List ℕ → (found loose : List (Mapping Id)) → Mapping Id → List (Mapping Id)
+near variables found loose a = near_bound variables found a ++ loose
+
+-- of those that a mapping is compatible with, the same are near it as among all
+abbrev pub HasAll : List ℕ → (found loose all : List (Mapping Id)) → Type 0
+HasAll variables found loose all =
+    (a : Mapping Id) (test : Mapping Id → Bool) → list_any (λ b. compatible id_order a b && test b) (near variables found loose a) ≡ list_any (λ b. compatible id_order a b && test b) all

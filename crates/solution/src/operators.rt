@@ -5,7 +5,7 @@ ghost use Rattle.algebra.specs.Expressions.{expression_of};
 ghost use Rattle.datasets.specs.Id.{id_order};
 ghost use Rattle.meaning.specs.Mapping.{joined, compatible, merge, shares, fitted};
 ghost use Rattle.meaning.specs.Solutions.{passes_all};
-ghost use Rattle.solution.specs.Lookups.{tied};
+ghost use Rattle.solution.specs.Lookups.{near};
 
 use crate::filters::Filters;
 use crate::lookup::Lookup;
@@ -14,12 +14,11 @@ use algebra::{Expression, Place};
 use datasets::Id;
 use std::alloc::{AllocError, Global};
 
-// Adds the merges of a mapping with those that it ties and is compatible with.
-fn push_joined(found: &mut Vec<Mapping>, a: &Mapping, right: &Lookup) -> Result<(), AllocError>
-    ensures { OnOk result (found.new.items ≡ found.old.items ++ filter_map (joined id_order a.now) (tied right.now.variables.items right.now.mappings.items a.now)) }
+// Adds the merges of a mapping with those of these that it is compatible with.
+fn push_merges(found: &mut Vec<Mapping>, a: &Mapping, others: &[Mapping]) -> Result<(), AllocError>
+    ensures { OnOk result (found.new.items ≡ found.old.items ++ filter_map (joined id_order a.now) others.now) }
 {
-    let near = right.near(a);
-    for b in near {
+    for b in others {
         if a.is_compatible(b) {
             found.push(a.merge(b)?)?;
         }
@@ -27,9 +26,17 @@ fn push_joined(found: &mut Vec<Mapping>, a: &Mapping, right: &Lookup) -> Result<
     Ok(())
 }
 
-/// The merges of all compatible pairs that tie, in any order and with repeats.
+// Adds the merges of a mapping with those near it that it is compatible with.
+fn push_joined(found: &mut Vec<Mapping>, a: &Mapping, right: &Lookup) -> Result<(), AllocError>
+    ensures { OnOk result (found.new.items ≡ found.old.items ++ filter_map (joined id_order a.now) (near right.now.variables.items right.now.mappings.items right.now.loose.items a.now)) }
+{
+    push_merges(found, a, right.near(a))?;
+    push_merges(found, a, right.loose())
+}
+
+/// The merges of all compatible pairs that are near, in any order and with repeats.
 pub fn joins(alloc: Global, left: &[Mapping], right: &Lookup) -> Result<Vec<Mapping>, AllocError>
-    ensures { IfOk result (λ found. found.items ≡ flat_map (λ a. filter_map (joined id_order a) (tied right.now.variables.items right.now.mappings.items a)) left.now) }
+    ensures { IfOk result (λ found. found.items ≡ flat_map (λ a. filter_map (joined id_order a) (near right.now.variables.items right.now.mappings.items right.now.loose.items a)) left.now) }
 {
     let mut found = Vec::new(alloc);
     for a in left {
@@ -55,12 +62,18 @@ pub fn push_fitted(
     Ok(())
 }
 
-// Whether each on the right that ties with a mapping is incompatible with it, or shares no variable with it.
-fn is_apart(a: &Mapping, right: &Lookup) -> bool
-    ensures { result ≡ list_all (λ b. not (compatible id_order a.now b) || not (shares a.now b)) (tied right.now.variables.items right.now.mappings.items a.now) }
+// Whether each of these is incompatible with a mapping, or shares no variable with it.
+fn are_apart(a: &Mapping, others: &[Mapping]) -> bool
+    ensures { result ≡ list_all (λ b. not (compatible id_order a.now b) || not (shares a.now b)) others.now }
 {
-    let near = right.near(a);
-    near.iter().all(|b| !a.is_compatible(b) || !a.shares(b))
+    others.iter().all(|b| !a.is_compatible(b) || !a.shares(b))
+}
+
+// Whether each that is near a mapping is incompatible with it, or shares no variable with it.
+fn is_apart(a: &Mapping, right: &Lookup) -> bool
+    ensures { result ≡ list_all (λ b. not (compatible id_order a.now b) || not (shares a.now b)) (near right.now.variables.items right.now.mappings.items right.now.loose.items a.now) }
+{
+    are_apart(a, right.near(a)) && are_apart(a, right.loose())
 }
 
 /// Those that each on the right is incompatible with or shares no variable with.
@@ -69,7 +82,7 @@ pub fn apart_from(
     mappings: Vec<Mapping>,
     right: &Lookup,
 ) -> Result<Vec<Mapping>, AllocError>
-    ensures { IfOk result (λ kept. kept.items ≡ filter (λ a. list_all (λ b. not (compatible id_order a b) || not (shares a b)) (tied right.now.variables.items right.now.mappings.items a)) mappings.items) }
+    ensures { IfOk result (λ kept. kept.items ≡ filter (λ a. list_all (λ b. not (compatible id_order a b) || not (shares a b)) (near right.now.variables.items right.now.mappings.items right.now.loose.items a)) mappings.items) }
 {
     let mut kept = Vec::new(alloc);
     for a in mappings {
@@ -97,7 +110,25 @@ pub fn passes_each<F: Filters>(
     Ok(true)
 }
 
-// Whether no merge of a mapping with one that it ties and is compatible with passes the filters.
+// Whether no merge of a mapping with one of these that it is compatible with passes the filters.
+fn fail<F: Filters>(
+    alloc: Global,
+    filters: &[Expression<Id>],
+    by: &F,
+    a: &Mapping,
+    others: &[Mapping],
+) -> Result<bool, AllocError>
+    ensures { IfOk result (λ so. so ≡ list_all (λ b. not (compatible id_order a.now b && passes_all (F.passes by.now) (map expression_of filters.now) (merge a.now b))) others.now) }
+{
+    for b in others {
+        if a.is_compatible(b) && passes_each(alloc, filters, by, &a.merge(b)?)? {
+            return Ok(false);
+        }
+    }
+    Ok(true)
+}
+
+// Whether no merge of a mapping with one near it that it is compatible with passes the filters.
 fn fails_all<F: Filters>(
     alloc: Global,
     filters: &[Expression<Id>],
@@ -105,15 +136,13 @@ fn fails_all<F: Filters>(
     a: &Mapping,
     right: &Lookup,
 ) -> Result<bool, AllocError>
-    ensures { IfOk result (λ so. so ≡ list_all (λ b. not (compatible id_order a.now b && passes_all (F.passes by.now) (map expression_of filters.now) (merge a.now b))) (tied right.now.variables.items right.now.mappings.items a.now)) }
+    ensures { IfOk result (λ so. so ≡ list_all (λ b. not (compatible id_order a.now b && passes_all (F.passes by.now) (map expression_of filters.now) (merge a.now b))) (near right.now.variables.items right.now.mappings.items right.now.loose.items a.now)) }
 {
-    let near = right.near(a);
-    for b in near {
-        if a.is_compatible(b) && passes_each(alloc, filters, by, &a.merge(b)?)? {
-            return Ok(false);
-        }
+    if fail(alloc, filters, by, a, right.near(a))? {
+        fail(alloc, filters, by, a, right.loose())
+    } else {
+        Ok(false)
     }
-    Ok(true)
 }
 
 /// Those that pass each filter.
@@ -142,7 +171,7 @@ pub fn difference<F: Filters>(
     mappings: Vec<Mapping>,
     right: &Lookup,
 ) -> Result<Vec<Mapping>, AllocError>
-    ensures { IfOk result (λ kept. kept.items ≡ filter (λ a. list_all (λ b. not (compatible id_order a b && passes_all (F.passes by.now) (map expression_of filters.now) (merge a b))) (tied right.now.variables.items right.now.mappings.items a)) mappings.items) }
+    ensures { IfOk result (λ kept. kept.items ≡ filter (λ a. list_all (λ b. not (compatible id_order a b && passes_all (F.passes by.now) (map expression_of filters.now) (merge a b))) (near right.now.variables.items right.now.mappings.items right.now.loose.items a)) mappings.items) }
 {
     let mut kept = Vec::new(alloc);
     for a in mappings {

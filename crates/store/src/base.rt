@@ -1,16 +1,20 @@
 //! The base of a block.
 ghost use Rattle.std.specs.Prelude.{◌≡◌, ◌++◌, true, IfOk};
 ghost use Rattle.std.specs.List.{list_all};
+ghost use Rattle.sets.specs.Sets.{set_of};
+ghost use Rattle.datasets.specs.Id.{id_order};
+ghost use Rattle.datasets.specs.Dataset.{quad_order};
 ghost use Rattle.reads.specs.Reads.{IsDataset};
 ghost use Rattle.store.specs.Base.{IsBaseOf};
 ghost use Rattle.store.specs.Held.{is_held};
 
 use crate::numbers::{name_numbers, number_terms, quad_numbers};
-use datasets::{Id, Read};
+use datasets::{Id, Quad, Read};
 use dict::Dict;
 use dict::laws::is_renaming;
 use nquads::tag;
-use reads::{Answered, Source, Stop, View};
+use quad_index::BESIDE_SPOG;
+use reads::{Answered, IndexedView, Source, Stop, View};
 use std::alloc::{AllocError, Global};
 use std::marker::Model;
 use terms::{DataSet, Term};
@@ -20,7 +24,7 @@ use terms::{DataSet, Term};
 pub struct Base {
     alloc: Global,
     terms: Dict,
-    dataset: View,
+    dataset: IndexedView,
     tag: u32,
 }
 
@@ -47,6 +51,18 @@ fn collected(alloc: Global, mut found: Vec<Term>, terms: &[Term]) -> Result<Vec<
     Ok(found)
 }
 
+// The dataset of these quads and graph names. Its quads are kept in each of the six orders.
+fn in_each_order(
+    alloc: Global,
+    quads: Vec<Quad<Id>>,
+    names: Vec<Id>,
+) -> Result<IndexedView, AllocError>
+    ensures quads { IfOk result (λ dataset. dataset.quads ≡ set_of (quad_order id_order) quads.items) }
+    ensures names { IfOk result (λ dataset. dataset.names ≡ set_of id_order names.items) }
+{
+    IndexedView::new(alloc, View::from_parts(quads, names), &BESIDE_SPOG)
+}
+
 impl Base {
     /// The base of a dataset, with the dictionary of its terms and of more. Each term is looked up once. An error comes only where memory
     /// runs out.
@@ -61,10 +77,11 @@ impl Base {
         let ids = number_terms(alloc, &terms, parts.terms)?;
         let quads = quad_numbers(alloc, ids.as_slice(), parts.quads)?;
         let names = name_numbers(alloc, ids.as_slice(), parts.names)?;
+        let indexed = in_each_order(alloc, quads, names)?;
         Ok(Base {
             alloc,
             terms,
-            dataset: View::from_parts(quads, names),
+            dataset: indexed,
             tag,
         })
     }
@@ -77,7 +94,7 @@ impl Base {
     }
 
     /// Its dataset.
-    pub fn dataset(&self) -> &View
+    pub fn dataset(&self) -> &IndexedView
         ensures value { result.now ≡ self.now.dataset }
         ensures dataset { IsDataset result.now }
     {

@@ -1,5 +1,14 @@
 mod NodeLaws
 mod VariableLaws
+mod SolutionLaws
 mod RowLaws
 mod GrammarLaws
+mod PartLaws
+mod TokenLaws
+mod LabelLaws
+mod TermLaws
 mod WrittenLaws
+mod KeptLaws
+mod FormedLaws
+mod LabelFreeLaws
+mod BlockLaws

@@ -16,7 +16,7 @@ use Rattle.syntax_trees.specs.Expressions.{Tree}
 use Rattle.syntax_trees.specs.Groups as part
 use Rattle.syntax_trees.specs.Groups.{Part, Parts, Groups}
 use Rattle.names.specs.Names.{Prefixes, name_term, term_of}
-use Rattle.names.specs.Numbers.{Labels, number_of}
+use Rattle.names.specs.Numbers.{Labels, number_of, label_number}
 use Rattle.nodes.specs.Nodes.{nodes_of_property, nodes_of_subject, nodes_of_triples, nodes_of_block, nodes_of_blocks, nodes_of_tree, nodes_of_part, nodes_of_parts, nodes_of_groups}
 use Rattle.group_translation.specs.Triples.{of_property, of_subject, of_triples, place_of, pattern_of, patterns_of, slot_of, graph_of, quad_of, quads_of_block, template_of}
 use Rattle.group_translation.specs.Groups.{value_of, translated_tree, filter_of, filters_of, with_part, with_parts, translated_groups, translated_group, block_in, with_block, with_blocks, quads_pattern}
@@ -171,45 +171,45 @@ module _ (ds : Prefixes) (vs : List (List ℕ)) (T : Term → Type 0) (N : ℕ �
 
 -- ---- templates
 
-module _ (ds : Prefixes) (vs : List (List ℕ)) (ls : Labels) (T : Term → Type 0) (N : ℕ → Type 0) where
+module _ (ds : Prefixes) (vs : List (List ℕ)) (ls : Labels) (T : Term → Type 0) (N L : ℕ → Type 0) where
   -- of what a node stands for in a template
   abbrev pub EachOfSlotNode : Node → Type 0
   EachOfSlotNode (node.Variable v) = N (number_of vs v)
-  EachOfSlotNode (node.Blank l) = Unit {0}
+  EachOfSlotNode (node.Blank l) = L (label_number ls l)
   EachOfSlotNode (node.Name n) = T (term_of ds (node.Name n))
   EachOfSlotNode node.Type = T (term_of ds node.Type)
   EachOfSlotNode (node.Literal l) = T (term_of ds (node.Literal l))
 
-  slot_each : (n : Node) → EachOfSlotNode n → EachOfSlot T N (slot_of ds vs ls n)
+  slot_each : (n : Node) → EachOfSlotNode n → EachOfSlot T N L (slot_of ds vs ls n)
   slot_each (node.Variable v) h = h
   slot_each (node.Blank l) h = h
   slot_each (node.Name n) h = h
   slot_each node.Type h = h
   slot_each (node.Literal l) h = h
 
-  graph_each : (with : Option Name) (graph : Option Node) → IfSome with (λ n. T (name_term ds n)) → IfSome graph EachOfSlotNode → IfSome (graph_of ds vs ls with graph) (EachOfSlot T N)
+  graph_each : (with : Option Name) (graph : Option Node) → IfSome with (λ n. T (name_term ds n)) → IfSome graph EachOfSlotNode → IfSome (graph_of ds vs ls with graph) (EachOfSlot T N L)
   graph_each None None w g = tt
   graph_each (Some n) None w g = w
   graph_each with (Some n) w g = slot_each n g
 
   block_quads_each : (with : Option Name) (graph : Option Node) (xs : List SameSubject) → IfSome with (λ n. T (name_term ds n))
       → AllByRecursion EachOfSlotNode (nodes_of_block (record { graph = graph; triples = xs }))
-      → AllByRecursion (EachOfQuad T N) (quads_of_block ds vs ls with (record { graph = graph; triples = xs }))
+      → AllByRecursion (EachOfQuad T N L) (quads_of_block ds vs ls with (record { graph = graph; triples = xs }))
   block_quads_each with graph xs w h = from graph h
     where
       quad_each : (graph : Option Node) → IfSome graph EachOfSlotNode → (s v o : Node) → EachOfSlotNode s → EachOfSlotNode v → EachOfSlotNode o
-          → EachOfQuad T N (quad_of ds vs ls (graph_of ds vs ls with graph) s v o)
+          → EachOfQuad T N L (quad_of ds vs ls (graph_of ds vs ls with graph) s v o)
       quad_each graph g s v o hs hv ho = (slot_each s hs, slot_each v hv, slot_each o ho, graph_each with graph w g)
 
       from : (graph : Option Node) → AllByRecursion EachOfSlotNode (nodes_of_block (record { graph = graph; triples = xs }))
-          → AllByRecursion (EachOfQuad T N) (quads_of_block ds vs ls with (record { graph = graph; triples = xs }))
-      from None h = triples_each EachOfSlotNode (EachOfQuad T N) (quad_of ds vs ls (graph_of ds vs ls with None)) (quad_each None tt) xs h
-      from (Some n) h = triples_each EachOfSlotNode (EachOfQuad T N) (quad_of ds vs ls (graph_of ds vs ls with (Some n))) (quad_each (Some n) h.0) xs h.1
+          → AllByRecursion (EachOfQuad T N L) (quads_of_block ds vs ls with (record { graph = graph; triples = xs }))
+      from None h = triples_each EachOfSlotNode (EachOfQuad T N L) (quad_of ds vs ls (graph_of ds vs ls with None)) (quad_each None tt) xs h
+      from (Some n) h = triples_each EachOfSlotNode (EachOfQuad T N L) (quad_of ds vs ls (graph_of ds vs ls with (Some n))) (quad_each (Some n) h.0) xs h.1
 
   pub template_each : (with : Option Name) (bs : List Block) → IfSome with (λ n. T (name_term ds n)) → AllByRecursion EachOfSlotNode (nodes_of_blocks bs)
-      → AllByRecursion (EachOfQuad T N) (template_of ds vs ls with bs)
+      → AllByRecursion (EachOfQuad T N L) (template_of ds vs ls with bs)
   template_each with [] w h = tt
   template_each with (b ∷ bs) w h =
-      all_joined (EachOfQuad T N) (quads_of_block ds vs ls with b) (template_of ds vs ls with bs)
+      all_joined (EachOfQuad T N L) (quads_of_block ds vs ls with b) (template_of ds vs ls with bs)
       (block_quads_each with b.graph b.triples w (all_front EachOfSlotNode (nodes_of_block b) (nodes_of_blocks bs) h))
       (template_each with bs w (all_back EachOfSlotNode (nodes_of_block b) (nodes_of_blocks bs) h))

@@ -91,19 +91,19 @@ all_known ds vs (node.Literal l ∷ ns) h = (tt, all_known ds vs ns h)
 nodes_known : (ds : Prefixes) (ns : List Node) → AllByRecursion (EachOfNode ds (variables_of ns) (λ t. Unit {0}) (λ v. v < length (variables_of ns))) ns
 nodes_known ds ns = all_known ds (variables_of ns) ns (λ v e. number_below (variables_of ns) v (has-set_of text_total v (names_of ns) ∙ e))
 
-slot_within : (ds : Prefixes) (vs : List (List ℕ)) (ls : Labels) (n : Node) → EachOfSlotNode ds vs ls (λ t. Unit {0}) (λ v. v ≤ length vs) n
+slot_within : (ds : Prefixes) (vs : List (List ℕ)) (ls : Labels) (n : Node) → EachOfSlotNode ds vs ls (λ t. Unit {0}) (λ v. v ≤ length vs) (λ l. Unit {0}) n
 slot_within ds vs ls (node.Variable v) = number_within vs v
 slot_within ds vs ls (node.Blank l) = tt
 slot_within ds vs ls (node.Name n) = tt
 slot_within ds vs ls node.Type = tt
 slot_within ds vs ls (node.Literal l) = tt
 
-slots_within : (ds : Prefixes) (vs : List (List ℕ)) (ls : Labels) (ns : List Node) → AllByRecursion (EachOfSlotNode ds vs ls (λ t. Unit {0}) (λ v. v ≤ length vs)) ns
+slots_within : (ds : Prefixes) (vs : List (List ℕ)) (ls : Labels) (ns : List Node) → AllByRecursion (EachOfSlotNode ds vs ls (λ t. Unit {0}) (λ v. v ≤ length vs) (λ l. Unit {0})) ns
 slots_within ds vs ls [] = tt
 slots_within ds vs ls (n ∷ ns) = (slot_within ds vs ls n, slots_within ds vs ls ns)
 
-template_within : (ds : Prefixes) (vs : List (List ℕ)) (ls : Labels) (with : Option Name) (bs : List Block) → AllByRecursion (EachOfQuad (λ t. Unit {0}) (λ v. v ≤ length vs)) (template_of ds vs ls with bs)
-template_within ds vs ls with bs = template_each ds vs ls (λ t. Unit {0}) (λ v. v ≤ length vs) with bs (named with) (slots_within ds vs ls (nodes_of_blocks bs))
+template_within : (ds : Prefixes) (vs : List (List ℕ)) (ls : Labels) (with : Option Name) (bs : List Block) → AllByRecursion (EachOfQuad (λ t. Unit {0}) (λ v. v ≤ length vs) (λ l. Unit {0})) (template_of ds vs ls with bs)
+template_within ds vs ls with bs = template_each ds vs ls (λ t. Unit {0}) (λ v. v ≤ length vs) (λ l. Unit {0}) with bs (named with) (slots_within ds vs ls (nodes_of_blocks bs))
   where
     named : (with : Option Name) → IfSome with (λ n. Unit {0})
     named None = tt

@@ -1,4 +1,4 @@
--- What holds of each term in a pattern or a template (T), and of the number of each variable in it (N).
+-- What holds of each term in a pattern or a template (T), of the number of each variable in it (N), and of each label's in a template (L).
 use Rattle.std.specs.Prelude.{ℕ, IfSome}
 use Rattle.std.specs.List.{AllByRecursion}
 use Rattle.algebra.specs.declared.pattern.Place.{Place}
@@ -10,9 +10,9 @@ use Rattle.algebra.specs.declared.template.QuadTemplate.{QuadTemplate}
 use Rattle.algebra.specs.Expressions.{Expression, Constant, Variable, Bound, One, Two}
 use Rattle.algebra.specs.Plans.{Plan, Basic, Join, LeftJoin, Union, Minus, Filter, InGraph}
 
-module _ {K : Type 0} (T : K → Type 0) (N : ℕ → Type 0) where
-  -- ---- patterns
+-- ---- patterns
 
+module _ {K : Type 0} (T : K → Type 0) (N : ℕ → Type 0) where
   abbrev pub EachOfPlace : Place K → Type 0
   EachOfPlace (place.Term t) = T t
   EachOfPlace (place.Variable v) = N v
@@ -36,12 +36,13 @@ module _ {K : Type 0} (T : K → Type 0) (N : ℕ → Type 0) where
   EachOfPlan (Filter es a) = EachOfPlan a × AllByRecursion EachOfExpression es
   EachOfPlan (InGraph n a) = EachOfPlace n × EachOfPlan a
 
-  -- ---- templates, whose labels are neither
+-- ---- templates
 
+module _ {K : Type 0} (T : K → Type 0) (N L : ℕ → Type 0) where
   abbrev pub EachOfSlot : Slot K → Type 0
   EachOfSlot (slot.Term t) = T t
   EachOfSlot (slot.Variable v) = N v
-  EachOfSlot (slot.Label l) = Unit {0}
+  EachOfSlot (slot.Label l) = L l
 
   abbrev pub EachOfQuad : QuadTemplate K → Type 0
   EachOfQuad q = EachOfSlot q.subject × EachOfSlot q.predicate × EachOfSlot q.object × IfSome q.graph EachOfSlot

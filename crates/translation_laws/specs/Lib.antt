@@ -1,3 +1,5 @@
 pub mod Each
 pub mod Widths
 pub mod Written
+pub mod Formed
+pub mod Spelled

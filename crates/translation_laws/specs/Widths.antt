@@ -17,8 +17,8 @@ module _ {K : Type 0} where
   abbrev pub IsWithinWidth : Operation K → Type 0
   IsWithinWidth (operation.Modify m) =
       EachOfPlan (λ t. Unit {0}) (λ v. v < m.width) m.pattern
-      × AllByRecursion (EachOfQuad (λ t. Unit {0}) (λ v. v ≤ m.width)) m.delete
-      × AllByRecursion (EachOfQuad (λ t. Unit {0}) (λ v. v ≤ m.width)) m.insert
+      × AllByRecursion (EachOfQuad (λ t. Unit {0}) (λ v. v ≤ m.width) (λ l. Unit {0})) m.delete
+      × AllByRecursion (EachOfQuad (λ t. Unit {0}) (λ v. v ≤ m.width) (λ l. Unit {0})) m.insert
   IsWithinWidth (operation.Graphs silent op) = Unit {0}
 
   -- each basic graph pattern in a pattern is so

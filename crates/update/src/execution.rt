@@ -17,8 +17,7 @@ use algebra::Operation;
 use delta::{Delta, Finished};
 use dict::{Dict, Id};
 use meaning::{Reply, Request};
-use reads::{Note, Source, Stop};
-use sets::Items;
+use reads::{Note, SharedItems, Source, Stop};
 use std::alloc::Global;
 use std::marker::Model;
 
@@ -130,12 +129,13 @@ pub fn execute<'a, S: Source>(
 {
     let mut notes = Vec::new(alloc);
     let outcome = outcome_of(alloc, dict, place, request, source, &mut notes)?;
+    let transcript = SharedItems::from_vec(alloc, notes)?;
     Ok(Execution {
         dict,
         place,
         request,
         finished: Finished {
-            transcript: Items::from_vec(notes),
+            transcript,
             delta: outcome.delta,
             reply: outcome.reply,
         },

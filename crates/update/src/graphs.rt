@@ -40,7 +40,13 @@ fn created<S: Source>(
         return Ok(Err(Cause::GraphExists));
     }
     let there = name_list(alloc, Some(name))?;
-    let own = Delta::from_parts(Vec::new(alloc), Vec::new(alloc), there, Vec::new(alloc));
+    let own = Delta::from_parts(
+        alloc,
+        Vec::new(alloc),
+        Vec::new(alloc),
+        there,
+        Vec::new(alloc),
+    )?;
     Ok(Ok(own))
 }
 
@@ -62,7 +68,13 @@ fn cleared<S: Source>(
         return Ok(Err(Cause::GraphMissing));
     }
     let quads = quads_of(alloc, target, changes, source, notes)?;
-    let own = Delta::from_parts(Vec::new(alloc), quads, Vec::new(alloc), Vec::new(alloc));
+    let own = Delta::from_parts(
+        alloc,
+        Vec::new(alloc),
+        quads,
+        Vec::new(alloc),
+        Vec::new(alloc),
+    )?;
     Ok(Ok(own))
 }
 
@@ -85,7 +97,7 @@ fn dropped<S: Source>(
     }
     let quads = quads_of(alloc, target, changes, source, notes)?;
     let names = names_of(alloc, target, changes, source, notes)?;
-    let own = Delta::from_parts(Vec::new(alloc), quads, Vec::new(alloc), names);
+    let own = Delta::from_parts(alloc, Vec::new(alloc), quads, Vec::new(alloc), names)?;
     Ok(Ok(own))
 }
 
@@ -176,7 +188,7 @@ fn transferred<S: Source>(
     let gone = leaving(alloc, how, found, &second, changes, source, notes)?;
     let there = name_list(alloc, to)?;
     let names = name_leaving(alloc, how, from)?;
-    let own = Delta::from_parts(come, gone, there, names);
+    let own = Delta::from_parts(alloc, come, gone, there, names)?;
     Ok(Ok(own))
 }
 

@@ -9,7 +9,7 @@ ghost use Rattle.update.specs.Changed.{difference};
 use crate::known::known_of;
 use crate::presence::{names_that, quads_that};
 use delta::Delta;
-use eval::{names_lacking, quads_lacking};
+use eval::{names_outside, quads_outside};
 use reads::{Note, Source, Stop};
 use std::alloc::Global;
 
@@ -25,12 +25,13 @@ pub fn least_of<S: Source>(
     ensures goes { (allowed : Reading → Bool) → IsWithin allowed changes.now → Goes allowed (S.may source.old) (S.may source.new) notes.old.items notes.new.items }
     ensures least { IfOk result (λ change. (d : View) → IsDataset d → Agrees notes.new.items d → change ≡ difference d (applied changes.now d)) }
 {
-    let others = quads_lacking(alloc, changes.absent(), changes.present())?;
-    let other_names = names_lacking(alloc, changes.gone(), changes.there())?;
+    let others = quads_outside(alloc, changes.absent(), changes.present())?;
+    let other_names = names_outside(alloc, changes.gone(), changes.there())?;
     let known = known_of(alloc, notes.as_slice())?;
     let present = quads_that(alloc, &known, false, changes.present(), source, notes)?;
     let absent = quads_that(alloc, &known, true, &others, source, notes)?;
     let there = names_that(alloc, &known, false, changes.there(), source, notes)?;
     let gone = names_that(alloc, &known, true, &other_names, source, notes)?;
-    Ok(Delta::from_parts(present, absent, there, gone))
+    let change = Delta::from_parts(alloc, present, absent, there, gone)?;
+    Ok(change)
 }

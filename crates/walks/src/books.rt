@@ -11,16 +11,18 @@ use crate::run::play;
 use book::Book;
 use meaning::Reply;
 use numbering::Numbered;
-use reads::View;
+use reads::{IndexedView, View};
 use std::alloc::{AllocError, Global};
 use std::process::Abort;
 use std::test::Fail;
 
 /// A walk through the book of a block over an empty base.
-struct Walk {
-    block: &'static str,
+pub struct Walk {
+    pub block: &'static str,
     /// Who does what, and what it is told.
-    lines: &'static [(u32, Step, Told)],
+    pub lines: &'static [(u32, Step, Told)],
+    /// The text of the whole journal.
+    pub journal: &'static str,
     /// How many events are reads of runs.
     reads: usize,
     /// How many requests are committed. Each adds a quad.
@@ -28,7 +30,7 @@ struct Walk {
     quads: &'static str,
 }
 
-const WALKS: [Walk; 4] = [
+pub const WALKS: [Walk; 4] = [
     // The second request runs before the first has published, and is checked after it. At last it waits for the first one's commit.
     Walk {
         block: "INSERT DATA { <x:a> <x:p> <x:b> }\n----\nINSERT DATA { <x:a> <x:p> <x:b> , <x:c> }",
@@ -50,6 +52,29 @@ const WALKS: [Walk; 4] = [
             (0, Commit(0), Committed),
             (2, Commit(1), Committed),
         ],
+        journal: "sparql-block journal 1
+01 take 0001 > taken 0
+01 read 0001 0 scan <x:a> <x:p> <x:b> default > answer 0
+01 read 0001 0 scan <x:a> <x:p> <x:c> default > answer 0
+01 publish 0001 0 > published
+00 take 0000 > taken 0
+00 read 0000 0 scan <x:a> <x:p> <x:b> default > answer 0
+00 publish 0000 0 > published
+01 begin 0001 0 > begun
+01 check 0001 0 > aborted
+02 take 0001 > taken 1
+02 read 0001 1 scan <x:a> <x:p> <x:b> default > answer 1
+02 read 0001 1 scan <x:a> <x:p> <x:c> default > answer 0
+02 publish 0001 1 > published
+02 begin 0001 1 > begun
+02 check 0001 1 > passed
+02 check 0001 1 > passed
+02 commit 0001 > not-yet
+00 begin 0000 0 > begun
+00 check 0000 0 > passed
+00 commit 0000 > committed
+02 commit 0001 > committed
+",
         reads: 5,
         committed: 2,
         quads: "+ <x:a> <x:p> <x:b>\n+ <x:a> <x:p> <x:c>\n",
@@ -74,6 +99,27 @@ const WALKS: [Walk; 4] = [
             (1, Check(1, 1), Passed),
             (1, Commit(1), Committed),
         ],
+        journal: "sparql-block journal 1
+01 take 0001 > taken 0
+01 read 0001 0 scan - <x:p> - default > answer 0
+01 publish 0001 0 > published
+00 take 0000 > taken 0
+00 read 0000 0 scan <x:a> <x:p> <x:b> default > answer 0
+00 publish 0000 0 > published
+01 begin 0001 0 > begun
+01 check 0001 0 > aborted
+00 begin 0000 0 > begun
+00 check 0000 0 > passed
+00 commit 0000 > committed
+01 take 0001 > taken 1
+01 read 0001 1 scan - <x:p> - default > answer 1
+01 read 0001 1 scan <x:a> <x:q> <x:c> default > answer 0
+01 publish 0001 1 > published
+01 begin 0001 1 > begun
+01 check 0001 1 > passed
+01 check 0001 1 > passed
+01 commit 0001 > committed
+",
         reads: 4,
         committed: 2,
         quads: "+ <x:a> <x:p> <x:b>\n+ <x:a> <x:q> <x:c>\n",
@@ -101,6 +147,30 @@ const WALKS: [Walk; 4] = [
             (1, Check(1, 1), Passed),
             (1, Commit(1), Committed),
         ],
+        journal: "sparql-block journal 1
+01 take 0001 > taken 0
+01 read 0001 0 scan - <x:p> - default > answer 0
+01 publish 0001 0 > published
+01 begin 0001 0 > begun
+01 check 0001 0 > passed
+00 take 0000 > taken 0
+00 read 0000 0 scan <x:a> <x:p> <x:b> default > answer 0
+00 publish 0000 0 > published
+00 begin 0000 0 > begun
+00 check 0000 0 > passed
+00 commit 0000 > committed
+01 commit 0001 > not-yet
+01 begin 0001 0 > begun
+01 check 0001 0 > aborted
+01 take 0001 > taken 1
+01 read 0001 1 scan - <x:p> - default > answer 1
+01 read 0001 1 scan <x:a> <x:q> <x:c> default > answer 0
+01 publish 0001 1 > published
+01 begin 0001 1 > begun
+01 check 0001 1 > passed
+01 check 0001 1 > passed
+01 commit 0001 > committed
+",
         reads: 4,
         committed: 2,
         quads: "+ <x:a> <x:p> <x:b>\n+ <x:a> <x:q> <x:c>\n",
@@ -116,18 +186,26 @@ const WALKS: [Walk; 4] = [
             (0, Commit(0), NotYet),
             (0, GiveUp(0, 0), Given),
         ],
+        journal: "sparql-block journal 1
+00 take 0000 > taken 0
+00 take 0001 > stale
+01 publish 0000 0 > not-yours
+00 publish 0000 0 > not-yet
+00 commit 0000 > not-yet
+00 giveup 0000 0 > given
+",
         reads: 0,
         committed: 0,
         quads: "",
     },
 ];
 
-// The book after a walk, each of whose steps is told what it says.
-fn walked<'a>(
+/// The book after a walk, each of whose steps is told what it says.
+pub fn walked<'a>(
     rt: &impl Abort,
     alloc: Global,
     numbered: &'a Numbered,
-    base: &'a View,
+    base: &'a IndexedView,
     lines: &[(u32, Step, Told)],
 ) -> Result<Book<'a>, AllocError>
     requires { IsDataset base.now }
@@ -176,7 +254,7 @@ fn is_come_to(
 }
 
 // Whether a walk over an empty base comes out.
-fn comes_out(rt: &impl Abort, alloc: Global, base: &View, walk: &Walk) -> Result<bool, Fail>
+fn comes_out(rt: &impl Abort, alloc: Global, base: &IndexedView, walk: &Walk) -> Result<bool, Fail>
     requires { IsDataset base.now }
 {
     let numbered = numbered(alloc, "", walk.block)?;
@@ -186,7 +264,7 @@ fn comes_out(rt: &impl Abort, alloc: Global, base: &View, walk: &Walk) -> Result
 
 #[test]
 fn walks(rt: HostRuntime) -> Result<(), Fail> {
-    let base = View::new(rt.alloc());
+    let base = IndexedView::new(rt.alloc(), View::new(rt.alloc()), &[])?;
     for walk in &WALKS {
         assert!(rt; comes_out(&rt, rt.alloc(), &base, walk)?, "{}", walk.block);
     }

@@ -1,5 +1,5 @@
 //! Walks: requests over a base, blocks run one request after another, blocks run through a book event by event, in orders that workers side by
-//! side may take, through a shared book by one worker alone, and by a pool. It has tests alone.
+//! side may take, journals of books replayed, blocks run through a shared book by one worker alone, and by a pool. It has tests alone.
 #![tactic(auto)]
 
 #[cfg(test)]
@@ -18,6 +18,8 @@ mod lists;
 mod numbers;
 #[cfg(test)]
 mod pools;
+#[cfg(test)]
+mod replays;
 #[cfg(test)]
 mod requests;
 #[cfg(test)]

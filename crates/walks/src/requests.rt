@@ -30,8 +30,8 @@ impl Source for Liar {
         }
         self.left -= 1;
         match read {
-            Read::Scan(_) => Ok(Answered::new(Answer::Is(true))),
-            _ => Ok(Answered::new(Answer::Quads(Vec::new(self.alloc)))),
+            Read::Scan(_) => Ok(Answered::new(self.alloc, Answer::Is(true))?),
+            _ => Ok(Answered::new(self.alloc, Answer::Quads(Vec::new(self.alloc)))?),
         }
     }
 }

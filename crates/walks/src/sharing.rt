@@ -8,7 +8,7 @@ use crate::lines::{Step, Told, told_by};
 use crate::numbers::numbered;
 use crate::topic::Topic;
 use block_machine::Reply;
-use reads::View;
+use reads::{IndexedView, View};
 use shared::{Pass, SharedBlock};
 use std::alloc::{AllocError, Global};
 use std::sync::Wait;
@@ -136,7 +136,7 @@ const BLOCK: &str =
 fn calls_that_never_wait(rt: HostRuntime) -> Result<(), Fail> {
     let alloc = rt.alloc();
     let numbered = numbered(alloc, "", BLOCK)?;
-    let base = View::new(alloc);
+    let base = IndexedView::new(alloc, View::new(alloc), &[])?;
     let topic = Topic {
         terms: numbered.base.terms(),
         base: &base,

@@ -3,14 +3,14 @@
 use datasets::Id;
 use dict::Dict;
 use meaning::Request;
-use reads::View;
+use reads::IndexedView;
 use std::marker::Model;
 
 /// The terms that are numbered, the dataset before the first request, and the requests.
 #[derive(Drop)]
 pub struct Topic<'a> {
     pub terms: &'a Dict,
-    pub base: &'a View,
+    pub base: &'a IndexedView,
     pub block: &'a [Request<Id>],
 }
 

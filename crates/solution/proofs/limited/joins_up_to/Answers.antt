@@ -7,7 +7,7 @@ use Rattle.datasets.specs.Id.{id_order}
 use Rattle.meaning.specs.Mapping.{Mapping, mapping_cmp, joined}
 use Rattle.meaning.specs.Solutions.{passes_all}
 use Rattle.sets.specs.Sets.{set_of}
-use Rattle.solution.specs.Lookups.{tied}
+use Rattle.solution.specs.Lookups.{near}
 use Rattle.solution.proofs.Sizes.{above, before_fewer, one_more, set_early}
 use Rattle.solution.proofs.limited.joins_up_to.Goals.{then-saturating_sub-limit+else-known-limit, else-saturating_sub-limit}
 use Rattle.solution.proofs.limited.joins_up_to.Goals as goal
@@ -16,7 +16,7 @@ pub returns-then-known-limit : goal.returns-then-known-limit
 returns-then-known-limit g c =
     let set : List (Mapping Id) → List (Mapping Id) = set_of (mapping_cmp id_order) in
     let f : Mapping Id → List (Mapping Id) = λ a.
-    filter (passes_all (g.F.Filters.passes c.args.by.now) (map expression_of c.args.filters.now)) (filter_map (joined id_order a) (tied c.args.right.now.variables.items c.args.right.now.mappings.items a)) in
+    filter (passes_all (g.F.Filters.passes c.args.by.now) (map expression_of c.args.filters.now)) (filter_map (joined id_order a) (near c.args.right.now.variables.items c.args.right.now.mappings.items c.args.right.now.loose.items a)) in
     let left = c.args.left.now in
     let rest = flat_map f (drop (c.loop-a.a-index + 1) left) in
     let pushed = c.push_passing.new.found.items in
@@ -30,7 +30,7 @@ pub loop-a-preserved : goal.loop-a-preserved
 loop-a-preserved g c =
     let set : List (Mapping Id) → List (Mapping Id) = set_of (mapping_cmp id_order) in
     let f : Mapping Id → List (Mapping Id) = λ a.
-    filter (passes_all (g.F.Filters.passes c.args.by.now) (map expression_of c.args.filters.now)) (filter_map (joined id_order a) (tied c.args.right.now.variables.items c.args.right.now.mappings.items a)) in
+    filter (passes_all (g.F.Filters.passes c.args.by.now) (map expression_of c.args.filters.now)) (filter_map (joined id_order a) (near c.args.right.now.variables.items c.args.right.now.mappings.items c.args.right.now.loose.items a)) in
     let left = c.args.left.now in
     let rest = flat_map f (drop (c.loop-a.a-index + 1) left) in
     let pushed = c.push_passing.new.found.items in

@@ -6,11 +6,11 @@ use Rattle.datasets.specs.Id.{id_order}
 use Rattle.meaning.specs.Mapping.{mapping_cmp, joined}
 use Rattle.meaning.specs.Solutions.{passes_all}
 use Rattle.sets.specs.Sets.{set_of}
-use Rattle.solution.specs.Lookups.{tied}
+use Rattle.solution.specs.Lookups.{near}
 use Rattle.solution.proofs.limited.joins_up_to.Given as goal
 
 -- the merges so far and those of what is left are as a set all
 abbrev pub invariant-loop-a : goal.invariant-loop-a
 invariant-loop-a g l =
-    set_of (mapping_cmp id_order) (l.found.items ++ flat_map (λ a. filter (passes_all (g.F.Filters.passes l.by) (map expression_of l.filters)) (filter_map (joined id_order a) (tied l.right.variables.items l.right.mappings.items a))) (drop l.a-index l.left))
-    ≡ set_of (mapping_cmp id_order) (flat_map (λ a. filter (passes_all (g.F.Filters.passes l.by) (map expression_of l.filters)) (filter_map (joined id_order a) (tied l.right.variables.items l.right.mappings.items a))) l.left)
+    set_of (mapping_cmp id_order) (l.found.items ++ flat_map (λ a. filter (passes_all (g.F.Filters.passes l.by) (map expression_of l.filters)) (filter_map (joined id_order a) (near l.right.variables.items l.right.mappings.items l.right.loose.items a))) (drop l.a-index l.left))
+    ≡ set_of (mapping_cmp id_order) (flat_map (λ a. filter (passes_all (g.F.Filters.passes l.by) (map expression_of l.filters)) (filter_map (joined id_order a) (near l.right.variables.items l.right.mappings.items l.right.loose.items a))) l.left)

@@ -22,6 +22,9 @@ returns-then-exists-clause-effect g c d a = exists_is c.args.name (applied c.arg
 pub returns-in_err-there-clause-goes : goal.returns-in_err-there-clause-goes
 returns-in_err-there-clause-goes g c = c.is_graph.ensures.goes (is_near_graphs id_order (graphs.Create c.args.name)) refl
 
+pub returns-in_err-own-clause-goes : goal.returns-in_err-own-clause-goes
+returns-in_err-own-clause-goes g c = c.is_graph.ensures.goes (is_near_graphs id_order (graphs.Create c.args.name)) refl
+
 pub returns-clause-goes : goal.returns-clause-goes
 returns-clause-goes g c = c.is_graph.ensures.goes (is_near_graphs id_order (graphs.Create c.args.name)) refl
 
@@ -29,8 +32,8 @@ pub returns-clause-effect : goal.returns-clause-effect
 returns-clause-effect g c d a =
     let D = applied c.args.changes.now d in
     let Q = quad_order id_order in
-    let made = c.from_parts-own.ensures in
-    let own : c.from_parts-own.result ≡ record { present = []; absent = []; there = set_of id_order (c.args.name ∷ []); gone = [] } =
+    let made = c.in_ok-own.ensures in
+    let own : c.in_ok-own.own ≡ record { present = []; absent = []; there = set_of id_order (c.args.name ∷ []); gone = [] } =
     λ i. record {
       present = (made.present ∙ ap (set_of Q) c.new.ensures.items) i;
       absent = (made.absent ∙ ap (set_of Q) c.new-2.ensures.items) i;
@@ -43,8 +46,8 @@ pub returns-clause-within : goal.returns-clause-within
 returns-clause-within g c =
     let near = is_near_graphs id_order (graphs.Create c.args.name) in
     let Q = quad_order id_order in
-    let made = c.from_parts-own.ensures in
-    let own : c.from_parts-own.result ≡ record { present = []; absent = []; there = set_of id_order c.in_ok-there.there.items; gone = [] } =
+    let made = c.in_ok-own.ensures in
+    let own : c.in_ok-own.own ≡ record { present = []; absent = []; there = set_of id_order c.in_ok-there.there.items; gone = [] } =
     λ i. record {
       present = (made.present ∙ ap (set_of Q) c.new.ensures.items) i;
       absent = (made.absent ∙ ap (set_of Q) c.new-2.ensures.items) i;

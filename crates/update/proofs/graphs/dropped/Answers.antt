@@ -20,6 +20,9 @@ returns-in_err-quads-clause-goes g c = goes_on c.is_there.ensures.goes c.quads_o
 pub returns-in_err-names-clause-goes : goal.returns-in_err-names-clause-goes
 returns-in_err-names-clause-goes g c = goes_on c.is_there.ensures.goes (goes_on c.quads_of.ensures.goes c.names_of.ensures.goes)
 
+pub returns-in_err-own-clause-goes : goal.returns-in_err-own-clause-goes
+returns-in_err-own-clause-goes g c = goes_on c.is_there.ensures.goes (goes_on c.quads_of.ensures.goes c.names_of.ensures.goes)
+
 pub returns-clause-goes : goal.returns-clause-goes
 returns-clause-goes g c = goes_on c.is_there.ensures.goes (goes_on c.quads_of.ensures.goes c.names_of.ensures.goes)
 
@@ -28,9 +31,9 @@ returns-clause-effect g c d a =
     let t = c.args.target.now in
     let D = applied c.args.changes.now d in
     let Q = quad_order id_order in
-    let made = c.from_parts-own.ensures in
+    let made = c.in_ok-own.ensures in
     let second = c.names_of.ensures.goes.agrees d a in
-    let own : c.from_parts-own.result ≡ record { present = []; absent = set_of Q (quads_of t D.quads); there = []; gone = set_of id_order (names_of t D.names) } =
+    let own : c.in_ok-own.own ≡ record { present = []; absent = set_of Q (quads_of t D.quads); there = []; gone = set_of id_order (names_of t D.names) } =
     λ i. record {
       present = (made.present ∙ ap (set_of Q) c.new.ensures.items) i;
       absent = (made.absent ∙ ap (set_of Q) (c.in_ok-quads.ensures.seen d second)) i;
@@ -44,8 +47,8 @@ pub returns-clause-within : goal.returns-clause-within
 returns-clause-within g c =
     let near = is_near_target id_order c.args.target.now in
     let Q = quad_order id_order in
-    let made = c.from_parts-own.ensures in
-    let own : c.from_parts-own.result ≡ record { present = []; absent = set_of Q c.in_ok-quads.quads.items; there = []; gone = set_of id_order c.in_ok-names.names.items } =
+    let made = c.in_ok-own.ensures in
+    let own : c.in_ok-own.own ≡ record { present = []; absent = set_of Q c.in_ok-quads.quads.items; there = []; gone = set_of id_order c.in_ok-names.names.items } =
     λ i. record {
       present = (made.present ∙ ap (set_of Q) c.new.ensures.items) i;
       absent = made.absent i;

@@ -87,6 +87,15 @@ returns-in_err-names-clause-goes g c =
     (goes_on (goes_within (λ r e. first_near how from to r (ap (λ t. is_near_target id_order t r) (sym c.target_of-first.ensures) ∙ e)) c.quads_of.ensures.goes)
     (goes_within (λ r e. second_near how from to r (ap (λ t. is_near_target id_order t r) (sym c.target_of-second.ensures) ∙ e)) c.leaving.ensures.goes))
 
+pub returns-in_err-own-clause-goes : goal.returns-in_err-own-clause-goes
+returns-in_err-own-clause-goes g c =
+    let how = c.args.how in
+    let from = c.args.from in
+    let to = c.args.to in
+    goes_on (goes_within (λ r e. first_near how from to r (ap (λ t. is_near_target id_order t r) (sym c.target_of-first.ensures) ∙ e)) c.is_there.ensures.goes)
+    (goes_on (goes_within (λ r e. first_near how from to r (ap (λ t. is_near_target id_order t r) (sym c.target_of-first.ensures) ∙ e)) c.quads_of.ensures.goes)
+    (goes_within (λ r e. second_near how from to r (ap (λ t. is_near_target id_order t r) (sym c.target_of-second.ensures) ∙ e)) c.leaving.ensures.goes))
+
 pub returns-clause-goes : goal.returns-clause-goes
 returns-clause-goes g c =
     let how = c.args.how in
@@ -103,13 +112,13 @@ returns-clause-effect g c d a =
     let to = c.args.to in
     let D = applied c.args.changes.now d in
     let Q = quad_order id_order in
-    let made = c.from_parts-own.ensures in
+    let made = c.in_ok-own.ensures in
     let second = c.leaving.ensures.goes.agrees d a in
     let found = c.in_ok-found.ensures.seen d second ∙ ap (λ t. quads_of t D.quads) c.target_of-first.ensures ∙ quads_of_one from D.quads in
     let others = ap (λ t. quads_of t D.quads) c.target_of-second.ensures ∙ quads_of_one to D.quads in
     let come = c.in_ok-come.ensures ∙ ap (map (in_graph id_order to)) (c.deref.ensures.value ∙ found) in
     let gone = c.in_ok-gone.ensures.seen d a ∙ (λ i. leaving how (found i) (others i)) in
-    let own : c.from_parts-own.result ≡ transfer_change how from to D =
+    let own : c.in_ok-own.own ≡ transfer_change how from to D =
     λ i. record {
       present = (made.present ∙ ap (set_of Q) come) i;
       absent = (made.absent ∙ ap (set_of Q) gone) i;
@@ -127,8 +136,8 @@ returns-clause-within g c =
     let to = c.args.to in
     let op = graphs.Transfer how from to in
     let near = is_near_graphs id_order op in
-    let made = c.from_parts-own.ensures in
-    let own : c.from_parts-own.result ≡ record { present = set_of (quad_order id_order) c.in_ok-come.come.items; absent = set_of (quad_order id_order) c.in_ok-gone.gone.items; there = set_of id_order c.in_ok-there.there.items; gone = set_of id_order c.in_ok-names.names.items } =
+    let made = c.in_ok-own.ensures in
+    let own : c.in_ok-own.own ≡ record { present = set_of (quad_order id_order) c.in_ok-come.come.items; absent = set_of (quad_order id_order) c.in_ok-gone.gone.items; there = set_of id_order c.in_ok-there.there.items; gone = set_of id_order c.in_ok-names.names.items } =
     λ i. record { present = made.present i; absent = made.absent i; there = made.there i; gone = made.gone i } in
     let come = subst (AskedQuads near) (sym c.in_ok-come.ensures) (put_near how from to c.deref.result.now) in
     let found = asked_more (is_near_target id_order c.target_of-first.result) near (λ r e. first_near how from to r (ap (λ t. is_near_target id_order t r) (sym c.target_of-first.ensures) ∙ e)) c.in_ok-found.found.items c.in_ok-found.ensures.within in

@@ -65,6 +65,13 @@ returns-in_err-gone-clause-goes g c allowed h =
     goes_on (c.quads_that.ensures.goes allowed (quads_within allowed _ _ c.present-2.ensures.value h.present)) (goes_on (c.quads_that-2.ensures.goes allowed (others_within allowed _ _ _ others h.absent)) (goes_on (c.names_that.ensures.goes allowed (names_within allowed _ _ c.there-2.ensures.value h.there))
     (c.names_that-2.ensures.goes allowed (other_names_within allowed _ _ _ other_names h.gone))))
 
+pub returns-in_err-change-clause-goes : goal.returns-in_err-change-clause-goes
+returns-in_err-change-clause-goes g c allowed h =
+    let others = c.deref.ensures.value ∙ c.in_ok-others.ensures ∙ (λ i. without (quad_order id_order) (c.absent.ensures.value i) (c.present.ensures.value i)) in
+    let other_names = c.deref-2.ensures.value ∙ c.in_ok-other_names.ensures ∙ (λ i. without id_order (c.gone.ensures.value i) (c.there.ensures.value i)) in
+    goes_on (c.quads_that.ensures.goes allowed (quads_within allowed _ _ c.present-2.ensures.value h.present)) (goes_on (c.quads_that-2.ensures.goes allowed (others_within allowed _ _ _ others h.absent)) (goes_on (c.names_that.ensures.goes allowed (names_within allowed _ _ c.there-2.ensures.value h.there))
+    (c.names_that-2.ensures.goes allowed (other_names_within allowed _ _ _ other_names h.gone))))
+
 pub returns-clause-goes : goal.returns-clause-goes
 returns-clause-goes g c allowed h =
     let others = c.deref.ensures.value ∙ c.in_ok-others.ensures ∙ (λ i. without (quad_order id_order) (c.absent.ensures.value i) (c.present.ensures.value i)) in
@@ -80,9 +87,9 @@ returns-clause-least g c d h a =
     let third = (c.names_that-2.ensures.goes any (always (λ g. true ≡ true) (λ g. refl) c.deref-2.result.now)).agrees d a in
     let second = (c.names_that.ensures.goes any (always (λ g. true ≡ true) (λ g. refl) c.there-2.result.now)).agrees d third in
     let first = (c.quads_that-2.ensures.goes any (always (λ q. true ≡ true) (λ q. refl) c.deref.result.now)).agrees d second in
-    least_is c.from_parts.result c.args.changes.now d h (record {
-      present = c.from_parts.ensures.present ∙ ap (set_of (quad_order id_order)) (c.in_ok-present.ensures.told d first ∙ ap (λ qs. without (quad_order id_order) qs d.quads) c.present-2.ensures.value);
-      absent = c.from_parts.ensures.absent ∙ ap (set_of (quad_order id_order)) (c.in_ok-absent.ensures.told d second ∙ ap (filter (has (quad_order id_order) d.quads)) others);
-      there = c.from_parts.ensures.there ∙ ap (set_of id_order) (c.in_ok-there.ensures.told d third ∙ ap (λ ns. without id_order ns d.names) c.there-2.ensures.value);
-      gone = c.from_parts.ensures.gone ∙ ap (set_of id_order) (c.in_ok-gone.ensures.told d a ∙ ap (filter (has id_order d.names)) other_names);
+    least_is c.in_ok-change.change c.args.changes.now d h (record {
+      present = c.in_ok-change.ensures.present ∙ ap (set_of (quad_order id_order)) (c.in_ok-present.ensures.told d first ∙ ap (λ qs. without (quad_order id_order) qs d.quads) c.present-2.ensures.value);
+      absent = c.in_ok-change.ensures.absent ∙ ap (set_of (quad_order id_order)) (c.in_ok-absent.ensures.told d second ∙ ap (filter (has (quad_order id_order) d.quads)) others);
+      there = c.in_ok-change.ensures.there ∙ ap (set_of id_order) (c.in_ok-there.ensures.told d third ∙ ap (λ ns. without id_order ns d.names) c.there-2.ensures.value);
+      gone = c.in_ok-change.ensures.gone ∙ ap (set_of id_order) (c.in_ok-gone.ensures.told d a ∙ ap (filter (has id_order d.names)) other_names);
     })

@@ -6,7 +6,7 @@ use Rattle.datasets.specs.Id.{id_order}
 use Rattle.meaning.specs.Mapping.{Mapping, joined}
 use Rattle.meaning.specs.Solutions.{passes_all}
 use Rattle.solution.specs.Limits.{up_to}
-use Rattle.solution.specs.Lookups.{tied}
+use Rattle.solution.specs.Lookups.{near}
 use Rattle.solution.proofs.Sizes.{merges_are}
 use Rattle.solution.proofs.Tied.{has_all_is, joins_are}
 use Rattle.solution.proofs.solutions.Solutions.join_up_to.Goals as goal
@@ -17,6 +17,6 @@ returns g c =
     let ys = c.args.right in
     let right = c.in_ok-right.right in
     let test : Mapping Id → Bool = passes_all (g.F.Filters.passes c.args.by.now) (map expression_of c.args.filters.now) in
-    let all = has_all_is right.variables.items right.mappings.items _ xs _ ys (c.deref.ensures.value ∙ c.self.view_is) c.right.view_is c.in_ok-right.ensures in
-    let is = merges_are test (λ a. filter_map (joined id_order a) (tied right.variables.items right.mappings.items a)) c.deref-2.result.now _ (joins_are right.variables.items right.mappings.items ys xs all c.deref-2.result.now (c.deref-2.ensures.value ∙ c.self.view_is)) in
+    let all = has_all_is right.variables.items right.mappings.items right.loose.items _ ys c.right.view_is c.in_ok-right.ensures in
+    let is = merges_are test (λ a. filter_map (joined id_order a) (near right.variables.items right.mappings.items right.loose.items a)) c.deref-2.result.now _ (joins_are right.variables.items right.mappings.items right.loose.items ys all xs c.deref-2.result.now (c.deref-2.ensures.value ∙ c.self.view_is)) in
     subst (λ (zs : List (Mapping Id)). IfOk c.joins_up_to.result (λ x. x ≡ up_to c.args.limit zs)) is c.joins_up_to.ensures

@@ -16,11 +16,12 @@ returns g c =
     let ys = c.args.right in
     let right = c.in_ok-right.right in
     let test : Mapping Id → Bool = passes_all (g.F.Filters.passes c.args.by.now) (map expression_of c.args.filters.now) in
-    let all = has_all_is right.variables.items right.mappings.items _ xs _ ys (c.deref.ensures.value ∙ c.self.view_is) c.right.view_is c.in_ok-right.ensures in
+    let all = has_all_is right.variables.items right.mappings.items right.loose.items _ ys c.right.view_is c.in_ok-right.ensures in
     let joined : c.from_mappings-merges.result ≡ join id_order xs ys =
     c.from_mappings-merges.ensures
-    ∙ ap (set_of (mapping_cmp id_order)) (c.in_ok-joins.ensures ∙ joins_are right.variables.items right.mappings.items ys xs all c.deref-2.result.now (c.deref-2.ensures.value ∙ c.self.view_is)) in
+    ∙ ap (set_of (mapping_cmp id_order)) c.in_ok-joins.ensures
+    ∙ joins_are right.variables.items right.mappings.items right.loose.items ys all xs c.deref-2.result.now (c.deref-2.ensures.value ∙ c.self.view_is) in
     let found : c.in_ok-found.found ≡ filter test (join id_order xs ys) = c.in_ok-found.ensures ∙ ap (filter test) joined in
     let rest : c.in_ok-rest.rest.items ≡ diff id_order test xs ys =
-    c.in_ok-rest.ensures ∙ rest_are right.variables.items right.mappings.items ys xs all c.self.inside.mappings.items c.self.view_is test in
+    c.in_ok-rest.ensures ∙ rest_are right.variables.items right.mappings.items right.loose.items ys all xs c.self.inside.mappings.items c.self.view_is test in
     subst (λ (all : List (Mapping Id)). IfOk c.union_with.result (λ x. x ≡ all)) (λ i. union_of id_order (found i) (rest i)) c.union_with.ensures

@@ -10,8 +10,8 @@ invariant_of-result c = rises-filter _ _ _ c.self.invariant c.in_ok-mappings.ens
 pub returns : goal.returns
 returns c =
     let right = c.in_ok-right.right in
-    let all = has_all_is right.variables.items right.mappings.items _ c.args.self _ c.args.right (c.deref-3.ensures.value ∙ c.self.view_is) c.right.view_is c.in_ok-right.ensures in
-    c.in_ok-mappings.ensures ∙ apart_are right.variables.items right.mappings.items c.args.right c.args.self all _ c.self.view_is
+    let all = has_all_is right.variables.items right.mappings.items right.loose.items _ c.args.right c.right.view_is c.in_ok-right.ensures in
+    c.in_ok-mappings.ensures ∙ apart_are right.variables.items right.mappings.items right.loose.items c.args.right all c.args.self _ c.self.view_is
 
 pub returns-then-not-share_some : goal.returns-then-not-share_some
 returns-then-not-share_some c =

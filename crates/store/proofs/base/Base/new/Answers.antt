@@ -44,7 +44,7 @@ returns-clause-base c =
     let names_made = c.in_ok-names.ensures ∙ ap (λ (xs : List Id). map (number_at xs) places) c.as_slice-2.ensures.value in
     let qs = quads_are dict terms ids c.in_ok-ids.ensures.renamed c.in_ok-ids.ensures.known placed c.parts-parts.ensures.within.0 in
     let ns = names_are dict terms ids c.in_ok-ids.ensures.renamed c.in_ok-ids.ensures.known places c.parts-parts.ensures.within.1 in
-    base_of c.args.dataset.now dict c.from_parts.result c.in_ok-tag.tag
+    base_of c.args.dataset.now dict c.in_ok-indexed.indexed c.in_ok-tag.tag
     (map (quad_at terms) placed) (map (term_at terms) places) c.in_ok-quads.quads.items c.in_ok-names.names.items
     c.freeze-terms.ensures.form (c.is_renaming.ensures dict c.freeze-terms.ensures.form)
     c.parts-parts.ensures.dataset (ap (λ (d : Dataset Term). d.quads) c.parts-parts.ensures.parts) (ap (λ (d : Dataset Term). d.names) c.parts-parts.ensures.parts)
@@ -52,7 +52,7 @@ returns-clause-base c =
     (ap (λ (xs : List (Quad Id)). list_all (quad_known (is_known dict)) xs) quads_made ∙ qs.1)
     (ap (λ (xs : List Id). map (term_of dict) xs) names_made ∙ ns.0)
     (ap (λ (xs : List Id). list_all (is_known dict) xs) names_made ∙ ns.1)
-    c.from_parts.ensures.quads c.from_parts.ensures.names c.in_ok-tag.ensures
+    c.in_ok-indexed.ensures.quads c.in_ok-indexed.ensures.names c.in_ok-tag.ensures
 
 pub invariant_of-result : goal.invariant_of-result
 invariant_of-result c =
@@ -65,7 +65,7 @@ invariant_of-result c =
     let names_made = c.in_ok-names.ensures ∙ ap (λ (xs : List Id). map (number_at xs) places) c.as_slice-2.ensures.value in
     let qs = quads_are dict terms ids c.in_ok-ids.ensures.renamed c.in_ok-ids.ensures.known placed c.parts-parts.ensures.within.0 in
     let ns = names_are dict terms ids c.in_ok-ids.ensures.renamed c.in_ok-ids.ensures.known places c.parts-parts.ensures.within.1 in
-    (base_of c.args.dataset.now dict c.from_parts.result c.in_ok-tag.tag
+    (base_of c.args.dataset.now dict c.in_ok-indexed.indexed c.in_ok-tag.tag
     (map (quad_at terms) placed) (map (term_at terms) places) c.in_ok-quads.quads.items c.in_ok-names.names.items
     c.freeze-terms.ensures.form (c.is_renaming.ensures dict c.freeze-terms.ensures.form)
     c.parts-parts.ensures.dataset (ap (λ (d : Dataset Term). d.quads) c.parts-parts.ensures.parts) (ap (λ (d : Dataset Term). d.names) c.parts-parts.ensures.parts)
@@ -73,4 +73,4 @@ invariant_of-result c =
     (ap (λ (xs : List (Quad Id)). list_all (quad_known (is_known dict)) xs) quads_made ∙ qs.1)
     (ap (λ (xs : List Id). map (term_of dict) xs) names_made ∙ ns.0)
     (ap (λ (xs : List Id). list_all (is_known dict) xs) names_made ∙ ns.1)
-    c.from_parts.ensures.quads c.from_parts.ensures.names c.in_ok-tag.ensures).dataset
+    c.in_ok-indexed.ensures.quads c.in_ok-indexed.ensures.names c.in_ok-tag.ensures).dataset

@@ -1,0 +1,140 @@
+//! Scans of an index by each of the sixteen sets of bound places, beside a plain filter.
+use datasets::{GraphPlace, Id, Quad, QuadPattern};
+use quad_index::{Arrangement, BESIDE_SPOG, Index};
+use sets::set_of;
+use std::alloc::{AllocError, Global};
+
+fn graph_of(i: usize) -> Option<Id> {
+    if i % 3 == 0 {
+        None
+    } else {
+        Some(Id::Known(i % 3))
+    }
+}
+
+fn quad_of(i: usize) -> Quad<Id> {
+    Quad {
+        subject: Id::Known(i % 25),
+        predicate: Id::Known(i % 4),
+        object: Id::Known(i / 25),
+        graph: graph_of(i),
+    }
+}
+
+// 500 quads, and those that come with them.
+fn quads_with(mut quads: Vec<Quad<Id>>) -> Result<Vec<Quad<Id>>, AllocError> {
+    for i in 0..500 {
+        quads.push(quad_of(i))?;
+    }
+    Ok(quads)
+}
+
+fn indexed(
+    alloc: Global,
+    quads: Vec<Quad<Id>>,
+    orders: &[Arrangement],
+) -> Result<Index, AllocError> {
+    Index::new(alloc, set_of(quads), orders)
+}
+
+fn bound_if(so: bool, term: Id) -> Option<Id> {
+    if so { Some(term) } else { None }
+}
+
+// A quad's pattern, in which the places of these bits are bound.
+fn pattern_of(places: u32, quad: &Quad<Id>) -> QuadPattern<Id> {
+    QuadPattern {
+        subject: bound_if(places & 1 != 0, quad.subject),
+        predicate: bound_if(places & 2 != 0, quad.predicate),
+        object: bound_if(places & 4 != 0, quad.object),
+        graph: if places & 8 != 0 {
+            GraphPlace::Only(quad.graph)
+        } else {
+            GraphPlace::Any
+        },
+    }
+}
+
+fn is_or_free(place: Option<Id>, term: Id) -> bool {
+    match place {
+        Some(bound) => bound == term,
+        None => true,
+    }
+}
+
+fn fits(pattern: &QuadPattern<Id>, quad: &Quad<Id>) -> bool {
+    let graph = match pattern.graph {
+        GraphPlace::Only(graph) => graph == quad.graph,
+        GraphPlace::Any => true,
+    };
+    graph
+        && is_or_free(pattern.subject, quad.subject)
+        && is_or_free(pattern.predicate, quad.predicate)
+        && is_or_free(pattern.object, quad.object)
+}
+
+fn filtered(
+    alloc: Global,
+    pattern: &QuadPattern<Id>,
+    quads: &[Quad<Id>],
+) -> Result<Vec<Quad<Id>>, AllocError> {
+    let mut found = Vec::new(alloc);
+    for quad in quads {
+        if fits(pattern, quad) {
+            found.push(*quad)?;
+        }
+    }
+    Ok(found)
+}
+
+// Whether each pattern of a quad finds what a filter does, the quad among it.
+fn finds_all(alloc: Global, index: &Index, quad: &Quad<Id>) -> Result<bool, AllocError> {
+    let mut so = true;
+    for places in 0..16 {
+        let pattern = pattern_of(places, quad);
+        let found = index.scan(alloc, &pattern)?;
+        let wanted = filtered(alloc, &pattern, index.quads())?;
+        so = so && found.as_slice() == wanted.as_slice() && found.as_slice().contains(quad);
+    }
+    Ok(so)
+}
+
+#[test]
+fn each_pattern_finds_what_a_filter_does(rt: HostRuntime) -> Result<(), AllocError> {
+    let alloc = rt.alloc();
+    let quads = quads_with(Vec::new(alloc))?;
+    let index = indexed(alloc, quads, &BESIDE_SPOG)?;
+    assert!(rt; index.quads().len() == 500);
+    assert!(rt; finds_all(alloc, &index, &quad_of(123))?);
+    assert!(rt; finds_all(alloc, &index, &quad_of(499))?);
+    Ok(())
+}
+
+#[test]
+fn an_index_without_the_order_finds_the_same(rt: HostRuntime) -> Result<(), AllocError> {
+    let alloc = rt.alloc();
+    let quads = quads_with(Vec::new(alloc))?;
+    let index = indexed(alloc, quads, &[Arrangement::Ogsp])?;
+    assert!(rt; finds_all(alloc, &index, &quad_of(123))?);
+    Ok(())
+}
+
+#[test]
+fn a_made_node_is_found(rt: HostRuntime) -> Result<(), AllocError> {
+    let alloc = rt.alloc();
+    let made = Quad {
+        subject: Id::Made {
+            request: 0,
+            op: 0,
+            label: 0,
+            rank: 0,
+        },
+        ..quad_of(7)
+    };
+    let mut quads = Vec::new(alloc);
+    quads.push(made)?;
+    let index = indexed(alloc, quads_with(quads)?, &BESIDE_SPOG)?;
+    assert!(rt; index.quads().len() == 501);
+    assert!(rt; finds_all(alloc, &index, &made)?);
+    Ok(())
+}

@@ -1,0 +1,114 @@
+//! Datasets whose quads are kept in several orders.
+ghost use Rattle.std.specs.Prelude.{◌≡◌, IfOk, [], filter};
+ghost use Rattle.datasets.specs.Id.{id_order};
+ghost use Rattle.datasets.specs.Dataset.{matches};
+ghost use Rattle.change_laws.specs.Laws.{IsRising};
+ghost use Rattle.reads.specs.Reads.{says};
+
+use crate::answered::Answered;
+use crate::lists::{copied_names, copied_quads};
+use crate::view::View;
+use datasets::{Answer, Id, Quad, QuadPattern, Read};
+use quad_index::{Arrangement, Index};
+use std::alloc::{AllocError, Global};
+use std::marker::Model;
+
+/// A dataset that stays as it is: a set of quads, found by binary search whatever a pattern binds, and a set of graph names.
+#[derive(Drop)]
+pub struct IndexedView {
+    quads: Index,
+    // The graph names alone.
+    named: View,
+}
+
+impl Model for IndexedView {
+    ghost use Rattle.datasets.specs.Dataset.{Dataset};
+    ghost use Rattle.datasets.specs.declared.id.Id.{Id};
+
+    ghost Value = { Dataset Id };
+
+    ghost view = { λ d. record { quads = d.quads; names = d.named.names } };
+}
+
+impl IndexedView {
+    /// This dataset, its quads in these orders beside SPOG. An error comes only where memory runs out.
+    pub fn new(
+        alloc: Global,
+        dataset: View,
+        orders: &[Arrangement],
+    ) -> Result<IndexedView, AllocError>
+        ensures { IfOk result (λ indexed. indexed ≡ dataset) }
+    {
+        dataset.rises();
+        let (quads, names) = dataset.into_parts();
+        let quads = Index::new(alloc, quads, orders)?;
+        let named = View::from_sets(Vec::new(alloc), names);
+        Ok(IndexedView { quads, named })
+    }
+
+    /// Its quads.
+    pub fn quads(&self) -> &[Quad<Id>]
+        ensures { result.now ≡ self.now.quads }
+    {
+        self.quads.quads()
+    }
+
+    /// Its graph names.
+    pub fn names(&self) -> &[Id]
+        ensures { result.now ≡ self.now.names }
+    {
+        self.named.names()
+    }
+
+    /// The same dataset, its quads in SPOG alone.
+    pub fn copied(&self, alloc: Global) -> Result<View, AllocError>
+        ensures { IfOk result (λ copy. copy ≡ self.now) }
+    {
+        self.rises();
+        let quads = copied_quads(alloc, self.quads())?;
+        let names = copied_names(alloc, self.names())?;
+        Ok(View::from_sets(quads, names))
+    }
+
+    /// Its quads and its names are sets.
+    pub fn rises(&self)
+        ensures { IsRising id_order self.now }
+    {
+        let _ = self.quads.quads();
+        self.named.rises();
+    }
+
+    // The quads that match.
+    fn matching_part(&self, alloc: Global, pattern: &QuadPattern<Id>) -> Result<View, AllocError>
+        ensures { IfOk result (λ part. part ≡ record { quads = filter (matches id_order pattern.now) self.now.quads; names = [] }) }
+    {
+        self.rises();
+        let quads = self.quads.scan(alloc, pattern)?;
+        Ok(View::from_sets(quads, Vec::new(alloc)))
+    }
+
+    /// The part of the dataset that the read asks for: what it says of the part is what it says of the whole.
+    pub fn asked(&self, alloc: Global, read: &Read<Id>) -> Result<View, AllocError>
+        ensures { IfOk result (λ part. says read.now part ≡ says read.now self.now) }
+    {
+        match read {
+            Read::Scan(pattern) => self.matching_part(alloc, pattern),
+            Read::GraphIs(_) => self.named.asked(alloc, read),
+            Read::Graphs => self.named.asked(alloc, read),
+        }
+    }
+
+    /// What the read says of the dataset.
+    pub fn answer(&self, alloc: Global, read: &Read<Id>) -> Result<Answered, AllocError>
+        ensures { IfOk result (λ answer. answer ≡ says read.now self.now) }
+    {
+        match read {
+            Read::Scan(pattern) => {
+                let quads = self.quads.scan(alloc, pattern)?;
+                Answered::new(alloc, Answer::Quads(quads))
+            }
+            Read::GraphIs(_) => self.named.answer(alloc, read),
+            Read::Graphs => self.named.answer(alloc, read),
+        }
+    }
+}
