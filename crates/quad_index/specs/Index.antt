@@ -13,9 +13,11 @@ use Rattle.quad_index.specs.declared.order.Order.{Order}
 abbrev pub IsAlike : List (Quad Id) → Order → Type 0
 IsAlike quads order = (p : Quad Id → Bool) → list_any p (map quad_of order.entries.items) ≡ list_any p quads
 
+-- each of the orders does
 abbrev pub AllAlike : List (Quad Id) → List Order → Type 0
 AllAlike quads orders = All (IsAlike quads) orders
 
+-- a set of quads, and orders that have them
 pub record IsIndex (quads : List (Quad Id)) (orders : List Order) : Type 0 where
   pub set : IsStrictlySortedBy (quad_order id_order) quads
   pub alike : AllAlike quads orders
