@@ -43,6 +43,16 @@ module _ (base : View) (slots : List Slot) where
     next_uncovered rising e =
         alike ∙ sym (uncovered c (view_at base slots j) r (view_rises rising j) e) ∙ ap (λ d. says r (applied d (view_at base slots j))) is
 
+    -- the same, where the read is another name of this one
+
+    module _ (r' : Read) (same_read : r' ≡ r) where
+      pub covered_as : (asked : Delta) (next : View) → ((d : View) → says r' (applied asked d) ≡ says r' (applied c d)) → next ≡ applied asked part → says r next ≡ says r (view_at base slots (suc j))
+      covered_as asked next same e =
+          next_covered asked next (λ d. ap (λ z. says z (applied asked d)) (sym same_read) ∙ same d ∙ ap (λ z. says z (applied c d)) same_read) e
+
+      pub uncovered_as : IsRising id_order base → covers c r' ≡ false → says r part ≡ says r (view_at base slots (suc j))
+      uncovered_as rising e = next_uncovered rising (ap (covers c) (sym same_read) ∙ e)
+
 -- a delta takes its request's view to the next one's
 pub changes_one : (slots : List Slot) (low high : ℕ) (x : Slot) (c : Delta) → low < length slots → c ≡ (slice_index_or slots low x).delta → high ≡ suc low → (base : View) → applied c (view_at base slots low) ≡ view_at base slots high
 unfolding view_at

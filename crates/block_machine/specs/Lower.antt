@@ -1,6 +1,6 @@
 -- Where the machine looks for what the requests below one have published.
 use Rattle.std.specs.Prelude.{◌≡◌, ℕ, zero, suc, ◌<◌, ◌≤◌, Bool, true, false, nat_le, List, length, map, Option, Some, None, slice_index_or}
-use Rattle.reads.specs.Reads.{Read, covers}
+use Rattle.reads.specs.Reads.{View, Read, covers}
 use Rattle.block_machine.specs.declared.state.Slot.{Slot}
 use Rattle.block_machine.specs.Machine.{slot_at, is_closed, is_current}
 use Rattle.block_machine.specs.Waiting.{standing_of}
@@ -44,3 +44,8 @@ pub record KeepsBeside (slots : List Slot) (front : ℕ) (spoken : Read → ℕ 
 abbrev pub stands_after : Option ℕ → ℕ → Bool
 stands_after None latest = false
 stands_after (Some moment) latest = nat_le latest moment
+
+-- what is left of a dataset that changes have changed, and the dataset where none has
+abbrev pub part_or : View → Option View → View
+part_or whole None = whole
+part_or whole (Some part) = part

@@ -9,6 +9,7 @@ mod candidates;
 mod incarnations;
 pub mod laws;
 mod machine;
+mod scans;
 mod slot;
 mod spoken;
 mod state;
@@ -16,6 +17,7 @@ pub mod validate;
 mod version_overlay;
 
 pub use machine::Machine;
+pub use scans::scans_of;
 pub use spoken::Spoken;
 pub use state::{Entry, Event, Noted, Pass, Reply, Slot, Status};
 pub use validate::Verdict;

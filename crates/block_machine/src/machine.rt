@@ -4,6 +4,7 @@ ghost use Rattle.reads.specs.Reads.{View as Base};
 ghost use Rattle.block_machine.specs.declared.state.Noted.{Noted as Described};
 ghost use Rattle.block_machine.specs.Serial.{replies_to};
 ghost use Rattle.block_machine.specs.Lower.{Leads, stands_after};
+ghost use Rattle.block_machine.specs.Scans.{questions_of};
 ghost use Rattle.block_machine.specs.Waiting.{has_work, IsLeastWork};
 ghost use Rattle.block_machine.specs.Machine.{fresh, view_at, slot_at, is_current, note_now, note_of, can_commit, transcript_of, CheckVerdict, NextNamesAnswer, NoteVerdict, NoteReply, verdict_reply, wanted_reply, status_of, is_closed as closed, HasNext, IsReady, IsPlain, IsAllowed, after};
 
@@ -17,7 +18,7 @@ use crate::{incarnations, slot};
 use datasets::{Id, Read};
 use delta::Finished;
 use reads::same::same_reads;
-use reads::{IndexedView, Note, View};
+use reads::{IndexedView, Note, Scanned, View};
 use stamp_tree::StampTree;
 use std::alloc::{AllocError, Global};
 use std::marker::Model;
@@ -116,15 +117,18 @@ impl Machine {
         replies_before(alloc, self.slots.as_slice(), self.front)
     }
 
-    /// One event of a worker, with its reply twice: to keep, and to tell. It takes memory before it changes anything.
+    /// One event of a worker, with what its read says of the base, and with its reply twice: to keep, and to tell. A check compares touching
+    /// lists. It takes memory before it changes anything.
     pub fn step(
         &mut self,
         alloc: Global,
         base: &IndexedView,
         worker: u32,
         event: &Event,
+        scans: &[Scanned<'_>],
     ) -> Result<(Reply, Reply), AllocError>
-        requires { IsReady base.now self.old }
+        requires ready { IsReady base.now self.old }
+        requires scans { scans.now ≡ questions_of base.now event.now }
         ensures same { IfOk result (λ replies. replies.1 ≡ replies.0) }
         ensures allowed { IfOk result (λ replies. IsAllowed base.now self.old worker event.now replies.0) }
         ensures changed { IfOk result (λ replies. self.new ≡ after self.old worker event.now replies.0) }
@@ -132,14 +136,14 @@ impl Machine {
     {
         match event {
             Event::Take(i) => Ok(twice(self.take(worker, *i))),
-            Event::Read(i, n, read) => self.read(alloc, base, worker, *i, *n, read),
+            Event::Read(i, n, _) => self.read(alloc, &scans[0], worker, *i, *n),
             Event::Publish(i, n, finished) => {
                 let reply = self.publish(alloc, worker, *i, *n, finished.as_ref())?;
                 Ok(twice(reply))
             }
             Event::Begin(i, n) => Ok(twice(self.begin(worker, *i, *n))),
             Event::Check(i, n) => {
-                let reply = self.check(alloc, base, worker, *i, *n, true)?;
+                let reply = self.check(alloc, base, worker, *i, *n, false)?;
                 Ok(twice(reply))
             }
             Event::Commit(i) => Ok(twice(self.commit(worker, *i))),
@@ -185,27 +189,26 @@ impl Machine {
     fn read(
         &mut self,
         alloc: Global,
-        base: &IndexedView,
+        scanned: &Scanned<'_>,
         worker: u32,
         i: usize,
         n: u64,
-        read: &Read<Id>,
     ) -> Result<(Reply, Reply), AllocError>
         ensures same { IfOk result (λ replies. replies.1 ≡ replies.0) }
-        ensures allowed { IfOk result (λ replies. IsAllowed base.now self.old worker (Event.Read i n read.now) replies.0) }
-        ensures changed { IfOk result (λ replies. self.new ≡ after self.old worker (Event.Read i n read.now) replies.0) }
+        ensures allowed { IfOk result (λ replies. IsAllowed scanned.now.dataset self.old worker (Event.Read i n scanned.now.read) replies.0) }
+        ensures changed { IfOk result (λ replies. self.new ≡ after self.old worker (Event.Read i n scanned.now.read) replies.0) }
         ensures err { OnErr result (self.new ≡ self.old) }
     {
         let status = incarnations::status_at(self.slots.as_slice(), i);
         if let Some(refusal) = incarnations::refused_execution(status, n, worker) {
             return Ok(twice(refusal));
         }
-        let slots = self.slots.as_slice();
+        let (slots, read) = (self.slots.as_slice(), scanned.read());
         let list = candidates_for(alloc, &self.spoken, slots, i, read)?;
         if let Some(j) = blocker(slots, &list, i, read) {
             return Ok((Reply::Blocked(j), Reply::Blocked(j)));
         }
-        let noted = noted(alloc, base, slots, &list, i, read)?;
+        let noted = noted(alloc, scanned, slots, &list, i)?;
         let answer = noted.answer.copied(alloc)?;
         let again = noted.answer.copied(alloc)?;
         slot::note(&mut self.slots[i], noted)?;
@@ -467,20 +470,19 @@ fn twice(reply: Reply) -> (Reply, Reply)
 // The read, its answer, and its touching list.
 fn noted(
     alloc: Global,
-    base: &IndexedView,
+    scanned: &Scanned<'_>,
     slots: &[Slot],
     list: &[usize],
     i: usize,
-    read: &Read<Id>,
 ) -> Result<Noted, AllocError>
     requires within { i ≤ length slots.now }
-    requires leads { Leads slots.now read.now list.now i }
-    ensures { IfOk result (λ note. note ≡ note_now base.now slots.now i read.now) }
+    requires leads { Leads slots.now scanned.now.read list.now i }
+    ensures { IfOk result (λ note. note ≡ note_now scanned.now.dataset slots.now i scanned.now.read) }
 {
-    let answer = answer_before(alloc, base, slots, list, i, read)?;
-    let touching = touching(alloc, slots, list, i, read)?;
+    let answer = answer_before(alloc, scanned, slots, list, i)?;
+    let touching = touching(alloc, slots, list, i, scanned.read())?;
     Ok(Noted {
-        read: *read,
+        read: *scanned.read(),
         answer,
         touching,
     })

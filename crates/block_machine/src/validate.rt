@@ -9,7 +9,7 @@ use crate::spoken::Spoken;
 use crate::state::{Noted, Slot};
 use crate::version_overlay::{answer_before, blocker, touching};
 use datasets::{Id, Read};
-use reads::IndexedView;
+use reads::{IndexedView, Scanned};
 use std::alloc::{AllocError, Global};
 
 /// What a check of a note finds.
@@ -42,7 +42,8 @@ pub(crate) fn check(
     if let Some(j) = blocker(slots, &list, i, &note.read) {
         return Ok(Verdict::Blocked(j));
     }
-    let now = answer_before(alloc, base, slots, &list, i, &note.read)?;
+    let scanned = Scanned::new(alloc, base, &note.read)?;
+    let now = answer_before(alloc, &scanned, slots, &list, i)?;
     if note.answer.is_same(&now) {
         Ok(Verdict::Same)
     } else {

@@ -5,12 +5,12 @@ ghost use Rattle.datasets.specs.Id.{id_order};
 ghost use Rattle.change_laws.specs.Laws.{IsRising};
 ghost use Rattle.reads.specs.Reads.{View as Base, says, applied, covers};
 ghost use Rattle.block_machine.specs.Machine.{view_at, blocker as blocker_of, touching as touching_of};
-ghost use Rattle.block_machine.specs.Lower.{Leads};
+ghost use Rattle.block_machine.specs.Lower.{Leads, part_or};
 
 use crate::state::Slot;
 use datasets::{Id, Read};
 use delta::Delta;
-use reads::{Answered, IndexedView, View};
+use reads::{Answered, IndexedView, Scanned, View};
 use sets::Items;
 use std::alloc::{AllocError, Global};
 
@@ -46,49 +46,61 @@ fn changes(alloc: Global, slots: &[Slot], low: usize, high: usize) -> Result<Del
     first.followed_by(alloc, &second)
 }
 
-/// What the read says of the base with the deltas of the requests below `i`. It copies only what the read asks for.
+/// What a read says of the base with the deltas of the requests below `i`, from what it says of the base: just that, where none of them covers
+/// the read. An error comes only where memory runs out.
 #[tactic(auto, using(crate::proofs::Overlay::starts))]
 pub fn answer_before(
     alloc: Global,
-    base: &IndexedView,
+    scanned: &Scanned<'_>,
     slots: &[Slot],
     list: &[usize],
     i: usize,
-    read: &Read<Id>,
 ) -> Result<Answered, AllocError>
     requires within { i ≤ length slots.now }
-    requires leads { Leads slots.now read.now list.now i }
-    ensures { IfOk result (λ answer. answer ≡ says read.now (view_at base.now slots.now i)) }
+    requires leads { Leads slots.now scanned.now.read list.now i }
+    ensures { IfOk result (λ answer. answer ≡ says scanned.now.read (view_at scanned.now.dataset slots.now i)) }
 {
-    base.rises();
-    let mut part = base.asked(alloc, read)?;
+    scanned.dataset().rises();
+    let mut part = None;
     for request in list {
         let request = *request;
-        part = applied_part(alloc, base, slots, request, read, part)?;
+        part = changed_part(alloc, scanned, slots, request, part)?;
     }
-    part.answer(alloc, read)
+    match part {
+        Some(part) => part.answer(alloc, scanned.read()),
+        None => scanned.answer(alloc),
+    }
 }
 
-// One delta more, where it covers the read.
-#[tactic(auto, using(crate::proofs::Overlay::next_covered, crate::proofs::Overlay::next_uncovered))]
-fn applied_part(
+// What is asked for of the base, if a delta has changed it, with one delta more, where that covers the read.
+fn changed_part(
     alloc: Global,
-    base: &IndexedView,
+    scanned: &Scanned<'_>,
     slots: &[Slot],
     j: usize,
-    read: &Read<Id>,
-    part: View,
-) -> Result<View, AllocError>
+    part: Option<View>,
+) -> Result<Option<View>, AllocError>
     requires within { j < length slots.now }
-    requires rising { IsRising id_order base.now }
-    requires alike { says read.now part ≡ says read.now (view_at base.now slots.now j) }
-    ensures { IfOk result (λ next. says read.now next ≡ says read.now (view_at base.now slots.now (suc j))) }
+    requires rising { IsRising id_order scanned.now.dataset }
+    requires alike { says scanned.now.read (part_or scanned.now.dataset part) ≡ says scanned.now.read (view_at scanned.now.dataset slots.now j) }
+    ensures { IfOk result (λ next. says scanned.now.read (part_or scanned.now.dataset next) ≡ says scanned.now.read (view_at scanned.now.dataset slots.now (suc j))) }
 {
-    let delta = &slots[j].delta;
-    if delta.covers(read) {
-        delta.asked(alloc, read)?.apply(alloc, part)
-    } else {
-        Ok(part)
+    let (delta, read) = (&slots[j].delta, scanned.read());
+    if !delta.covers(read) {
+        return Ok(part);
+    }
+    let part = part_of(alloc, scanned, part)?;
+    let next = delta.asked(alloc, read)?.apply(alloc, part)?;
+    Ok(Some(next))
+}
+
+// What is asked for of the base, where no delta has changed it yet, or what is left of it.
+fn part_of(alloc: Global, scanned: &Scanned<'_>, part: Option<View>) -> Result<View, AllocError>
+    ensures { IfOk result (λ found. says scanned.now.read found ≡ says scanned.now.read (part_or scanned.now.dataset part)) }
+{
+    match part {
+        Some(part) => Ok(part),
+        None => scanned.part(alloc),
     }
 }
 

@@ -2,3 +2,4 @@ pub mod Reads
 pub mod Same
 pub mod Runs
 pub mod Shared
+pub mod Questions

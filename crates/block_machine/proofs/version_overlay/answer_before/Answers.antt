@@ -1,20 +1,36 @@
-use Rattle.std.proofs.Common.{◌∙◌}
+use Rattle.std.proofs.Common.{◌≡◌, ◌∙◌, ap, sym, subst, Option}
 use Rattle.std.proofs.lemmas.Result.{IfOk-weaker}
+use Rattle.datasets.specs.Id.{id_order}
+use Rattle.change_laws.specs.Laws.{IsRising}
+use Rattle.reads.specs.Reads.{View, Read, says}
+use Rattle.block_machine.specs.Lower.{part_or}
 use Rattle.block_machine.proofs.Along.{part_at, part_more, part_all}
 use Rattle.block_machine.proofs.version_overlay.answer_before.Goals as goal
 
-pub applied_part-requires-clause-alike : goal.applied_part-requires-clause-alike
-applied_part-requires-clause-alike c =
-    part_at c.args.slots.now c.args.read.now c.args.list.now c.args.i c.requires.leads c.requires.within c.loop-request.request-index c.loop-request-test.true
-    c.args.base.now c.rises.ensures c.loop-request.part c.loop-request.invariant
+pub changed_part-requires-clause-alike : goal.changed_part-requires-clause-alike
+changed_part-requires-clause-alike c =
+    part_at c.args.slots.now c.args.scanned.now.read c.args.list.now c.args.i c.requires.leads c.requires.within c.loop-request.request-index c.loop-request-test.true
+    c.args.scanned.now.dataset (subst (λ (d : View). IsRising id_order d) c.dataset.ensures c.rises.ensures) (part_or c.args.scanned.now.dataset c.loop-request.part) c.loop-request.invariant
 
 pub loop-request-preserved : goal.loop-request-preserved
 loop-request-preserved c =
-    part_more c.args.slots.now c.args.read.now c.args.list.now c.args.i c.requires.leads c.requires.within c.loop-request.request-index c.loop-request-test.true
-    c.args.base.now c.rises.ensures c.in_ok-part-2.part c.in_ok-part-2.ensures
+    part_more c.args.slots.now c.args.scanned.now.read c.args.list.now c.args.i c.requires.leads c.requires.within c.loop-request.request-index c.loop-request-test.true
+    c.args.scanned.now.dataset (subst (λ (d : View). IsRising id_order d) c.dataset.ensures c.rises.ensures) (part_or c.args.scanned.now.dataset c.in_ok-part.part) c.in_ok-part.ensures
 
-pub returns : goal.returns
-returns c =
+pub returns-in-Some : goal.returns-in-Some
+returns-in-Some c =
     IfOk-weaker c.answer.result _ _
-    (λ answer e. e ∙ part_all c.args.slots.now c.args.read.now c.args.list.now c.args.i c.requires.leads c.loop-request.request-index c.loop-request.auto.request-index-end c.loop-request-test.false
-    c.args.base.now c.rises.ensures c.loop-request.part c.loop-request.invariant) c.answer.ensures
+    (λ answer e. e ∙ ap (λ (r : Read). says r c.in-Some.part) c.read.ensures
+    ∙ ap (λ (o : Option View). says c.args.scanned.now.read (part_or c.args.scanned.now.dataset o)) (sym c.in-Some.is)
+    ∙ part_all c.args.slots.now c.args.scanned.now.read c.args.list.now c.args.i c.requires.leads c.loop-request.request-index c.loop-request.auto.request-index-end c.loop-request-test.false
+    c.args.scanned.now.dataset (subst (λ (d : View). IsRising id_order d) c.dataset.ensures c.rises.ensures) (part_or c.args.scanned.now.dataset c.loop-request.part) c.loop-request.invariant)
+    c.answer.ensures
+
+pub returns-in-None : goal.returns-in-None
+returns-in-None c =
+    IfOk-weaker c.answer-in-None.result _ _
+    (λ answer e. e
+    ∙ ap (λ (o : Option View). says c.args.scanned.now.read (part_or c.args.scanned.now.dataset o)) (sym c.in-None.is)
+    ∙ part_all c.args.slots.now c.args.scanned.now.read c.args.list.now c.args.i c.requires.leads c.loop-request.request-index c.loop-request.auto.request-index-end c.loop-request-test.false
+    c.args.scanned.now.dataset (subst (λ (d : View). IsRising id_order d) c.dataset.ensures c.rises.ensures) (part_or c.args.scanned.now.dataset c.loop-request.part) c.loop-request.invariant)
+    c.answer-in-None.ensures

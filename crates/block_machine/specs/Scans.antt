@@ -1,0 +1,11 @@
+-- What an event asks of the base alone.
+use Rattle.std.specs.Prelude.{List, [], ◌∷◌}
+use Rattle.reads.specs.Reads.{View}
+use Rattle.reads.specs.Questions.{Question}
+use Rattle.block_machine.specs.declared.state.Event.{Event}
+use Rattle.block_machine.specs.declared.state.Event.TheVariants.{Read}
+
+-- a read puts its read to the base, and no other event puts any
+abbrev pub questions_of : View → Event → List Question
+questions_of base (Read i n read) = record { dataset = base; read = read } ∷ []
+questions_of base event = []

@@ -1,0 +1,22 @@
+//! What events ask of the base alone, answered before the step that needs it.
+ghost use Rattle.std.specs.Prelude.{◌≡◌, IfOk};
+ghost use Rattle.block_machine.specs.Scans.{questions_of};
+
+use crate::state::Event;
+use reads::{IndexedView, Scanned};
+use std::alloc::{AllocError, Global};
+
+/// What an event's reads say of the base. An error comes only where memory runs out.
+pub fn scans_of<'a>(
+    alloc: Global,
+    base: &'a IndexedView,
+    event: &Event,
+) -> Result<Vec<Scanned<'a>>, AllocError>
+    ensures { IfOk result (λ scans. scans.items ≡ questions_of base.now event.now) }
+{
+    let mut scans = Vec::new(alloc);
+    if let Event::Read(_, _, read) = event {
+        scans.push(Scanned::new(alloc, base, read)?)?;
+    }
+    Ok(scans)
+}
