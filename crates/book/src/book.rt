@@ -2,18 +2,19 @@
 ghost use Rattle.std.specs.Prelude.{◌≡◌, ◌<◌, [], ◌∷◌, ◌++◌, ℕ, Some, None, true, false, nat_le, IfSome, IfOk, OnErr};
 ghost use Rattle.reads.specs.Reads.{IsDataset};
 ghost use Rattle.block_machine.specs.Machine.{IsAllowed, wanted_reply, is_closed, is_current, slot_at};
+ghost use Rattle.block_machine.specs.Scans.{questions_of};
 ghost use Rattle.block_machine.specs.Serial.{IsHistory};
 ghost use Rattle.block_machine.specs.Waiting.{has_work, IsLeastWork};
 ghost use Rattle.book.specs.Run.{state_of, setting_of, front_run, kept, IsSoundEvent};
 
 use crate::copies::{copy_of_event, kept_event};
 use block_machine::laws::{front_is_serial, front_is_within, history_goes_on, ready_after};
-use block_machine::{Entry, Event, Machine, Reply, Slot};
+use block_machine::{Entry, Event, Machine, Reply, Slot, scans_of};
 use datasets::Id;
 use delta::Outcome;
 use dict::Dict;
 use meaning::Request;
-use reads::{IndexedView, View};
+use reads::{IndexedView, Scanned, View};
 use sets::Items;
 use std::alloc::{AllocError, Global};
 use std::marker::Model;
@@ -64,8 +65,41 @@ impl<'a> Book<'a> {
         })
     }
 
-    /// One event of a worker, which the journal keeps as it is. Its reply is lawful, and the journal has both at its end. After want of
-    /// memory the book is as before.
+    /// One event of a worker, which the journal keeps as it is, with what its read says of the base. Its reply is lawful, and the journal has
+    /// both at its end. After want of memory the book is as before.
+    pub fn step_scanned(
+        &mut self,
+        alloc: Global,
+        worker: u32,
+        event: Event,
+        scans: &[Scanned<'_>],
+    ) -> Result<Reply, AllocError>
+        requires sound { IsSoundEvent self.old event }
+        requires scans { scans.now ≡ questions_of self.old.base event }
+        ensures lawful { IfOk result (λ reply. IsAllowed self.old.base (state_of self.old) worker event reply) }
+        ensures entry { IfOk result (λ reply. self.new ≡ record self.old { history = self.old.history ++ record { worker = worker; event = kept event reply; reply = reply } ∷ [] }) }
+        ensures err { OnErr result (self.new ≡ self.old) }
+    {
+        ready_after();
+        front_is_within();
+        history_goes_on();
+        self.journal.reserve(1)?;
+        let (reply, told) = self
+            .machine
+            .step(alloc, self.base, worker, &event, scans)?;
+        let event = kept_event(event, &reply);
+        let entry = Entry {
+            worker,
+            event,
+            reply,
+        };
+        match self.journal.push(entry) {
+            Ok(()) => Ok(told),
+            Err(_) => unreachable!(),
+        }
+    }
+
+    /// The same, where the read is put to the base first.
     pub fn step_owned(
         &mut self,
         alloc: Global,
@@ -77,21 +111,8 @@ impl<'a> Book<'a> {
         ensures entry { IfOk result (λ reply. self.new ≡ record self.old { history = self.old.history ++ record { worker = worker; event = kept event reply; reply = reply } ∷ [] }) }
         ensures err { OnErr result (self.new ≡ self.old) }
     {
-        ready_after();
-        front_is_within();
-        history_goes_on();
-        self.journal.reserve(1)?;
-        let (reply, told) = self.machine.step(alloc, self.base, worker, &event)?;
-        let event = kept_event(event, &reply);
-        let entry = Entry {
-            worker,
-            event,
-            reply,
-        };
-        match self.journal.push(entry) {
-            Ok(()) => Ok(told),
-            Err(_) => unreachable!(),
-        }
+        let scans = scans_of(alloc, self.base, &event)?;
+        self.step_scanned(alloc, worker, event, &scans)
     }
 
     /// The same of an event that the caller keeps: the journal has a copy of its finished run.
