@@ -2,6 +2,7 @@
 ghost use Rattle.std.specs.Prelude.{◌≡◌, ◌<◌, ◌≤◌, ◌∷◌, ◌++◌, ℕ, [], false, Some, slice_get, vec_len, All, IfOk, OnErr};
 ghost use Rattle.reads.specs.Reads.{IsDataset};
 ghost use Rattle.block_machine.specs.Machine.{IsAllowed};
+ghost use Rattle.block_machine.specs.Scans.{questions_of};
 ghost use Rattle.block_machine.specs.Serial.{IsHistory};
 ghost use Rattle.book.specs.Run.{state_of, setting_of, IsSoundEvent};
 ghost use Rattle.blocklock.specs.Passes.{IsIdleAt, Includes, Watches, fresh_pass};
@@ -18,7 +19,7 @@ use datasets::Read;
 use delta::Finished;
 use dict::{Dict, Id};
 use meaning::Request;
-use reads::IndexedView;
+use reads::{IndexedView, Scanned};
 use scheduler::{Task, next};
 use std::alloc::{AllocError, Global};
 use std::marker::Model;
@@ -55,6 +56,30 @@ fn make<'a>(
 {
     let reply = held.book.book.step_owned(alloc, pass.worker(), event);
     let _journal = held.book.book.journal();
+    held.give(pass);
+    reply
+}
+
+// The same event, with what its read says of the base.
+fn make_scanned<'a>(
+    alloc: Global,
+    mut held: Held<'_, Kept<'a>>,
+    pass: &mut Pass<'a>,
+    event: Event,
+    scans: &[Scanned<'_>],
+) -> Result<Reply, AllocError>
+    requires own { pass.old.table ≡ held.lock.now }
+    requires has { Has pass.old held.book.value.book }
+    requires sound { IsSoundEvent held.book.value.book event }
+    requires scans { scans.now ≡ questions_of pass.old.subject.base event }
+    ensures ok { IfOk result (λ reply. pass.new ≡ record pass.old { seen = pass.old.seen ++ entry pass.old.worker event reply ∷ []; holds = false }) }
+    ensures allowed { IfOk result (λ reply. IsAllowed pass.old.subject.base (state_of (run_of pass.old.subject pass.old.seen)) pass.old.worker event reply) }
+    ensures lawful { IsHistory (setting_of (run_of pass.old.subject pass.new.seen)) pass.new.seen }
+    ensures err { OnErr result (pass.new ≡ record pass.old { holds = false }) }
+{
+    let book = &mut held.book.book;
+    let reply = book.step_scanned(alloc, pass.worker(), event, scans);
+    let _journal = book.journal();
     held.give(pass);
     reply
 }
@@ -112,6 +137,24 @@ impl<'a> SharedBlock<'a> {
     {
         let held = self.lock.hold(rt, pass);
         make(alloc, held, pass, event)
+    }
+
+    // Makes one event, once the book is there, with what its read says of the base.
+    pub(crate) fn make_scanned_waiting<R: Wait>(
+        &self,
+        rt: &R,
+        alloc: Global,
+        pass: &mut Pass<'a>,
+        event: Event,
+        scans: &[Scanned<'_>],
+    ) -> Result<Reply, AllocError>
+        requires own { pass.old.table ≡ self.now }
+        requires sound { IsSoundEvent (run_of pass.old.subject pass.old.seen) event }
+        requires scans { scans.now ≡ questions_of pass.old.subject.base event }
+        ensures { Made pass.old pass.new event result }
+    {
+        let held = self.lock.hold(rt, pass);
+        make_scanned(alloc, held, pass, event, scans)
     }
 
     /// How many requests are committed in what the pass has then seen.

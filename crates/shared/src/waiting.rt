@@ -1,5 +1,6 @@
 //! The calls that wait until the book is there. The places and incarnations are as in `block_machine::Event`.
 ghost use Rattle.std.specs.Prelude.{◌≡◌, Some};
+ghost use Rattle.block_machine.specs.Scans.{questions_of};
 ghost use Rattle.shared.specs.Calls.{IsSoundAt, Made};
 
 use crate::kept::Pass;
@@ -8,6 +9,7 @@ use block_machine::{Event, Reply};
 use datasets::Read;
 use delta::Finished;
 use dict::Id;
+use reads::Scanned;
 use std::alloc::{AllocError, Global};
 use std::sync::Wait;
 
@@ -40,6 +42,24 @@ impl<'a> SharedBlock<'a> {
         ensures { Made pass.old pass.new (Event.Read i n read.now) result }
     {
         self.make_waiting(rt, alloc, pass, Event::Read(i, n, *read))
+    }
+
+    /// The same, with what the read says of the base, so that nobody waits while the base is searched.
+    pub fn read_scanned<R: Wait>(
+        &self,
+        rt: &R,
+        alloc: Global,
+        pass: &mut Pass<'a>,
+        i: usize,
+        n: u64,
+        read: &Read<Id>,
+        scans: &[Scanned<'_>],
+    ) -> Result<Reply, AllocError>
+        requires own { pass.old.table ≡ self.now }
+        requires scans { scans.now ≡ questions_of pass.old.subject.base (Event.Read i n read.now) }
+        ensures { Made pass.old pass.new (Event.Read i n read.now) result }
+    {
+        self.make_scanned_waiting(rt, alloc, pass, Event::Read(i, n, *read), scans)
     }
 
     /// Publishes a finished run of incarnation `n` of a request. The journal has a copy of it, which is made before the lock is taken.
