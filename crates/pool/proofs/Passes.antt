@@ -30,6 +30,11 @@ still_for d old new event (Err e) h made =
       holds = ap (λ (p : Viewed). p.holds) made.sees ∙ h.holds;
     }
 
+-- a call changes of a pass only what it has seen
+pub sees_more : {E : Type 0} (old new : Viewed) (event : Event) (r : Result Told E) → Made old new event r → new ≡ record old { seen = new.seen }
+sees_more old new event (Ok reply) made = made.sees
+sees_more old new event (Err e) made = made.sees
+
 -- ---- the book that is closed with passes that are done
 
 pub subject_is : (d : Duty) (book : Run) (before ps : List Viewed) (n : ℕ) → length before ≡ n → 0 < n → AreDone d before ps → All (λ p. Includes owner p (history_of book)) ps

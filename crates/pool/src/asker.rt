@@ -3,7 +3,7 @@ ghost use Rattle.std.specs.Prelude.{◌≡◌};
 
 use crate::gate::Gate;
 use crate::worker::{Turn, Workers};
-use block_machine::{Event, Reply};
+use block_machine::{Event, Reply, scans_of};
 use datasets::{Id, Read};
 use reads::{Answered, Source, Stop};
 use shared::Pass;
@@ -32,13 +32,14 @@ impl<'w, 's, 'a, R: Wait, G: Gate> Model for Asking<'w, 's, 'a, R, G> {
 
     ghost view = { λ a. a.pass };
 
-    ghost invariant = { λ a. a.pass.table ≡ a.workers.now.table };
+    ghost invariant = { λ a. (a.pass.table ≡ a.workers.now.table) × (a.pass.subject ≡ a.workers.now.subject) };
 }
 
 impl<'w, 's, 'a, R: Wait, G: Gate> Asking<'w, 's, 'a, R, G> {
     /// The source of an incarnation, by a pass.
     pub fn new(workers: &'w Workers<'s, 'a, R, G>, pass: Pass<'a>, turn: Turn) -> Self
-        requires { pass.table ≡ workers.now.table }
+        requires table { pass.table ≡ workers.now.table }
+        requires subject { pass.subject ≡ workers.now.subject }
         ensures { result ≡ pass.entry }
     {
         Asking {
@@ -71,15 +72,17 @@ impl<'w, 's, 'a, R: Wait, G: Gate> Source for Asking<'w, 's, 'a, R, G> {
     fn ask(&mut self, read: &Read<Id>) -> Result<Answered, Stop> {
         let Turn { place, incarnation } = self.turn;
         let workers = self.workers;
-        let reply = workers.shared.read(
+        let event = Event::Read(place, incarnation, *read);
+        let scans = scans_of(workers.alloc, workers.base, &event)?;
+        let reply = workers.shared.read_scanned(
             workers.rt,
             workers.alloc,
             &mut self.pass,
             place,
             incarnation,
             read,
+            &scans,
         )?;
-        let event = Event::Read(place, incarnation, *read);
         match workers.shown(&self.pass, event, reply) {
             Reply::Answered(answer) => Ok(answer),
             Reply::Blocked(lower) => Err(Stop::Blocked(lower)),
