@@ -84,9 +84,7 @@ impl<'a> Book<'a> {
         front_is_within();
         history_goes_on();
         self.journal.reserve(1)?;
-        let (reply, told) = self
-            .machine
-            .step(alloc, self.base, worker, &event, scans)?;
+        let (reply, told) = self.machine.step(alloc, self.base, worker, &event, scans)?;
         let event = kept_event(event, &reply);
         let entry = Entry {
             worker,
