@@ -1,6 +1,6 @@
 //! Scans of an index by each of the sixteen sets of bound places, beside a plain filter.
 use datasets::{GraphPlace, Id, Quad, QuadPattern};
-use quad_index::{Arrangement, BESIDE_SPOG, Index};
+use quad_index::{Arrangement, BESIDE_SPOG, Index, Looks};
 use sets::set_of;
 use std::alloc::{AllocError, Global};
 
@@ -29,11 +29,9 @@ fn quads_with(mut quads: Vec<Quad<Id>>) -> Result<Vec<Quad<Id>>, AllocError> {
     Ok(quads)
 }
 
-fn indexed(
-    alloc: Global,
-    quads: Vec<Quad<Id>>,
-    orders: &[Arrangement],
-) -> Result<Index, AllocError> {
+// The index of a set.
+fn indexed(alloc: Global, set: &[Quad<Id>], orders: &[Arrangement]) -> Result<Index, AllocError> {
+    let quads = Vec::from_slice(alloc, set)?;
     Index::new(alloc, set_of(quads), orders)
 }
 
@@ -87,35 +85,58 @@ fn filtered(
     Ok(found)
 }
 
-// Whether each pattern of a quad finds what a filter does, the quad among it.
-fn finds_all(alloc: Global, index: &Index, quad: &Quad<Id>) -> Result<bool, AllocError> {
-    let mut so = true;
+// How a scan of each pattern of a quad went.
+#[derive(Drop)]
+struct Scans {
+    // whether each found what a filter does, the quad among it
+    are_right: bool,
+    // whether each looked at no more entries than its answer has, and twice nine: 500 has nine binary digits
+    are_short: bool,
+}
+
+fn scans_of(
+    alloc: Global,
+    index: &Index,
+    set: &[Quad<Id>],
+    quad: &Quad<Id>,
+) -> Result<Scans, AllocError> {
+    let mut scans = Scans {
+        are_right: true,
+        are_short: true,
+    };
     for places in 0..16 {
         let pattern = pattern_of(places, quad);
-        let found = index.scan(alloc, &pattern)?;
-        let wanted = filtered(alloc, &pattern, index.quads())?;
-        so = so && found.as_slice() == wanted.as_slice() && found.as_slice().contains(quad);
+        let mut looks = Looks::new();
+        let found = index.scan_counted(alloc, &pattern, &mut looks)?;
+        let wanted = filtered(alloc, &pattern, set)?;
+        let is_right = found.as_slice() == wanted.as_slice() && found.as_slice().contains(quad);
+        scans.are_right = scans.are_right && is_right;
+        let most = 18 + found.len() as u64;
+        scans.are_short = scans.are_short && 0 < looks.count() && looks.count() <= most;
     }
-    Ok(so)
+    Ok(scans)
 }
 
 #[test]
 fn each_pattern_finds_what_a_filter_does(rt: HostRuntime) -> Result<(), AllocError> {
     let alloc = rt.alloc();
-    let quads = quads_with(Vec::new(alloc))?;
-    let index = indexed(alloc, quads, &BESIDE_SPOG)?;
-    assert!(rt; index.quads().len() == 500);
-    assert!(rt; finds_all(alloc, &index, &quad_of(123))?);
-    assert!(rt; finds_all(alloc, &index, &quad_of(499))?);
+    let set = set_of(quads_with(Vec::new(alloc))?);
+    let index = indexed(alloc, &set, &BESIDE_SPOG)?;
+    assert!(rt; set.len() == 500);
+    for i in [123, 499] {
+        let scans = scans_of(alloc, &index, &set, &quad_of(i))?;
+        assert!(rt; scans.are_right && scans.are_short);
+    }
     Ok(())
 }
 
 #[test]
 fn an_index_without_the_order_finds_the_same(rt: HostRuntime) -> Result<(), AllocError> {
     let alloc = rt.alloc();
-    let quads = quads_with(Vec::new(alloc))?;
-    let index = indexed(alloc, quads, &[Arrangement::Ogsp])?;
-    assert!(rt; finds_all(alloc, &index, &quad_of(123))?);
+    let set = set_of(quads_with(Vec::new(alloc))?);
+    let index = indexed(alloc, &set, &[Arrangement::Ogsp])?;
+    let scans = scans_of(alloc, &index, &set, &quad_of(123))?;
+    assert!(rt; scans.are_right && !scans.are_short);
     Ok(())
 }
 
@@ -133,8 +154,10 @@ fn a_made_node_is_found(rt: HostRuntime) -> Result<(), AllocError> {
     };
     let mut quads = Vec::new(alloc);
     quads.push(made)?;
-    let index = indexed(alloc, quads_with(quads)?, &BESIDE_SPOG)?;
-    assert!(rt; index.quads().len() == 501);
-    assert!(rt; finds_all(alloc, &index, &made)?);
+    let set = set_of(quads_with(quads)?);
+    let index = indexed(alloc, &set, &BESIDE_SPOG)?;
+    assert!(rt; set.len() == 501);
+    let scans = scans_of(alloc, &index, &set, &made)?;
+    assert!(rt; scans.are_right && scans.are_short);
     Ok(())
 }

@@ -1,8 +1,16 @@
 -- What is found in another order, sorted back, is what is found in the set.
 use Rattle.std.specs.Prelude.{Bool, ◌&&◌, filter, map}
-use Rattle.std.specs.List.{list_any}
-use Rattle.std.proofs.Common.{◌≡◌, ◌+◌, ◌<◌, ℕ, true, false, cond, List, [], ◌∷◌, ◌++◌, refl, sym, ap, ◌∙◌, length, take, get_or}
-use Rattle.std.proofs.lemmas.List.{map-append, take_more}
+use Rattle.std.specs.List.{list_any, Contains}
+use Rattle.std.proofs.Common.{◌≡◌, ◌+◌, ◌*◌, ◌^◌, ◌<◌, ◌≤◌, ℕ, zero, suc, cond, List, [], ◌∷◌, ◌++◌, sym, subst, ap, ◌∙◌, length, take, get_or, arith}
+use Rattle.std.proofs.lemmas.List.{map-append, take_more, get_or-map, length-map}
+use Rattle.std.proofs.lemmas.List.Sums.{length-filter}
+use Rattle.std.proofs.lemmas.List.Sorted.{sum_by-IsPermutation}
+use Rattle.std.specs.List.Sorted.{IsPermutation}
+use Rattle.quad_index.specs.declared.key.Arrangement.{Arrangement}
+use Rattle.quad_index.specs.declared.key.Arrangement.TheVariants.{Spog}
+use Rattle.quad_index.specs.declared.order.Order.{Order}
+use Rattle.quad_index.specs.Index.{arrangements_of}
+use Rattle.quad_index.specs.Looks.{IsScan}
 use Rattle.std.proofs.lemmas.List.Kept.{IsStrictlySortedBy-filter}
 use Rattle.std.specs.List.Sorted.{IsStrictlySortedBy}
 use Rattle.std.specs.Ordering.{eq_by_cmp}
@@ -19,18 +27,6 @@ pub one_more : {A B : Type 0} (f : A → B) (done after : List A) (xs : List B) 
 one_more f done after xs i a x lt is made e so_far =
     ap (map f) made ∙ map-append f done (a ∷ []) ∙ (λ t. so_far t ++ e t ∷ []) ∙ ap (λ y. take i xs ++ y ∷ []) is ∙ sym (take_more xs i x lt)
 
-kept_head : {A B : Type 0} (f : A → B) (b : Bool) (x : A) (ys : List B) (xs : List A) → ys ≡ map f xs → cond b (f x ∷ ys) ys ≡ map f (cond b (x ∷ xs) xs)
-kept_head f true x ys xs e = ap (λ zs. f x ∷ zs) e
-kept_head f false x ys xs e = e
-
-filter-map : {A B : Type 0} (f : A → B) (p : B → Bool) (xs : List A) → filter p (map f xs) ≡ map f (filter (λ x. p (f x)) xs)
-filter-map f p [] = refl
-filter-map f p (x ∷ xs) = kept_head f (p (f x)) x (filter p (map f xs)) (filter (λ x. p (f x)) xs) (filter-map f p xs)
-
--- a part that has all that a test passes
-pub same_by_part : {A B : Type 0} (f : A → B) (p : B → Bool) (part xs : List A) → filter (λ x. p (f x)) part ≡ filter (λ x. p (f x)) xs → filter p (map f part) ≡ filter p (map f xs)
-same_by_part f p part xs e = filter-map f p part ∙ ap (map f) e ∙ sym (filter-map f p xs)
-
 -- lists that no test tells apart, of which one is a set
 pub sorted_back : (p : Quad Id → Bool) (quads others : List (Quad Id)) → IsStrictlySortedBy (quad_order id_order) quads → ((t : Quad Id → Bool) → list_any t others ≡ list_any t quads)
     → set_of (quad_order id_order) (filter p others) ≡ filter p quads
@@ -40,3 +36,25 @@ sorted_back p quads others rises alike =
     let exact = quad_exact id_order id_exact in
     same_set total exact (set_of R (filter p others)) (filter p quads) (sorted-set_of total (filter p others)) (IsStrictlySortedBy-filter R p quads rises)
     (λ q. has-set_of total q (filter p others) ∙ has-filter total exact p q others ∙ ap (λ b. b && p q) (alike (eq_by_cmp R q)) ∙ sym (has-filter total exact p q quads))
+
+pub same_count : (p : Quad Id → Bool) (quads others : List (Quad Id)) → IsPermutation quads others → length (filter p others) ≡ length (filter p quads)
+same_count p quads others h = length-filter p others ∙ sum_by-IsPermutation (λ q. cond (p q) 1 0) quads others h ∙ sym (length-filter p quads)
+
+pub scan_of : (before after : ℕ) (quads others answer found : List (Quad Id)) → length others ≡ length quads → length found ≡ length answer → IsScan before after (length others) (length found) → IsScan before after (length quads) (length answer)
+scan_of before after quads others answer found n m h digits fits =
+    let bound = h digits (subst (λ k. k < 2 ^ digits) (sym n) fits) in
+    subst (λ k. after ≤ before + (2 * digits + k)) m bound
+
+-- an order that is none of these, and that is kept, is SPOG
+pub kept_first : (others : List Order) (n : ℕ) (a : Arrangement) → length others ≤ n → ((k : ℕ) (d : Order) → k < n → (get_or others k d).arrangement ≡ a → ⊥) → Contains (Spog ∷ arrangements_of others) a → a ≡ Spog
+kept_first others n a le h (zero, lt, is) = sym is
+kept_first [] n a le h (suc k, lt, is) = absurd (omega arith)
+kept_first (o ∷ os) n a le h (suc k, lt, is) =
+    let count : length (arrangements_of (o ∷ os)) ≡ length (o ∷ os) = length-map (o ∷ os) (λ (x : Order). x.arrangement) in
+    let inside : k < length (o ∷ os) = omega arith in
+    absurd (h k o (omega arith) (sym (get_or-map (λ (x : Order). x.arrangement) (o ∷ os) k o a inside) ∙ is))
+
+-- one more order, and the list of them
+pub arrangement_more : (done after : List Order) (xs : List Arrangement) (i : ℕ) (o : Order) (x : Arrangement) → i < length xs → x ≡ get_or xs i x → after ≡ done ++ o ∷ [] → o.arrangement ≡ x → arrangements_of done ≡ take i xs
+    → arrangements_of after ≡ take (i + 1) xs
+arrangement_more done after xs i o x lt is made e so_far = one_more (λ (y : Order). y.arrangement) done after xs i o x lt is made e so_far

@@ -1,5 +1,7 @@
 pub mod Alike
 pub mod Joined
+pub mod Looking
+pub mod Orders
 pub mod Requests
 pub mod Searching
 pub mod Sought

@@ -148,6 +148,11 @@ less_than_all Less e f = false≢true (sym f)
 less_than_all Equal e f = false≢true e
 less_than_all Greater e f = false≢true e
 
+pub before_past : (r : Ordering) → is_before false r ≡ true → is_before true r ≡ true
+before_past Less e = refl
+before_past Equal e = refl
+before_past Greater e = e
+
 equal_between : (r : Ordering) → is_before false r ≡ false → is_before true r ≡ true → is_eq r ≡ true
 equal_between Less e f = absurd (false≢true (sym e))
 equal_between Equal e f = refl

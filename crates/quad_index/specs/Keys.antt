@@ -94,3 +94,25 @@ target_of b = key_by (bound_or_none b.first) (bound_or_none b.second) (bound_or_
 -- whether a key begins as the bound places do
 abbrev pub is_sought : Bounds → Key → Bool
 is_sought b k = is_eq (order_at (depth_of b) k (target_of b))
+
+-- the order that begins with the bound places
+abbrev pub arrangement_by : Option Id → Option Id → Option Id → GraphPlace Id → Arrangement
+arrangement_by None None None Any = Spog
+arrangement_by (Some s) None None Any = Spog
+arrangement_by None (Some p) None Any = Pogs
+arrangement_by None None (Some o) Any = Ogsp
+arrangement_by None None None (Only g) = Gspo
+arrangement_by (Some s) (Some p) None Any = Spog
+arrangement_by (Some s) None (Some o) Any = Ospg
+arrangement_by (Some s) None None (Only g) = Gspo
+arrangement_by None (Some p) (Some o) Any = Pogs
+arrangement_by None (Some p) None (Only g) = Gpso
+arrangement_by None None (Some o) (Only g) = Ogsp
+arrangement_by (Some s) (Some p) (Some o) Any = Spog
+arrangement_by (Some s) (Some p) None (Only g) = Gspo
+arrangement_by (Some s) None (Some o) (Only g) = Ogsp
+arrangement_by None (Some p) (Some o) (Only g) = Pogs
+arrangement_by (Some s) (Some p) (Some o) (Only g) = Spog
+
+abbrev pub arrangement_for : QuadPattern Id → Arrangement
+arrangement_for p = arrangement_by p.subject p.predicate p.object p.graph

@@ -1,4 +1,7 @@
 pub mod Keys
+pub mod Looks
 pub mod Hints
 pub mod Known
+pub mod Sorted
+pub mod Indexed
 pub mod Index

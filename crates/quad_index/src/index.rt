@@ -1,117 +1,123 @@
 //! A set of quads, kept in several orders.
-ghost use Rattle.std.specs.Prelude.{◌≡◌, IfOk, IfSome, filter};
-ghost use Rattle.std.specs.List.Sorted.{IsStrictlySortedBy};
+ghost use Rattle.std.specs.Prelude.{◌≡◌, ◌∷◌, ◌<◌, ◌^◌, IfOk, IfSome, IfNone, filter, length};
+ghost use Rattle.std.specs.List.{Contains};
+ghost use Rattle.std.specs.List.Sorted.{IsPermutation, IsStrictlySortedBy};
 ghost use Rattle.datasets.specs.Id.{id_order};
 ghost use Rattle.datasets.specs.Dataset.{quad_order, matches};
-ghost use Rattle.quad_index.specs.Index.{AllAlike, IsAlike};
+ghost use Rattle.quad_index.specs.Keys.{arrangement_for};
+ghost use Rattle.quad_index.specs.Index.{AllAlike, arrangements_of};
+ghost use Rattle.quad_index.specs.Looks.{IsScan};
 
 use crate::key::{Arrangement, order_for};
-use crate::matching::matching;
+use crate::looks::Looks;
 use crate::order::Order;
-use crate::search::part_of_set;
 use datasets::{Id, Quad, QuadPattern};
 use sets::set_of;
 use std::alloc::{AllocError, Global};
 use std::marker::Model;
 
-/// A set of quads, which contracts see as its list. It is kept in SPOG, and in the other orders that it was made with, so that the quads of
-/// a pattern are found by binary search.
+/// A set of quads. Contracts see its list, and the orders in which it is kept: SPOG, and those that it was made with. In an order that
+/// begins with the bound places of a pattern, its quads are found by binary search.
 #[derive(Drop)]
 pub struct Index {
-    quads: Vec<Quad<Id>>,
-    orders: Vec<Order>,
+    spog: Order,
+    others: Vec<Order>,
 }
 
 impl Model for Index {
-    ghost use Rattle.std.specs.Prelude.{List};
-    ghost use Rattle.datasets.specs.declared.id.Id.{Id};
-    ghost use Rattle.datasets.specs.declared.quad.Quad.{Quad};
-    ghost use Rattle.quad_index.specs.Index.{IsIndex};
+    ghost use Rattle.std.specs.Prelude.{◌∷◌};
+    ghost use Rattle.quad_index.specs.declared.key.Arrangement.TheVariants.{Spog};
+    ghost use Rattle.quad_index.specs.Indexed.{Indexed};
 
-    ghost Value = { List (Quad Id) };
+    ghost Value = { Indexed };
 
-    ghost view = { λ i. i.quads.items };
+    ghost use Rattle.quad_index.specs.Index.{IsIndex, arrangements_of};
 
-    ghost invariant = { λ i. IsIndex i.quads.items i.orders.items };
+    ghost view = { λ i. record { quads = i.spog.quads; orders = Spog ∷ arrangements_of i.others.items } };
+
+    ghost invariant = { λ i. IsIndex i.spog i.others.items };
 }
 
-// The quads of a set in each of these orders. An order is left out where a quad has a made node, or a number of 2^32 and more.
+// The same quads in each of these orders.
 fn orders_of(
     alloc: Global,
-    quads: &[Quad<Id>],
+    spog: &Order,
     arrangements: &[Arrangement],
 ) -> Result<Vec<Order>, AllocError>
-    ensures { IfOk result (λ orders. AllAlike quads.now orders.items) }
+    ensures orders { IfOk result (λ orders. arrangements_of orders.items ≡ arrangements.now) }
+    ensures alike { IfOk result (λ orders. AllAlike spog.now.quads orders.items) }
 {
     let mut orders = Vec::new(alloc);
     for arrangement in arrangements {
-        if let Some(order) = Order::new(alloc, *arrangement, quads)? {
-            orders.push(order)?;
-        }
+        orders.push(spog.rearranged(alloc, *arrangement)?)?;
     }
     Ok(orders)
 }
 
 impl Index {
-    /// This set of quads, in SPOG and in these orders. An error comes only where memory runs out.
+    /// This set of quads, in SPOG and in these orders. An error comes only where memory runs out, as it does for 2^62 quads.
     pub fn new(
         alloc: Global,
         quads: Vec<Quad<Id>>,
         arrangements: &[Arrangement],
     ) -> Result<Index, AllocError>
         requires { IsStrictlySortedBy (quad_order id_order) quads.items }
-        ensures { IfOk result (λ index. index ≡ quads.items) }
+        ensures { IfOk result (λ index. index ≡ record { quads = quads.items; orders = Arrangement.Spog ∷ arrangements.now }) }
     {
-        let orders = orders_of(alloc, &quads, arrangements)?;
-        Ok(Index { quads, orders })
+        let spog = Order::of_set(alloc, quads)?;
+        let others = orders_of(alloc, &spog, arrangements)?;
+        Ok(Index { spog, others })
     }
 
-    /// Its quads, by subject, predicate, object and graph.
-    pub fn quads(&self) -> &[Quad<Id>]
-        ensures value { result.now ≡ self.now }
-        ensures set { IsStrictlySortedBy (quad_order id_order) result.now }
+    /// Its quads are a set.
+    pub fn rises(&self)
+        ensures { IsStrictlySortedBy (quad_order id_order) self.now.quads }
     {
-        self.quads.as_slice()
+        let _ = &self.spog;
     }
 
-    // The quads in this order, if it was made.
-    fn order(&self, arrangement: Arrangement) -> Option<&Order>
-        ensures alike { IfSome result (λ order. IsAlike self.now order.now) }
-        ensures set { IsStrictlySortedBy (quad_order id_order) self.now }
+    // The quads in this order, if it was made beside SPOG.
+    fn other(&self, arrangement: Arrangement) -> Option<&Order>
+        ensures arrangement { IfSome result (λ order. order.now.arrangement ≡ arrangement) }
+        ensures alike { IfSome result (λ order. IsPermutation self.now.quads order.now.quads) }
+        ensures set { IsStrictlySortedBy (quad_order id_order) self.now.quads }
+        ensures none { IfNone result (Contains self.now.orders arrangement → arrangement ≡ Arrangement.Spog) }
     {
-        match self
-            .orders
-            .iter()
-            .position(|order| order.arrangement == arrangement)
-        {
-            Some(place) => Some(&self.orders[place]),
-            None => None,
+        for order in &self.others {
+            if order.arrangement() == arrangement {
+                return Some(order);
+            }
         }
-    }
-
-    // The quads that match, in SPOG.
-    fn search_spog(
-        &self,
-        alloc: Global,
-        pattern: &QuadPattern<Id>,
-    ) -> Result<Vec<Quad<Id>>, AllocError>
-        ensures { IfOk result (λ found. found.items ≡ filter (matches id_order pattern.now) self.now) }
-    {
-        matching(alloc, pattern, part_of_set(&self.quads, pattern))
+        None
     }
 
     /// The quads that match, by subject, predicate, object and graph. They are looked for in the order that begins with the bound places, if
-    /// it was made, else in SPOG.
+    /// it is kept, and then for no more looks than twice as many as their number in the index has binary digits, and one for each that is
+    /// found; else in SPOG. Sorting what was found is no look.
+    pub fn scan_counted(
+        &self,
+        alloc: Global,
+        pattern: &QuadPattern<Id>,
+        looks: &mut Looks,
+    ) -> Result<Vec<Quad<Id>>, AllocError>
+        requires { looks.old < 2 ^ 63 }
+        ensures found { IfOk result (λ found. found.items ≡ filter (matches id_order pattern.now) self.now.quads) }
+        ensures looks { IfOk result (λ found. Contains self.now.orders (arrangement_for pattern.now) → IsScan looks.old looks.new (length self.now.quads) (length found.items)) }
+    {
+        match self.other(order_for(pattern)) {
+            Some(order) => Ok(set_of(order.matching(alloc, pattern, looks)?)),
+            None => self.spog.matching(alloc, pattern, looks),
+        }
+    }
+
+    /// The quads that match, by subject, predicate, object and graph, as `scan_counted` finds them.
     pub fn scan(
         &self,
         alloc: Global,
         pattern: &QuadPattern<Id>,
     ) -> Result<Vec<Quad<Id>>, AllocError>
-        ensures { IfOk result (λ found. found.items ≡ filter (matches id_order pattern.now) self.now) }
+        ensures { IfOk result (λ found. found.items ≡ filter (matches id_order pattern.now) self.now.quads) }
     {
-        match self.order(order_for(pattern)) {
-            Some(order) => Ok(set_of(order.matching(alloc, pattern)?)),
-            None => self.search_spog(alloc, pattern),
-        }
+        self.scan_counted(alloc, pattern, &mut Looks::new())
     }
 }

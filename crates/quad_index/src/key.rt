@@ -1,6 +1,6 @@
 //! A quad's places in one of the six orders, and where a pattern is looked for.
 ghost use Rattle.std.specs.Prelude.{◌≡◌};
-ghost use Rattle.quad_index.specs.Keys.{order_at, key_of as the_key_of, bound_term as the_bound_term, bound_graph as the_bound_graph, bounds_by, bounds_of as the_bounds_of, depth_of, bound_or_none as the_bound_or_none, target_of};
+ghost use Rattle.quad_index.specs.Keys.{order_at, key_of as the_key_of, bound_term as the_bound_term, bound_graph as the_bound_graph, bounds_by, bounds_of as the_bounds_of, depth_of, bound_or_none as the_bound_or_none, target_of, is_before as the_is_before, arrangement_for};
 
 use datasets::{GraphPlace, Id, Quad, QuadPattern};
 use std::cmp::Ordering;
@@ -196,20 +196,39 @@ impl Depth {
     }
 }
 
+/// Whether a key with this answer stands before the place that is sought: the first that isn't less, or, with `past`, that is greater.
+pub(crate) fn is_before(past: bool, answer: Ordering) -> bool
+    ensures { result ≡ the_is_before past answer }
+{
+    match answer {
+        Ordering::Less => true,
+        Ordering::Equal => past,
+        Ordering::Greater => false,
+    }
+}
+
 /// The order that begins with the bound places.
-pub(crate) fn order_for(pattern: &QuadPattern<Id>) -> Arrangement {
-    let s = pattern.subject.is_some();
-    let p = pattern.predicate.is_some();
-    let o = pattern.object.is_some();
-    let g = matches!(pattern.graph, GraphPlace::Only(_));
-    match (s, p, o, g) {
-        (true, true, true, _) | (true, _, false, false) | (false, false, false, false) => {
-            Arrangement::Spog
-        }
-        (false, true, true, _) | (false, true, false, false) => Arrangement::Pogs,
-        (false, false, true, _) | (true, false, true, true) => Arrangement::Ogsp,
-        (true, _, false, true) | (false, false, false, true) => Arrangement::Gspo,
-        (false, true, false, true) => Arrangement::Gpso,
-        (true, false, true, false) => Arrangement::Ospg,
+pub(crate) fn order_for(pattern: &QuadPattern<Id>) -> Arrangement
+    ensures { result ≡ arrangement_for pattern.now }
+{
+    use Arrangement::{Gpso, Gspo, Ogsp, Ospg, Pogs, Spog};
+    use GraphPlace::{Any, Only};
+    match (
+        pattern.subject,
+        pattern.predicate,
+        pattern.object,
+        pattern.graph,
+    ) {
+        (None, None, None, Any) => Spog,
+        (None, None, None, Only(_)) => Gspo,
+        (None, None, Some(_), _) => Ogsp,
+        (None, Some(_), None, Any) => Pogs,
+        (None, Some(_), None, Only(_)) => Gpso,
+        (None, Some(_), Some(_), _) => Pogs,
+        (Some(_), None, Some(_), Any) => Ospg,
+        (Some(_), None, Some(_), Only(_)) => Ogsp,
+        (Some(_), Some(_), Some(_), _) => Spog,
+        (Some(_), _, None, Any) => Spog,
+        (Some(_), _, None, Only(_)) => Gspo,
     }
 }

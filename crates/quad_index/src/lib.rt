@@ -1,14 +1,15 @@
 //! Quads in sorted orders: the six orders of a quad's places, binary search in entries that are sorted by one of them, a set of quads kept
 //! in several of them, and hints, which say at which request of a block a quad may have been spoken of. Stands on `datasets`.
 //!
-//! The contracts used above: `part_of_set` has all quads of a set that a pattern matches; `Index::scan` is a filter of the whole set; what
-//! `Hints::put` put, `Hints::requests` finds.
+//! The contracts used above: `part_of_set` has all quads of a set that a pattern matches; `Index::scan` is a filter of the whole set, and
+//! `Index::scan_counted` bounds how many entries it looks at; what `Hints::put` put, `Hints::requests` finds.
 #![tactic(auto)]
 
 mod hints;
 mod index;
 mod key;
 mod known;
+mod looks;
 pub mod matching;
 mod order;
 mod run;
@@ -18,4 +19,6 @@ mod sorted_hints;
 pub use hints::Hints;
 pub use index::Index;
 pub use key::{Arrangement, BESIDE_SPOG};
+pub use looks::Looks;
+pub use order::Order;
 pub use search::part_of_set;

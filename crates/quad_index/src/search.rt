@@ -10,9 +10,8 @@ ghost use Rattle.datasets.specs.declared.id.Id.{Id as Number};
 ghost use Rattle.datasets.specs.declared.quad.Quad.{Quad as Spoken};
 ghost use Rattle.quad_index.specs.Keys.{key_order, key_of, order_at, is_before as the_is_before};
 
-use crate::key::{Arrangement, Depth, Key};
+use crate::key::{Arrangement, Depth, Key, is_before};
 use datasets::{GraphPlace, Id, Quad, QuadPattern};
-use std::cmp::Ordering;
 
 /// What has a quad.
 pub trait Entry {
@@ -28,16 +27,6 @@ impl Entry for Quad<Id> {
 
     fn key(&self, arrangement: Arrangement) -> Key {
         arrangement.key_of(self)
-    }
-}
-
-fn is_before(past: bool, answer: Ordering) -> bool
-    ensures { result ≡ the_is_before past answer }
-{
-    match answer {
-        Ordering::Less => true,
-        Ordering::Equal => past,
-        Ordering::Greater => false,
     }
 }
 

@@ -6,12 +6,20 @@ ghost use Rattle.change_laws.specs.Laws.{IsRising};
 ghost use Rattle.reads.specs.Reads.{says};
 
 use crate::answered::Answered;
-use crate::lists::{copied_names, copied_quads};
+use crate::lists::copied_names;
 use crate::view::View;
-use datasets::{Answer, Id, Quad, QuadPattern, Read};
+use datasets::{Answer, GraphPlace, Id, QuadPattern, Read};
 use quad_index::{Arrangement, Index};
 use std::alloc::{AllocError, Global};
 use std::marker::Model;
+
+// What every quad matches.
+const EVERY_QUAD: QuadPattern<Id> = QuadPattern {
+    subject: None,
+    predicate: None,
+    object: None,
+    graph: GraphPlace::Any,
+};
 
 /// A dataset that stays as it is: a set of quads, found by binary search whatever a pattern binds, and a set of graph names.
 #[derive(Drop)]
@@ -27,7 +35,7 @@ impl Model for IndexedView {
 
     ghost Value = { Dataset Id };
 
-    ghost view = { λ d. record { quads = d.quads; names = d.named.names } };
+    ghost view = { λ d. record { quads = d.quads.quads; names = d.named.names } };
 }
 
 impl IndexedView {
@@ -46,13 +54,6 @@ impl IndexedView {
         Ok(IndexedView { quads, named })
     }
 
-    /// Its quads.
-    pub fn quads(&self) -> &[Quad<Id>]
-        ensures { result.now ≡ self.now.quads }
-    {
-        self.quads.quads()
-    }
-
     /// Its graph names.
     pub fn names(&self) -> &[Id]
         ensures { result.now ≡ self.now.names }
@@ -65,7 +66,7 @@ impl IndexedView {
         ensures { IfOk result (λ copy. copy ≡ self.now) }
     {
         self.rises();
-        let quads = copied_quads(alloc, self.quads())?;
+        let quads = self.quads.scan(alloc, &EVERY_QUAD)?;
         let names = copied_names(alloc, self.names())?;
         Ok(View::from_sets(quads, names))
     }
@@ -74,7 +75,7 @@ impl IndexedView {
     pub fn rises(&self)
         ensures { IsRising id_order self.now }
     {
-        let _ = self.quads.quads();
+        self.quads.rises();
         self.named.rises();
     }
 

@@ -49,6 +49,7 @@ use Rattle.delta.specs.contracts.delta.Delta as Delta
 use Rattle.delta.specs.contracts.finished.Finished as Finished
 use Rattle.reads.specs.contracts.note.Note as Note
 use Rattle.quad_index.specs.contracts.known.KnownQuad as KnownQuad
+use Rattle.quad_index.specs.contracts.order.Entries as Entries
 use Rattle.quad_index.specs.contracts.order.Order as Order
 use Rattle.quad_index.specs.contracts.index.Index as Index
 use Rattle.quad_index.specs.contracts.hints.Hints as Hints
@@ -185,11 +186,17 @@ answer_sync = let q = quad_sync in let i = id.the_sync in search (sendable, cros
 known_quad : IsSync (KnownQuad.the_row)
 known_quad = search (sendable, crosses) depth 20
 
+entries : IsSync (Entries.the_field).row
+entries = let k = known_quad in let q = quad_sync in search (sendable, crosses) depth 20
+
 order : IsSync (Order.the_row)
-order = let k = known_quad in let a = arrangement.the_field_sync in search (sendable, crosses) depth 20
+order = let e = entries in let a = arrangement.the_field_sync in search (sendable, crosses) depth 20
+
+first_order : IsSync (Order.the_field).row
+first_order = let e = entries in let a = arrangement.the_field_sync in search (sendable, crosses) depth 20
 
 index : IsSync (Index.the_row)
-index = let q = quad_sync in let o = order in search (sendable, crosses) depth 20
+index = let o = order in let f = first_order in search (sendable, crosses) depth 20
 
 pub indexed_view : IsSync (IndexedView.the_row)
 indexed_view = let v = view in let i = index in search (sendable, crosses) depth 20

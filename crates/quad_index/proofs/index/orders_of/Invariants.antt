@@ -1,5 +1,9 @@
-use Rattle.quad_index.specs.Index.{AllAlike}
+use Rattle.std.proofs.Common.{◌≡◌, take}
+use Rattle.quad_index.specs.Index.{AllAlike, arrangements_of}
 use Rattle.quad_index.proofs.index.orders_of.Given as goal
 
 abbrev pub invariant-loop-arrangement : goal.invariant-loop-arrangement
-invariant-loop-arrangement l = AllAlike l.quads l.orders.items
+invariant-loop-arrangement l = record {
+  orders : arrangements_of l.orders.items ≡ take l.arrangement-index l.arrangements;
+  alike : AllAlike l.spog.quads l.orders.items;
+}
