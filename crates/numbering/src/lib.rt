@@ -9,6 +9,7 @@ mod gathered;
 pub mod laws;
 mod naming;
 mod numbered;
+mod orders;
 mod plans;
 mod requests;
 

@@ -5,6 +5,7 @@ ghost use Rattle.numbering.specs.Gathered.{HasTerms};
 ghost use Rattle.numbering.specs.Numbered.{IsNumbered};
 
 use crate::gathered::distinct;
+use crate::orders::orders_for;
 use crate::requests::number_requests;
 use datasets::Id;
 use meaning::Request;
@@ -29,11 +30,12 @@ fn terms_of(alloc: Global, block: &Block) -> Result<Vec<Term>, AllocError>
 }
 
 /// A base and a block at numbers, by the dictionary of the terms of the base and of the block's accepted requests. Each term is looked up
-/// once. An error comes only where memory runs out.
+/// once, and the base is kept in the orders that the block can use. An error comes only where memory runs out.
 pub fn number(alloc: Global, dataset: &DataSet, block: &Block) -> Result<Numbered, AllocError>
     ensures { IfOk result (λ n. IsNumbered dataset.now block.now n.base n.block.items) }
 {
-    let base = Base::new(alloc, dataset, terms_of(alloc, block)?)?;
+    let orders = orders_for(alloc, block)?;
+    let base = Base::new(alloc, dataset, terms_of(alloc, block)?, &orders)?;
     let block = number_requests(alloc, base.terms(), block.as_slice())?;
     Ok(Numbered { base, block })
 }

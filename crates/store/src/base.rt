@@ -13,7 +13,7 @@ use datasets::{Id, Quad, Read};
 use dict::Dict;
 use dict::laws::is_renaming;
 use nquads::tag;
-use quad_index::BESIDE_SPOG;
+use quad_index::Arrangement;
 use reads::{Answered, IndexedView, Source, Stop, View};
 use std::alloc::{AllocError, Global};
 use std::marker::Model;
@@ -51,22 +51,28 @@ fn collected(alloc: Global, mut found: Vec<Term>, terms: &[Term]) -> Result<Vec<
     Ok(found)
 }
 
-// The dataset of these quads and graph names. Its quads are kept in each of the six orders.
-fn in_each_order(
+// The dataset of these quads and graph names, its quads in these orders beside SPOG.
+fn in_orders(
     alloc: Global,
     quads: Vec<Quad<Id>>,
     names: Vec<Id>,
+    orders: &[Arrangement],
 ) -> Result<IndexedView, AllocError>
     ensures quads { IfOk result (λ dataset. dataset.quads ≡ set_of (quad_order id_order) quads.items) }
     ensures names { IfOk result (λ dataset. dataset.names ≡ set_of id_order names.items) }
 {
-    IndexedView::new(alloc, View::from_parts(quads, names), &BESIDE_SPOG)
+    IndexedView::new(alloc, View::from_parts(quads, names), orders)
 }
 
 impl Base {
-    /// The base of a dataset, with the dictionary of its terms and of more. Each term is looked up once. An error comes only where memory
-    /// runs out.
-    pub fn new(alloc: Global, dataset: &DataSet, more: Vec<Term>) -> Result<Base, AllocError>
+    /// The base of a dataset, with the dictionary of its terms and of more, its quads in these orders beside SPOG. Each term is looked up
+    /// once. An error comes only where memory runs out.
+    pub fn new(
+        alloc: Global,
+        dataset: &DataSet,
+        more: Vec<Term>,
+        orders: &[Arrangement],
+    ) -> Result<Base, AllocError>
         ensures base { IfOk result (λ base. IsBaseOf dataset.now base) }
         ensures held { IfOk result (λ base. list_all (is_held base.terms) more.items ≡ true) }
     {
@@ -77,7 +83,7 @@ impl Base {
         let ids = number_terms(alloc, &terms, parts.terms)?;
         let quads = quad_numbers(alloc, ids.as_slice(), parts.quads)?;
         let names = name_numbers(alloc, ids.as_slice(), parts.names)?;
-        let indexed = in_each_order(alloc, quads, names)?;
+        let indexed = in_orders(alloc, quads, names, orders)?;
         Ok(Base {
             alloc,
             terms,
