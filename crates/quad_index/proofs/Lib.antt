@@ -1,4 +1,5 @@
 pub mod Alike
+pub mod Filtering
 pub mod Joined
 pub mod Looking
 pub mod Orders

@@ -5,3 +5,4 @@ pub mod Known
 pub mod Sorted
 pub mod Indexed
 pub mod Index
+pub mod Seen

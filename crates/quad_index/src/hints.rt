@@ -4,25 +4,20 @@ ghost use Rattle.std.specs.List.{list_any};
 ghost use Rattle.datasets.specs.Id.{id_order};
 ghost use Rattle.datasets.specs.Dataset.{matches};
 ghost use Rattle.quad_index.specs.declared.run.Hint.{Hint};
-ghost use Rattle.quad_index.specs.Hints.{hints_of};
 
-use crate::key::{Arrangement, order_for};
+use crate::ordered_hints::OrderedHints;
 use crate::run::Hint;
-use crate::sorted_hints::SortedHints;
+use crate::seen::SeenQuads;
 use datasets::{Id, Quad, QuadPattern};
 use std::alloc::{AllocError, Global};
 use std::marker::Model;
 
-/// Hints: quads, each with a request. Contracts see them as a list. They are kept in six orders, so that those of any pattern are found
-/// by binary search.
+/// Hints: quads, each with a request. Contracts see them as a list. Those of a pattern are found by binary search; before it stands a filter,
+/// by which most patterns that no hint has to do with are told at once.
 #[derive(Drop)]
 pub struct Hints {
-    spog: SortedHints,
-    pogs: SortedHints,
-    ogsp: SortedHints,
-    gspo: SortedHints,
-    gpso: SortedHints,
-    ospg: SortedHints,
+    seen: SeenQuads,
+    ordered: OrderedHints,
 }
 
 impl Model for Hints {
@@ -31,11 +26,11 @@ impl Model for Hints {
 
     ghost Value = { List Hint };
 
-    ghost use Rattle.quad_index.specs.Hints.{hints_of, HaveAll};
+    ghost use Rattle.quad_index.specs.Seen.{AllSeen};
 
-    ghost view = { λ h. hints_of h.spog.runs.items h.spog.tail.items };
+    ghost view = { λ h. h.ordered };
 
-    ghost invariant = { λ h. HaveAll (hints_of h.spog.runs.items h.spog.tail.items) (hints_of h.pogs.runs.items h.pogs.tail.items) (hints_of h.ogsp.runs.items h.ogsp.tail.items) (hints_of h.gspo.runs.items h.gspo.tail.items) (hints_of h.gpso.runs.items h.gpso.tail.items) (hints_of h.ospg.runs.items h.ospg.tail.items) };
+    ghost invariant = { λ h. AllSeen h.seen h.ordered };
 }
 
 impl Hints {
@@ -44,12 +39,8 @@ impl Hints {
         ensures { result ≡ [] }
     {
         Hints {
-            spog: SortedHints::new(alloc, Arrangement::Spog),
-            pogs: SortedHints::new(alloc, Arrangement::Pogs),
-            ogsp: SortedHints::new(alloc, Arrangement::Ogsp),
-            gspo: SortedHints::new(alloc, Arrangement::Gspo),
-            gpso: SortedHints::new(alloc, Arrangement::Gpso),
-            ospg: SortedHints::new(alloc, Arrangement::Ospg),
+            seen: SeenQuads::new(alloc),
+            ordered: OrderedHints::new(alloc),
         }
     }
 
@@ -58,29 +49,12 @@ impl Hints {
         ensures added { OnOk result ((p : Hint → Bool) → p (record { quad = quad.now; request = request }) ≡ true → list_any p self.new ≡ true) }
         ensures kept { (p : Hint → Bool) → list_any p self.old ≡ true → list_any p self.new ≡ true }
     {
+        self.seen.put(quad)?;
         let hint = Hint {
             quad: *quad,
             request,
         };
-        self.pogs.put(alloc, hint)?;
-        self.ogsp.put(alloc, hint)?;
-        self.gspo.put(alloc, hint)?;
-        self.gpso.put(alloc, hint)?;
-        self.ospg.put(alloc, hint)?;
-        self.spog.put(alloc, hint)
-    }
-
-    fn sorted(&self, arrangement: Arrangement) -> &SortedHints
-        ensures { (p : Hint → Bool) → list_any p self.now ≡ true → list_any p (hints_of result.now.runs.items result.now.tail.items) ≡ true }
-    {
-        match arrangement {
-            Arrangement::Spog => &self.spog,
-            Arrangement::Pogs => &self.pogs,
-            Arrangement::Ogsp => &self.ogsp,
-            Arrangement::Gspo => &self.gspo,
-            Arrangement::Gpso => &self.gpso,
-            Arrangement::Ospg => &self.ospg,
-        }
+        self.ordered.put(alloc, hint)
     }
 
     /// The requests of hints whose quad the pattern matches, in any order and with repeats: none of them is missing.
@@ -91,6 +65,9 @@ impl Hints {
     ) -> Result<Vec<usize>, AllocError>
         ensures { IfOk result (λ found. (j : ℕ) → list_any (λ h. matches id_order pattern.now h.quad && (h.request == j)) self.now ≡ true → list_any (λ r. r == j) found.items ≡ true) }
     {
-        self.sorted(order_for(pattern)).requests(alloc, pattern)
+        if !self.seen.may_match(pattern) {
+            return Ok(Vec::new(alloc));
+        }
+        self.ordered.requests(alloc, pattern)
     }
 }

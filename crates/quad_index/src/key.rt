@@ -1,6 +1,6 @@
 //! A quad's places in one of the six orders, and where a pattern is looked for.
 ghost use Rattle.std.specs.Prelude.{◌≡◌};
-ghost use Rattle.quad_index.specs.Keys.{order_at, key_of as the_key_of, bound_term as the_bound_term, bound_graph as the_bound_graph, bounds_by, bounds_of as the_bounds_of, depth_of, bound_or_none as the_bound_or_none, target_of, is_before as the_is_before, arrangement_for};
+ghost use Rattle.quad_index.specs.Keys.{order_at, key_order, key_of as the_key_of, bound_term as the_bound_term, bound_graph as the_bound_graph, bounds_by, bounds_of as the_bounds_of, depth_of, bound_or_none as the_bound_or_none, target_of, is_before as the_is_before, arrangement_for};
 
 use datasets::{GraphPlace, Id, Quad, QuadPattern};
 use std::cmp::Ordering;
@@ -123,6 +123,24 @@ impl Arrangement {
             Arrangement::Gspo => make_key(g, s, p, o),
             Arrangement::Gpso => make_key(g, p, s, o),
             Arrangement::Ospg => make_key(o, s, p, g),
+        }
+    }
+
+    /// How two quads stand in this order.
+    pub(crate) fn compare(self, left: &Quad<Id>, right: &Quad<Id>) -> Ordering
+        ensures { result ≡ key_order (the_key_of self left.now) (the_key_of self right.now) }
+    {
+        let s = left.subject.cmp(&right.subject);
+        let p = left.predicate.cmp(&right.predicate);
+        let o = left.object.cmp(&right.object);
+        let g = left.graph.cmp(&right.graph);
+        match self {
+            Arrangement::Spog => s.then(p.then(o.then(g))),
+            Arrangement::Pogs => p.then(o.then(g.then(s))),
+            Arrangement::Ogsp => o.then(g.then(s.then(p))),
+            Arrangement::Gspo => g.then(s.then(p.then(o))),
+            Arrangement::Gpso => g.then(p.then(s.then(o))),
+            Arrangement::Ospg => o.then(s.then(p.then(g))),
         }
     }
 

@@ -12,8 +12,10 @@ mod known;
 mod looks;
 pub mod matching;
 mod order;
+mod ordered_hints;
 mod run;
 mod search;
+mod seen;
 mod sorted_hints;
 
 pub use hints::Hints;

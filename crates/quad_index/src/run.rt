@@ -41,7 +41,7 @@ impl Run {
         ensures members { (p : Hint → Bool) → list_any p result.entries.items ≡ list_any p entries.items }
         ensures count { length result.entries.items ≡ length entries.items }
     {
-        entries.sort_unstable_by_key(|hint| arrangement.key_of(&hint.quad));
+        entries.sort_unstable_by(|left, right| arrangement.compare(&left.quad, &right.quad));
         Run {
             arrangement,
             entries,
@@ -68,6 +68,9 @@ pub fn joined(
 {
     let mut entries = Vec::from_slice(alloc, first)?;
     entries.extend_from_slice(second)?;
-    entries.sort_by_key(|hint| arrangement.key_of(&hint.quad))?;
-    Ok(Run::new(arrangement, entries))
+    entries.sort_by(|left, right| arrangement.compare(&left.quad, &right.quad))?;
+    Ok(Run {
+        arrangement,
+        entries,
+    })
 }

@@ -53,6 +53,9 @@ use Rattle.quad_index.specs.contracts.order.Entries as Entries
 use Rattle.quad_index.specs.contracts.order.Order as Order
 use Rattle.quad_index.specs.contracts.index.Index as Index
 use Rattle.quad_index.specs.contracts.hints.Hints as Hints
+use Rattle.quad_index.specs.contracts.ordered_hints.OrderedHints as OrderedHints
+use Rattle.quad_index.specs.contracts.seen.Seen as Seen
+use Rattle.quad_index.specs.contracts.seen.SeenQuads as SeenQuads
 use Rattle.quad_index.specs.contracts.sorted_hints.SortedHints as SortedHints
 use Rattle.block_machine.specs.contracts.spoken.Spoken as Spoken
 use Rattle.quad_index.proofs.key.Arrangement.TheSendSync as arrangement
@@ -248,8 +251,17 @@ run = let h = hint in search (sendable, crosses) depth 20
 sorted_hints : IsSend (SortedHints.the_field).row
 sorted_hints = let r = run in let h = hint in let a = arrangement.the_field_send in search (sendable, crosses) depth 20
 
+ordered_hints : IsSend (OrderedHints.the_field).row
+ordered_hints = let s = sorted_hints in search (sendable, crosses) depth 20
+
+seen : IsSend (Seen.the_field).row
+seen = search (sendable, crosses) depth 20
+
+seen_quads : IsSend (SeenQuads.the_field).row
+seen_quads = let s = seen in search (sendable, crosses) depth 20
+
 hints : IsSend (Hints.the_row)
-hints = let s = sorted_hints in search (sendable, crosses) depth 20
+hints = let o = ordered_hints in let s = seen_quads in search (sendable, crosses) depth 20
 
 spoken : IsSend (Spoken.the_field).row
 spoken = let h = hints in let i = id.the_send in search (sendable, crosses, maps.crosses) depth 20

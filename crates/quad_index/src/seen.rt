@@ -1,0 +1,141 @@
+//! Filters: what the places of quads can't have had.
+ghost use Rattle.std.specs.Prelude.{◌≡◌, true, [], Option, OnOk};
+ghost use Rattle.datasets.specs.declared.id.Id.{Id as Number};
+ghost use Rattle.datasets.specs.declared.quad.Quad.{Quad as Spoken};
+ghost use Rattle.quad_index.specs.Seen.{slot_of as the_slot_of, is_seen, is_graph_seen, is_quad_seen, lets, lets_graph, may_match as the_may_match};
+
+use datasets::{GraphPlace, Id, Quad, QuadPattern};
+use std::alloc::{AllocError, Global};
+use std::marker::Model;
+
+/// How many slots a filter has.
+const SLOTS: usize = 262_144;
+
+/// Slots of terms, each of which says whether a term of it was put. Contracts see their list. There are none before the first term.
+#[derive(Drop)]
+pub struct Seen {
+    slots: Vec<bool>,
+}
+
+impl Model for Seen {
+    ghost use Rattle.std.specs.Prelude.{List, Bool};
+
+    ghost Value = { List Bool };
+
+    ghost view = { λ s. s.slots.items };
+}
+
+fn slot_of(term: Id) -> usize
+    ensures { result ≡ the_slot_of term }
+{
+    match term {
+        Id::Known(number) => number % SLOTS,
+        Id::Made { rank, .. } => rank as usize % SLOTS,
+    }
+}
+
+impl Seen {
+    /// No term was put. It takes no memory.
+    fn new(alloc: Global) -> Seen
+        ensures { result ≡ [] }
+    {
+        Seen {
+            slots: Vec::new(alloc),
+        }
+    }
+
+    /// One more term. What was there stays, also where memory runs out.
+    fn put(&mut self, term: Id) -> Result<(), AllocError>
+        ensures added { OnOk result (is_seen self.new term ≡ true) }
+        ensures kept { (x : Number) → is_seen self.old x ≡ true → is_seen self.new x ≡ true }
+    {
+        let slot = slot_of(term);
+        if slot >= self.slots.len() {
+            self.slots.resize(SLOTS, false)?;
+        }
+        self.slots[slot] = true;
+        Ok(())
+    }
+
+    /// Whether a term of the same slot was put.
+    fn has(&self, term: Id) -> bool
+        ensures { result ≡ is_seen self.now term }
+    {
+        match self.slots.get(slot_of(term)) {
+            Some(so) => *so,
+            None => false,
+        }
+    }
+}
+
+/// A filter for each place of quads.
+#[derive(Drop)]
+pub struct SeenQuads {
+    subjects: Seen,
+    predicates: Seen,
+    objects: Seen,
+    graphs: Seen,
+}
+
+impl SeenQuads {
+    /// No quad was put. It takes no memory.
+    pub fn new(alloc: Global) -> SeenQuads {
+        SeenQuads {
+            subjects: Seen::new(alloc),
+            predicates: Seen::new(alloc),
+            objects: Seen::new(alloc),
+            graphs: Seen::new(alloc),
+        }
+    }
+
+    /// One more quad. What was there stays, also where memory runs out.
+    pub fn put(&mut self, quad: &Quad<Id>) -> Result<(), AllocError>
+        ensures added { OnOk result (is_quad_seen self.new quad.now ≡ true) }
+        ensures kept { (q : Spoken Number) → is_quad_seen self.old q ≡ true → is_quad_seen self.new q ≡ true }
+    {
+        self.subjects.put(quad.subject)?;
+        self.predicates.put(quad.predicate)?;
+        self.objects.put(quad.object)?;
+        put_graph(&mut self.graphs, quad.graph)
+    }
+
+    /// Whether a quad that the pattern matches may have been put.
+    pub fn may_match(&self, pattern: &QuadPattern<Id>) -> bool
+        ensures { result ≡ the_may_match self.now pattern.now }
+    {
+        may_have(&self.subjects, pattern.subject)
+            && may_have(&self.predicates, pattern.predicate)
+            && may_have(&self.objects, pattern.object)
+            && may_have_graph(&self.graphs, pattern.graph)
+    }
+}
+
+fn put_graph(seen: &mut Seen, graph: Option<Id>) -> Result<(), AllocError>
+    ensures added { OnOk result (is_graph_seen seen.new graph ≡ true) }
+    ensures kept { (g : Option Number) → is_graph_seen seen.old g ≡ true → is_graph_seen seen.new g ≡ true }
+{
+    match graph {
+        Some(term) => seen.put(term),
+        None => Ok(()),
+    }
+}
+
+// Whether a place may have had the term that it is bound to.
+fn may_have(seen: &Seen, place: Option<Id>) -> bool
+    ensures { result ≡ lets seen.now place }
+{
+    match place {
+        None => true,
+        Some(term) => seen.has(term),
+    }
+}
+
+fn may_have_graph(seen: &Seen, place: GraphPlace<Id>) -> bool
+    ensures { result ≡ lets_graph seen.now place }
+{
+    match place {
+        GraphPlace::Any => true,
+        GraphPlace::Only(None) => true,
+        GraphPlace::Only(Some(term)) => seen.has(term),
+    }
+}
