@@ -60,7 +60,7 @@ pub fn answer_before(
     requires leads { Leads slots.now scanned.now.read list.now i }
     ensures { IfOk result (λ answer. answer ≡ says scanned.now.read (view_at scanned.now.dataset slots.now i)) }
 {
-    scanned.dataset().rises();
+    scanned.rises();
     let mut part = None;
     for request in list {
         let request = *request;

@@ -3,6 +3,7 @@ ghost use Rattle.std.specs.Prelude.{◌≡◌, IfOk, [], ◌∷◌, filter, if�
 ghost use Rattle.sets.specs.Sets.{has};
 ghost use Rattle.datasets.specs.Id.{id_order};
 ghost use Rattle.datasets.specs.Dataset.{matches};
+ghost use Rattle.change_laws.specs.Laws.{IsRising};
 ghost use Rattle.reads.specs.Reads.{says};
 
 use crate::answered::Answered;
@@ -57,11 +58,11 @@ impl<'a> Scanned<'a> {
         &self.read
     }
 
-    /// The dataset.
-    pub fn dataset(&self) -> &'a IndexedView
-        ensures { result.now ≡ self.now.dataset }
+    /// The quads and the names of the dataset are sets.
+    pub fn rises(&self)
+        ensures { IsRising id_order self.now.dataset }
     {
-        self.dataset
+        self.dataset.rises();
     }
 
     /// What the read says of it, shared and not copied. It fails only where there are too many owners.
@@ -110,7 +111,7 @@ impl<'a> Scanned<'a> {
         requires { self.now.read ≡ Read.Scan pattern.now }
         ensures { IfOk result (λ part. part ≡ record { quads = filter (matches id_order pattern.now) self.now.dataset.quads; names = [] }) }
     {
-        self.dataset.rises();
+        self.rises();
         let quads = copied_quads(alloc, self.quads(pattern))?;
         Ok(View::from_sets(quads, Vec::new(alloc)))
     }
@@ -127,7 +128,7 @@ impl<'a> Scanned<'a> {
         requires { self.now.read ≡ Read.Graphs }
         ensures { IfOk result (λ part. part ≡ record { quads = []; names = self.now.dataset.names }) }
     {
-        self.dataset.rises();
+        self.rises();
         let names = copied_names(alloc, self.names())?;
         Ok(View::from_sets(Vec::new(alloc), names))
     }

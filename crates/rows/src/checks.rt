@@ -154,10 +154,7 @@ fn narrow(alloc: Global, block: &str, good_reads: usize, good_calls: usize) -> T
         rest: block.as_bytes(),
         good_reads,
     });
-    let mut replies = Watched::new(Narrow {
-        text: Vec::new(alloc),
-        good_calls,
-    });
+    let mut replies = Watched::new(Narrow::new(alloc, good_calls));
     let outcome = check_engine(alloc, &mut block, &mut replies);
     Told {
         status: status_of(&outcome),

@@ -104,18 +104,9 @@ fn recorded<T: Threads + Wait + Sync>(
 {
     let mut base = Watched::new(base);
     let mut block = Watched::new(block);
-    let mut dataset = Watched::new(Narrow {
-        text: Vec::new(alloc),
-        good_calls: good.dataset,
-    });
-    let mut replies = Watched::new(Narrow {
-        text: Vec::new(alloc),
-        good_calls: good.replies,
-    });
-    let mut journal = Watched::new(Narrow {
-        text: Vec::new(alloc),
-        good_calls: good.journal,
-    });
+    let mut dataset = Watched::new(Narrow::new(alloc, good.dataset));
+    let mut replies = Watched::new(Narrow::new(alloc, good.replies));
+    let mut journal = Watched::new(Narrow::new(alloc, good.journal));
     let outcome = run_with_journal_engine(
         rt,
         alloc,

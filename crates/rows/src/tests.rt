@@ -378,6 +378,15 @@ pub(crate) struct Narrow {
     pub(crate) good_calls: usize,
 }
 
+impl Narrow {
+    pub(crate) fn new(alloc: Global, good_calls: usize) -> Narrow {
+        Narrow {
+            text: Vec::new(alloc),
+            good_calls,
+        }
+    }
+}
+
 impl Write for Narrow {
     fn write(&mut self, buf: &[u8]) -> io::Result<usize> {
         if self.good_calls == 0 {
@@ -437,14 +446,8 @@ fn narrow_answer<T: Threads + Wait + Sync>(rt: &T, alloc: Global, good: Good) ->
         rest: BLOCK.as_bytes(),
         good_reads: good.block,
     });
-    let mut dataset = Watched::new(Narrow {
-        text: Vec::new(alloc),
-        good_calls: good.dataset,
-    });
-    let mut replies = Watched::new(Narrow {
-        text: Vec::new(alloc),
-        good_calls: good.replies,
-    });
+    let mut dataset = Watched::new(Narrow::new(alloc, good.dataset));
+    let mut replies = Watched::new(Narrow::new(alloc, good.replies));
     let outcome = run_engine(
         rt,
         alloc,

@@ -30,7 +30,7 @@ pub struct Walk {
     quads: &'static str,
 }
 
-pub const WALKS: [Walk; 4] = [
+pub const WALKS: [Walk; 5] = [
     // The second request runs before the first has published, and is checked after it. At last it waits for the first one's commit.
     Walk {
         block: "INSERT DATA { <x:a> <x:p> <x:b> }\n----\nINSERT DATA { <x:a> <x:p> <x:b> , <x:c> }",
@@ -174,6 +174,36 @@ pub const WALKS: [Walk; 4] = [
         reads: 4,
         committed: 2,
         quads: "+ <x:a> <x:p> <x:b>\n+ <x:a> <x:q> <x:c>\n",
+    },
+    // The third request reads what the first has put in and the second has taken out since: its answer is the same, but it came from others.
+    Walk {
+        block: "INSERT DATA { <x:a> <x:p> <x:b> }\n----\nDELETE DATA { <x:a> <x:p> <x:b> }\n----\nINSERT { ?x <x:q> <x:c> } WHERE { ?x <x:p> ?y }",
+        lines: &[
+            (2, Take(2), Taken(0)),
+            (2, Publish(2, 0), Published),
+            (0, Take(0), Taken(0)),
+            (0, Publish(0, 0), Published),
+            (1, Take(1), Taken(0)),
+            (1, Publish(1, 0), Published),
+            (2, Begin(2, 0), Begun),
+            (2, Check(2, 0), Aborted),
+        ],
+        journal: "sparql-block journal 1
+02 take 0002 > taken 0
+02 read 0002 0 scan - <x:p> - default > answer 0
+02 publish 0002 0 > published
+00 take 0000 > taken 0
+00 read 0000 0 scan <x:a> <x:p> <x:b> default > answer 0
+00 publish 0000 0 > published
+01 take 0001 > taken 0
+01 read 0001 0 scan <x:a> <x:p> <x:b> default > answer 1
+01 publish 0001 0 > published
+02 begin 0002 0 > begun
+02 check 0002 0 > aborted
+",
+        reads: 3,
+        committed: 0,
+        quads: "",
     },
     // A refused request reads nothing. Only who took it may publish it, and what is given up is not committed.
     Walk {

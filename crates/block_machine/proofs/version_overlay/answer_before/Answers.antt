@@ -10,12 +10,12 @@ use Rattle.block_machine.proofs.version_overlay.answer_before.Goals as goal
 pub changed_part-requires-clause-alike : goal.changed_part-requires-clause-alike
 changed_part-requires-clause-alike c =
     part_at c.args.slots.now c.args.scanned.now.read c.args.list.now c.args.i c.requires.leads c.requires.within c.loop-request.request-index c.loop-request-test.true
-    c.args.scanned.now.dataset (subst (λ (d : View). IsRising id_order d) c.dataset.ensures c.rises.ensures) (part_or c.args.scanned.now.dataset c.loop-request.part) c.loop-request.invariant
+    c.args.scanned.now.dataset c.rises.ensures (part_or c.args.scanned.now.dataset c.loop-request.part) c.loop-request.invariant
 
 pub loop-request-preserved : goal.loop-request-preserved
 loop-request-preserved c =
     part_more c.args.slots.now c.args.scanned.now.read c.args.list.now c.args.i c.requires.leads c.requires.within c.loop-request.request-index c.loop-request-test.true
-    c.args.scanned.now.dataset (subst (λ (d : View). IsRising id_order d) c.dataset.ensures c.rises.ensures) (part_or c.args.scanned.now.dataset c.in_ok-part.part) c.in_ok-part.ensures
+    c.args.scanned.now.dataset c.rises.ensures (part_or c.args.scanned.now.dataset c.in_ok-part.part) c.in_ok-part.ensures
 
 pub returns-in-Some : goal.returns-in-Some
 returns-in-Some c =
@@ -23,7 +23,7 @@ returns-in-Some c =
     (λ answer e. e ∙ ap (λ (r : Read). says r c.in-Some.part) c.read.ensures
     ∙ ap (λ (o : Option View). says c.args.scanned.now.read (part_or c.args.scanned.now.dataset o)) (sym c.in-Some.is)
     ∙ part_all c.args.slots.now c.args.scanned.now.read c.args.list.now c.args.i c.requires.leads c.loop-request.request-index c.loop-request.auto.request-index-end c.loop-request-test.false
-    c.args.scanned.now.dataset (subst (λ (d : View). IsRising id_order d) c.dataset.ensures c.rises.ensures) (part_or c.args.scanned.now.dataset c.loop-request.part) c.loop-request.invariant)
+    c.args.scanned.now.dataset c.rises.ensures (part_or c.args.scanned.now.dataset c.loop-request.part) c.loop-request.invariant)
     c.answer.ensures
 
 pub returns-in-None : goal.returns-in-None
@@ -32,5 +32,5 @@ returns-in-None c =
     (λ answer e. e
     ∙ ap (λ (o : Option View). says c.args.scanned.now.read (part_or c.args.scanned.now.dataset o)) (sym c.in-None.is)
     ∙ part_all c.args.slots.now c.args.scanned.now.read c.args.list.now c.args.i c.requires.leads c.loop-request.request-index c.loop-request.auto.request-index-end c.loop-request-test.false
-    c.args.scanned.now.dataset (subst (λ (d : View). IsRising id_order d) c.dataset.ensures c.rises.ensures) (part_or c.args.scanned.now.dataset c.loop-request.part) c.loop-request.invariant)
+    c.args.scanned.now.dataset c.rises.ensures (part_or c.args.scanned.now.dataset c.loop-request.part) c.loop-request.invariant)
     c.answer-in-None.ensures

@@ -1,4 +1,4 @@
-use Rattle.std.proofs.Common.{◌∙◌, ap, sym}
+use Rattle.std.proofs.Common.{◌∙◌}
 use Rattle.std.specs.Prelude.{filter}
 use Rattle.datasets.specs.Id.{id_order}
 use Rattle.datasets.specs.Dataset.{matches}
@@ -8,5 +8,5 @@ use Rattle.reads.proofs.scanned.Scanned.matching_part.Goals as goal
 
 pub from_sets-requires : goal.from_sets-requires
 from_sets-requires c =
-    rises-scan _ _ c.args.pattern.now c.self.inside.dataset.now c.rises.ensures
-    (c.in_ok-quads.ensures ∙ c.quads.ensures ∙ ap (λ (q : Question). filter (matches id_order c.args.pattern.now) q.dataset.quads) (sym c.self.view_is)) c.new.ensures.items
+    rises-scan _ _ c.args.pattern.now c.args.self.now.dataset c.rises.ensures
+    (c.in_ok-quads.ensures ∙ c.quads.ensures) c.new.ensures.items

@@ -1,8 +1,8 @@
-use Rattle.std.proofs.Common.{◌∙◌, ap, sym}
+use Rattle.std.proofs.Common.{◌∙◌}
 use Rattle.reads.specs.Questions.{Question}
 use Rattle.reads.proofs.Rising.{rises-names}
 use Rattle.reads.proofs.scanned.Scanned.names_part.Goals as goal
 
 pub from_sets-requires : goal.from_sets-requires
 from_sets-requires c =
-    rises-names _ _ c.self.inside.dataset.now c.rises.ensures c.new.ensures.items (c.in_ok-names.ensures ∙ c.names.ensures ∙ ap (λ (q : Question). q.dataset.names) (sym c.self.view_is))
+    rises-names _ _ c.args.self.now.dataset c.rises.ensures c.new.ensures.items (c.in_ok-names.ensures ∙ c.names.ensures)
