@@ -1,9 +1,9 @@
 -- How requests stand: after a step, and which of them is the least with something to do.
 use Rattle.std.proofs.Common.{◌≡◌, ℕ, zero, suc, ◌<◌, ◌≤◌, inl, inr, Bool, true, false, ◌&&◌, List, [], ◌∷◌, length, map, Option, Some, None, is_some, max, replicate, slice_set, slice_index_or, refl, sym, ap, ◌∙◌, subst, arith, leb-true}
-use Rattle.std.specs.Prelude.{nat_le, nat_lt, not, ◌||◌, option_map, if◌then◌else◌, IfSome}
+use Rattle.std.specs.Prelude.{nat_le, nat_lt, not, option_map, if◌then◌else◌, IfSome}
 use Rattle.std.specs.Cmp.{both_ways}
-use Rattle.std.proofs.lemmas.Bool.{cases_lt, false≢true, and_parts, and_from, ltb-true}
-use Rattle.std.proofs.lemmas.List.{map-set, get_or_default}
+use Rattle.std.proofs.lemmas.Bool.{cases_lt, ltb-true}
+use Rattle.std.proofs.lemmas.List.{map-set}
 use Rattle.std.proofs.Math.Seq.{map-set_same}
 use Rattle.stamp_tree.specs.declared.standing.Standing.{Standing}
 use Rattle.stamp_tree.specs.Standings.{is_due, first_due}

@@ -1,5 +1,5 @@
 -- What is still to be done for requests.
-use Rattle.std.specs.Prelude.{◌≡◌, ℕ, ◌<◌, Bool, true, false, not, ◌||◌, List, length, map, Option, Some, None, is_some}
+use Rattle.std.specs.Prelude.{◌≡◌, ℕ, ◌<◌, Bool, true, false, not, ◌||◌, List, length, Option, Some, None, is_some}
 use Rattle.stamp_tree.specs.declared.standing.Due.{Due}
 use Rattle.stamp_tree.specs.declared.standing.Due.TheVariants.{Now, After, Never}
 use Rattle.stamp_tree.specs.declared.standing.Standing.{Standing}

@@ -1,7 +1,5 @@
-use Rattle.std.proofs.Common.{◌≡◌, ◌∙◌, ap, sym, subst, Option}
+use Rattle.std.proofs.Common.{◌∙◌, ap, sym, Option}
 use Rattle.std.proofs.lemmas.Result.{IfOk-weaker}
-use Rattle.datasets.specs.Id.{id_order}
-use Rattle.change_laws.specs.Laws.{IsRising}
 use Rattle.reads.specs.Reads.{View, Read, says}
 use Rattle.block_machine.specs.Lower.{part_or}
 use Rattle.block_machine.proofs.Along.{part_at, part_more, part_all}

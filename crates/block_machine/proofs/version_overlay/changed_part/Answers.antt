@@ -1,6 +1,5 @@
-use Rattle.std.proofs.Common.{◌≡◌, ◌∙◌, ap, sym, slice_index_or}
+use Rattle.std.proofs.Common.{◌∙◌, ap, sym, slice_index_or}
 use Rattle.std.proofs.lemmas.List.{get_or_default}
-use Rattle.reads.specs.Reads.{View}
 use Rattle.block_machine.specs.declared.state.Slot.{Slot}
 use Rattle.block_machine.specs.Machine.{fresh_slot}
 use Rattle.block_machine.specs.Lower.{part_or}

@@ -1,4 +1,4 @@
-use Rattle.std.proofs.Common.{◌≡◌, ◌∙◌, ap, Some, None}
+use Rattle.std.proofs.Common.{◌∙◌, ap, Some, None}
 use Rattle.sets.specs.Sets.{has}
 use Rattle.datasets.specs.Id.{id_order}
 use Rattle.reads.specs.Questions.{Question}

@@ -1,8 +1,4 @@
 use Rattle.std.proofs.Common.{◌∙◌}
-use Rattle.std.specs.Prelude.{filter}
-use Rattle.datasets.specs.Id.{id_order}
-use Rattle.datasets.specs.Dataset.{matches}
-use Rattle.reads.specs.Questions.{Question}
 use Rattle.reads.proofs.Rising.{rises-scan}
 use Rattle.reads.proofs.scanned.Scanned.matching_part.Goals as goal
 

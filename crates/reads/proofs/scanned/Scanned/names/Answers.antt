@@ -1,4 +1,4 @@
-use Rattle.std.proofs.Common.{◌≡◌, ◌∙◌, ap, Some, None}
+use Rattle.std.proofs.Common.{◌∙◌, ap, Some, None}
 use Rattle.reads.specs.Questions.{Question}
 use Rattle.reads.proofs.Asked.{told-names, or_none}
 use Rattle.reads.proofs.scanned.Scanned.names.Goals as goal

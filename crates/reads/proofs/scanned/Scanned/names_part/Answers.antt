@@ -1,5 +1,4 @@
 use Rattle.std.proofs.Common.{◌∙◌}
-use Rattle.reads.specs.Questions.{Question}
 use Rattle.reads.proofs.Rising.{rises-names}
 use Rattle.reads.proofs.scanned.Scanned.names_part.Goals as goal
 

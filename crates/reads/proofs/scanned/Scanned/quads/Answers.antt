@@ -1,4 +1,4 @@
-use Rattle.std.proofs.Common.{◌≡◌, ◌∙◌, ap, Some, None}
+use Rattle.std.proofs.Common.{◌∙◌, ap, Some, None}
 use Rattle.std.specs.Prelude.{filter}
 use Rattle.datasets.specs.Id.{id_order}
 use Rattle.datasets.specs.Dataset.{matches}
