@@ -9,38 +9,34 @@ ghost use Rattle.change_laws.specs.Laws.{IsRising};
 ghost use Rattle.reads.specs.Reads.{View as Dataset, says, applied, covers as the_covers, no_change};
 ghost use Rattle.delta.specs.Same.{delta_eq};
 
-use crate::lists::{has_names, names_without, quads_without};
+use crate::lists::{has_names, names_after, quads_after};
+use crate::parts::Parts;
 use datasets::{Id, Quad, QuadPattern, Read};
 use quad_index::matching::{is_any_in_set, matching};
 use quad_index::part_of_set;
+use reads::View;
 use reads::lists::{copied_names, copied_quads, name_if, names_union, quads_union};
 use reads::same::{same_names, same_quads};
-use reads::{SharedItems, View};
 use sets::{is_member, set_of};
 use std::alloc::{AllocError, Global};
 use std::marker::Model;
+use std::sync::Arc;
 
-/// A change: quads that come to be present or absent, and graphs that come to be there or gone. Its lists are shared, and not copied.
+/// A change: quads that come to be present or absent, and graphs that come to be there or gone. It is shared, and not copied.
 #[derive(Drop)]
 pub struct Delta {
-    present: SharedItems<Quad<Id>>,
-    absent: SharedItems<Quad<Id>>,
-    there: SharedItems<Id>,
-    gone: SharedItems<Id>,
+    // Nothing stands for no change.
+    parts: Option<Arc<Parts, Global>>,
 }
 
 impl Model for Delta {
     ghost use Rattle.datasets.specs.Dataset.{Change};
     ghost use Rattle.datasets.specs.declared.id.Id.{Id};
+    ghost use Rattle.delta.specs.Shared.{change_of};
 
     ghost Value = { Change Id };
 
-    ghost view = { λ d. record { present = d.present; absent = d.absent; there = d.there; gone = d.gone } };
-
-    ghost use Rattle.datasets.specs.Id.{id_order};
-    ghost use Rattle.change_laws.specs.Laws.{IsRising};
-
-    ghost invariant = { λ d. IsRising id_order (record { quads = d.present; names = d.there }) × IsRising id_order (record { quads = d.absent; names = d.gone }) };
+    ghost view = { λ d. change_of d.parts };
 }
 
 impl Delta {
@@ -48,12 +44,7 @@ impl Delta {
     pub fn new(_alloc: Global) -> Self
         ensures { result ≡ no_change }
     {
-        Delta {
-            present: SharedItems::new(),
-            absent: SharedItems::new(),
-            there: SharedItems::new(),
-            gone: SharedItems::new(),
-        }
+        Delta { parts: None }
     }
 
     /// The change that speaks of the sets of these, in any order and with repeats.
@@ -86,11 +77,14 @@ impl Delta {
         requires go { IsRising id_order (record { quads = absent.items; names = gone.items }) }
         ensures { IfOk result (λ change. change ≡ record { present = present.items; absent = absent.items; there = there.items; gone = gone.items }) }
     {
+        let parts = Parts {
+            present,
+            absent,
+            there,
+            gone,
+        };
         Ok(Delta {
-            present: SharedItems::from_vec(alloc, present)?,
-            absent: SharedItems::from_vec(alloc, absent)?,
-            there: SharedItems::from_vec(alloc, there)?,
-            gone: SharedItems::from_vec(alloc, gone)?,
+            parts: Some(Arc::new(alloc, parts)?),
         })
     }
 
@@ -99,7 +93,10 @@ impl Delta {
         ensures value { result.now ≡ self.now.present }
         ensures set { IsStrictlySortedBy (quad_order id_order) result.now }
     {
-        self.present.as_slice()
+        match &self.parts {
+            Some(parts) => parts.present(),
+            None => &[],
+        }
     }
 
     /// The quads that come to be absent.
@@ -107,7 +104,10 @@ impl Delta {
         ensures value { result.now ≡ self.now.absent }
         ensures set { IsStrictlySortedBy (quad_order id_order) result.now }
     {
-        self.absent.as_slice()
+        match &self.parts {
+            Some(parts) => parts.absent(),
+            None => &[],
+        }
     }
 
     /// The graphs that come to be there, by name.
@@ -115,7 +115,10 @@ impl Delta {
         ensures value { result.now ≡ self.now.there }
         ensures set { IsStrictlySortedBy id_order result.now }
     {
-        self.there.as_slice()
+        match &self.parts {
+            Some(parts) => parts.there(),
+            None => &[],
+        }
     }
 
     /// The graphs that come to be gone, by name.
@@ -123,7 +126,10 @@ impl Delta {
         ensures value { result.now ≡ self.now.gone }
         ensures set { IsStrictlySortedBy id_order result.now }
     {
-        self.gone.as_slice()
+        match &self.parts {
+            Some(parts) => parts.gone(),
+            None => &[],
+        }
     }
 
     /// Whether the change speaks of something that the read asks for.
@@ -159,15 +165,12 @@ impl Delta {
     }
 
     // The graphs.
-    fn names_part(&self) -> Result<Delta, AllocError>
+    fn names_part(&self, alloc: Global) -> Result<Delta, AllocError>
         ensures { IfOk result (λ part. part ≡ record { present = []; absent = []; there = self.now.there; gone = self.now.gone }) }
     {
-        Ok(Delta {
-            present: SharedItems::new(),
-            absent: SharedItems::new(),
-            there: self.there.copied()?,
-            gone: self.gone.copied()?,
-        })
+        let there = copied_names(alloc, self.there())?;
+        let gone = copied_names(alloc, self.gone())?;
+        Delta::from_sets(alloc, Vec::new(alloc), Vec::new(alloc), there, gone)
     }
 
     /// The part of the change that the read asks for: what the read says after the part is what it says after the whole.
@@ -177,7 +180,7 @@ impl Delta {
         match read {
             Read::Scan(pattern) => self.matching_part(alloc, pattern),
             Read::GraphIs(name) => self.name_part(alloc, name),
-            Read::Graphs => self.names_part(),
+            Read::Graphs => self.names_part(alloc),
         }
     }
 
@@ -187,25 +190,36 @@ impl Delta {
         ensures { IfOk result (λ after. after ≡ applied self.now view) }
     {
         let (quads, names) = view.into_parts();
-        let present = copied_quads(alloc, self.present())?;
-        let there = copied_names(alloc, self.there())?;
-        let quads = quads_union(quads_without(quads, self.absent()), present)?;
-        let names = names_union(names_without(names, self.gone()), there)?;
+        let quads = quads_after(alloc, quads, self.absent(), self.present())?;
+        let names = names_after(alloc, names, self.gone(), self.there())?;
         Ok(View::from_sets(quads, names))
+    }
+
+    // What it speaks of: copied where there is another owner.
+    fn into_parts(self, alloc: Global) -> Result<Parts, AllocError>
+        ensures { IfOk result (λ parts. parts ≡ self) }
+    {
+        let Some(shared) = self.parts else {
+            return Ok(Parts::new(alloc));
+        };
+        match Arc::try_unwrap(shared) {
+            Ok(parts) => Ok(parts),
+            Err(shared) => shared.copied(alloc),
+        }
     }
 
     /// This change and then a later one, as one change. What the later one speaks of is as it says.
     pub fn followed_by(self, alloc: Global, later: &Delta) -> Result<Delta, AllocError>
         ensures { IfOk result (λ both. (d : Dataset) → applied both d ≡ applied later.now (applied self d)) }
     {
-        let left = quads_without(self.present.into_vec(alloc)?, later.absent());
-        let present = quads_union(left, copied_quads(alloc, later.present())?)?;
-        let earlier = self.absent.into_vec(alloc)?;
-        let absent = quads_union(earlier, copied_quads(alloc, later.absent())?)?;
-        let left = names_without(self.there.into_vec(alloc)?, later.gone());
-        let there = names_union(left, copied_names(alloc, later.there())?)?;
-        let earlier = self.gone.into_vec(alloc)?;
-        let gone = names_union(earlier, copied_names(alloc, later.gone())?)?;
+        let Parts {
+            present,
+            absent,
+            there,
+            gone,
+        } = self.into_parts(alloc)?;
+        let (present, absent) = quads_followed(alloc, present, absent, later)?;
+        let (there, gone) = names_followed(alloc, there, gone, later)?;
         Delta::from_sets(alloc, present, absent, there, gone)
     }
 
@@ -213,12 +227,11 @@ impl Delta {
     pub fn copied(&self, _alloc: Global) -> Result<Self, AllocError>
         ensures { IfOk result (λ copy. copy ≡ self.now) }
     {
-        Ok(Delta {
-            present: self.present.copied()?,
-            absent: self.absent.copied()?,
-            there: self.there.copied()?,
-            gone: self.gone.copied()?,
-        })
+        let parts = match &self.parts {
+            Some(parts) => Some(Arc::try_clone(parts)?),
+            None => None,
+        };
+        Ok(Delta { parts })
     }
 
     /// Whether two changes speak of the same.
@@ -230,4 +243,34 @@ impl Delta {
             && same_names(self.there(), other.there())
             && same_names(self.gone(), other.gone())
     }
+}
+
+// The quads of a change, present and absent, and then those of a later one.
+fn quads_followed(
+    alloc: Global,
+    present: Vec<Quad<Id>>,
+    absent: Vec<Quad<Id>>,
+    later: &Delta,
+) -> Result<(Vec<Quad<Id>>, Vec<Quad<Id>>), AllocError>
+    ensures present { IfOk result (λ both. both.0.items ≡ union (quad_order id_order) (without (quad_order id_order) present.items later.now.absent) later.now.present) }
+    ensures absent { IfOk result (λ both. both.1.items ≡ union (quad_order id_order) absent.items later.now.absent) }
+{
+    let present = quads_after(alloc, present, later.absent(), later.present())?;
+    let absent = quads_union(absent, copied_quads(alloc, later.absent())?)?;
+    Ok((present, absent))
+}
+
+// The graphs of a change, there and gone, and then those of a later one.
+fn names_followed(
+    alloc: Global,
+    there: Vec<Id>,
+    gone: Vec<Id>,
+    later: &Delta,
+) -> Result<(Vec<Id>, Vec<Id>), AllocError>
+    ensures there { IfOk result (λ both. both.0.items ≡ union id_order (without id_order there.items later.now.gone) later.now.there) }
+    ensures gone { IfOk result (λ both. both.1.items ≡ union id_order gone.items later.now.gone) }
+{
+    let there = names_after(alloc, there, later.gone(), later.there())?;
+    let gone = names_union(gone, copied_names(alloc, later.gone())?)?;
+    Ok((there, gone))
 }

@@ -9,6 +9,7 @@ mod delta;
 mod finished;
 pub mod laws;
 mod lists;
+mod parts;
 
 pub use delta::Delta;
 pub use finished::{Finished, Outcome};

@@ -1,13 +1,15 @@
-//! Lists of quads and of graph names: differences, and whether there is any.
-ghost use Rattle.std.specs.Prelude.{◌≡◌, true};
+//! Lists of quads and of graph names: differences, sets after a change, and whether there is any.
+ghost use Rattle.std.specs.Prelude.{◌≡◌, true, IfOk};
 ghost use Rattle.std.specs.List.{list_any};
 ghost use Rattle.std.specs.List.Sorted.{IsStrictlySortedBy};
-ghost use Rattle.sets.specs.Sets.{without};
+ghost use Rattle.sets.specs.Sets.{union, without};
 ghost use Rattle.datasets.specs.Id.{id_order};
 ghost use Rattle.datasets.specs.Dataset.{quad_order};
 
 use datasets::{Id, Quad};
+use reads::lists::{copied_names, copied_quads, names_union, quads_union};
 use sets::is_member;
+use std::alloc::{AllocError, Global};
 
 /// Whether there is any name.
 pub(crate) fn has_names(names: &[Id]) -> bool
@@ -16,8 +18,8 @@ pub(crate) fn has_names(names: &[Id]) -> bool
     names.iter().any(|_name| true)
 }
 
-/// The quads that are none of a set's.
-pub(crate) fn quads_without(mut quads: Vec<Quad<Id>>, others: &[Quad<Id>]) -> Vec<Quad<Id>>
+// The quads that are none of a set's.
+fn quads_without(mut quads: Vec<Quad<Id>>, others: &[Quad<Id>]) -> Vec<Quad<Id>>
     requires { IsStrictlySortedBy (quad_order id_order) others.now }
     ensures { result.items ≡ without (quad_order id_order) quads.items others.now }
 {
@@ -25,11 +27,39 @@ pub(crate) fn quads_without(mut quads: Vec<Quad<Id>>, others: &[Quad<Id>]) -> Ve
     quads
 }
 
-/// The names that are none of a set's.
-pub(crate) fn names_without(mut names: Vec<Id>, others: &[Id]) -> Vec<Id>
+// The names that are none of a set's.
+fn names_without(mut names: Vec<Id>, others: &[Id]) -> Vec<Id>
     requires { IsStrictlySortedBy id_order others.now }
     ensures { result.items ≡ without id_order names.items others.now }
 {
     names.retain(|name| !is_member(others, name));
     names
+}
+
+/// The set of the quads that are none of a set's, and of more.
+pub(crate) fn quads_after(
+    alloc: Global,
+    quads: Vec<Quad<Id>>,
+    gone: &[Quad<Id>],
+    more: &[Quad<Id>],
+) -> Result<Vec<Quad<Id>>, AllocError>
+    requires { IsStrictlySortedBy (quad_order id_order) gone.now }
+    ensures { IfOk result (λ after. after.items ≡ union (quad_order id_order) (without (quad_order id_order) quads.items gone.now) more.now) }
+{
+    let more = copied_quads(alloc, more)?;
+    quads_union(quads_without(quads, gone), more)
+}
+
+/// The set of the names that are none of a set's, and of more.
+pub(crate) fn names_after(
+    alloc: Global,
+    names: Vec<Id>,
+    gone: &[Id],
+    more: &[Id],
+) -> Result<Vec<Id>, AllocError>
+    requires { IsStrictlySortedBy id_order gone.now }
+    ensures { IfOk result (λ after. after.items ≡ union id_order (without id_order names.items gone.now) more.now) }
+{
+    let more = copied_names(alloc, more)?;
+    names_union(names_without(names, gone), more)
 }

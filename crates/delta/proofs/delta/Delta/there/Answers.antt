@@ -1,0 +1,6 @@
+use Rattle.sets.proofs.SetLaws.{sorted-empty}
+use Rattle.datasets.specs.Id.{id_order}
+use Rattle.delta.proofs.delta.Delta.there.Goals as goal
+
+pub returns-in-None-clause-set : goal.returns-in-None-clause-set
+returns-in-None-clause-set c = sorted-empty id_order
