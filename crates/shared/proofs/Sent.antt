@@ -46,6 +46,7 @@ use Rattle.reads.specs.contracts.indexed.IndexedView as IndexedView
 use Rattle.reads.specs.contracts.answered.Answered as Answered
 use Rattle.reads.specs.contracts.shared_items.SharedItems as SharedItems
 use Rattle.delta.specs.contracts.delta.Delta as Delta
+use Rattle.delta.specs.contracts.parts.Parts as Parts
 use Rattle.delta.specs.contracts.finished.Finished as Finished
 use Rattle.reads.specs.contracts.note.Note as Note
 use Rattle.quad_index.specs.contracts.known.KnownQuad as KnownQuad
@@ -174,11 +175,11 @@ quad = let i = id.the_field_send in search (sendable, crosses) depth 20
 pub view : IsSync (View.the_row)
 view = let q = quad_sync in let i = id.the_sync in search (sendable, crosses) depth 20
 
-quads_shared : IsSend (SharedItems.the_row (Quad.the_row Id.the_row))
-quads_shared = let q = quad in let y = quad_sync in search (sendable, crosses) depth 20
+parts : IsSend (Parts.the_row)
+parts = let q = quad in let i = id.the_send in search (sendable, crosses) depth 20
 
-names_shared : IsSend (SharedItems.the_row Id.the_row)
-names_shared = let i = id.the_send in let j = id.the_sync in search (sendable, crosses) depth 20
+parts_sync : IsSync (Parts.the_row)
+parts_sync = let q = quad_sync in let i = id.the_sync in search (sendable, crosses) depth 20
 
 answer : IsSend (Answer.the_row Id.the_row)
 answer = let q = quad in let i = id.the_send in search (sendable, crosses) depth 20
@@ -211,7 +212,7 @@ answered_sync : IsSync (Answered.the_row)
 answered_sync = let a = answer in let b = answer_sync in search (sendable, crosses) depth 20
 
 delta : IsSend (Delta.the_row)
-delta = let q = quads_shared in let n = names_shared in search (sendable, crosses) depth 20
+delta = let p = parts in let y = parts_sync in search (sendable, crosses) depth 20
 
 note : IsSend (Note.the_row)
 note = let a = answered in let r = read in search (sendable, crosses) depth 20
