@@ -3,6 +3,7 @@ use datasets::{Id, Quad};
 use meaning::Refusal;
 use nquads::{BaseFault, canonical_text, read_bytes};
 use numbering::{Numbered, named, number};
+use reads::View;
 use rules::{Block, split};
 use std::alloc::{AllocError, Global};
 use std::test::Fail;
@@ -10,15 +11,14 @@ use terms::DataSet;
 
 const BASE: &str = "<x:c> <x:b> <x:a> <x:d> .\n";
 
-fn is_numbered(numbered: &Numbered) -> bool {
+fn is_numbered(numbered: &Numbered, dataset: &View) -> bool {
     let quad = Quad {
         subject: Id::Known(2),
         predicate: Id::Known(1),
         object: Id::Known(0),
         graph: Some(Id::Known(3)),
     };
-    let (terms, dataset) = (numbered.base.terms(), numbered.base.dataset());
-    terms.len() == 4
+    numbered.base.terms().len() == 4
         && matches!(dataset.names(), [Id::Known(3)])
         && matches!(dataset.quads(), [only] if *only == quad)
         && matches!(numbered.block.as_slice(), [Err(Refusal::Syntax)])
@@ -31,7 +31,9 @@ fn base(alloc: Global) -> Result<DataSet, BaseFault> {
 /// Whether the base comes to its numbers.
 fn comes_to_numbers(alloc: Global, block: &Block) -> Result<bool, BaseFault> {
     let dataset = base(alloc)?;
-    Ok(is_numbered(&number(alloc, &dataset, block)?))
+    let numbered = number(alloc, &dataset, block)?;
+    let copy = numbered.base.dataset().copied(alloc)?;
+    Ok(is_numbered(&numbered, &copy))
 }
 
 // To numbers and back.
