@@ -5,6 +5,8 @@
 //! of specs/Settled.antt.
 #![tactic(auto)]
 
+mod filters;
+mod generation;
 mod settled;
 mod spoken;
 
