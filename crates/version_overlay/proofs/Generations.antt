@@ -12,7 +12,7 @@ use Rattle.version_overlay.specs.declared.generation.Generation.{Generation}
 use Rattle.version_overlay.specs.Generation.{has_spoken, IsKept}
 
 -- a filter that lets through at least as much stops no more
-stopped : (a b : Bool) → (a ≡ true → b ≡ true) → b ≡ false → a ≡ false
+pub stopped : (a b : Bool) → (a ≡ true → b ≡ true) → b ≡ false → a ≡ false
 stopped true b more e = absurd (false≢true (sym e ∙ more refl))
 stopped false b more e = refl
 

@@ -7,6 +7,7 @@
 
 mod filters;
 mod generation;
+mod level;
 mod settled;
 mod spoken;
 
