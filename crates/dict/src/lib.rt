@@ -6,6 +6,7 @@
 
 mod dictionary;
 pub mod laws;
+mod ranks;
 
 pub use datasets::Id;
 pub use dictionary::Dict;
