@@ -6,6 +6,7 @@
 
 mod dictionary;
 pub mod laws;
+mod parts;
 mod ranks;
 
 pub use datasets::Id;

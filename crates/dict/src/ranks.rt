@@ -7,15 +7,18 @@ ghost use Rattle.terms.specs.Placed.{term_at, is_within};
 ghost use Rattle.dict.specs.Dictionary.{is_written};
 ghost use Rattle.dict.specs.Ranks.{IsGathered, ArePlaced, IsNumberOf, term_in, ends_with as ends_with_term, with_next, taken, number_in};
 
+use crate::parts::{Parts, Stand};
 use datasets::Id;
 use std::alloc::{AllocError, Global};
+use std::cmp::Ordering;
 use terms::Term;
 
-/// A term that lies in a list, and its place there.
+/// A term that lies in a list, its place there, and where it stands in its order.
 #[derive(Clone, Copy, Drop)]
 pub(crate) struct Placed<'a> {
     term: &'a Term,
     place: u32,
+    stand: Stand,
 }
 
 /// A place as 32 bits. More terms than that do not fit into memory.
@@ -29,13 +32,18 @@ fn narrowed(place: usize) -> Result<u32, AllocError>
 }
 
 /// Adds the terms of a list that goes on where the others ended.
-fn push_placed<'a>(placed: &mut Vec<Placed<'a>>, terms: &'a [Term]) -> Result<(), AllocError>
+fn push_placed<'a>(
+    placed: &mut Vec<Placed<'a>>,
+    parts: &Parts<'_>,
+    terms: &'a [Term],
+) -> Result<(), AllocError>
     ensures { OnOk result ((all : List OneTerm) → IsGathered all placed.old.items → IsGathered (all ++ terms.now) placed.new.items) }
 {
     placed.reserve(terms.len())?;
     for term in terms {
         let place = narrowed(placed.len())?;
-        placed.push(Placed { term, place })?;
+        let stand = parts.stand_of(term);
+        placed.push(Placed { term, place, stand })?;
     }
     Ok(())
 }
@@ -48,10 +56,19 @@ fn gathered<'a>(
 ) -> Result<Vec<Placed<'a>>, AllocError>
     ensures { IfOk result (λ placed. IsGathered (terms.now ++ more.now) placed.items) }
 {
+    let parts = Parts::new(alloc, terms)?;
     let mut placed = Vec::new(alloc);
-    push_placed(&mut placed, terms)?;
-    push_placed(&mut placed, more)?;
+    push_placed(&mut placed, &parts, terms)?;
+    push_placed(&mut placed, &parts, more)?;
     Ok(placed)
+}
+
+/// The order of two terms, from where they stand where that differs.
+fn by_stands(left: &Placed<'_>, right: &Placed<'_>) -> Ordering {
+    match left.stand.cmp(&right.stand) {
+        Ordering::Equal => left.term.cmp(right.term),
+        stands => stands,
+    }
 }
 
 /// The terms of these two lists in their order, with their places in the one after the other.
@@ -65,6 +82,8 @@ pub(crate) fn in_order<'a>(
     ensures sorted { IfOk result (λ placed. IsSortedByKey term_in term_order placed.items) }
 {
     let mut placed = gathered(alloc, terms, more)?;
+    // Where terms stand is in their order, so that the second sort finds all in order.
+    placed.sort_unstable_by(|left, right| by_stands(left, right));
     placed.sort_unstable_by(|left, right| left.term.cmp(right.term));
     Ok(placed)
 }
