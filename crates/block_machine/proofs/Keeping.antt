@@ -152,9 +152,9 @@ module _ (xs : List KeptSlot) (low : ℕ) (spoken : Read → ℕ → Bool) (sett
               folded = λ base. k.folded base ∙ sym (view_below base (shown xs) i (slot_by plain x) low above) ∙ ap (λ s. view_at base s low) (sym shown_set);
               closed = λ j lt. ap (λ (y : Slot). is_closed (Some y.status)) (at_other j (let a = above in omega (arith, a, lt))) ∙ k.closed j lt;
               calm = λ j. elim (cases_eq j i) [
-                  | inl same ↦ subst IsCalm (sym (ap (slot_at (shown (slice_set xs i x))) same ∙ at_it)) calm
-                  | inr ne ↦ subst IsCalm (sym (at_other j ne)) (k.calm j)
-                ];
+                | inl same ↦ subst IsCalm (sym (ap (slot_at (shown (slice_set xs i x))) same ∙ at_it)) calm
+                | inr ne ↦ subst IsCalm (sym (at_other j ne)) (k.calm j)
+              ];
               lows = lows_set low xs i x k.lows lows;
             }
 
@@ -360,9 +360,9 @@ module _ (xs : List KeptSlot) (low : ℕ) (spoken : Read → ℕ → Bool) (sett
             ∙ (λ t. applied ((is ∙ sym (ap (λ (y : Slot). y.delta) (by_at plain xs low))) t) (k.folded base t))
             ∙ ap (view_at base (shown xs)) one;
         closed = λ j below. elim (cases_eq j low) [
-            | inl same ↦ subst (λ n. is_closed (Some (slot_at (shown xs) n).status) ≡ true) (sym same) shut
-            | inr ne ↦ k.closed j (omega (arith, below, ne, e))
-          ];
+          | inl same ↦ subst (λ n. is_closed (Some (slot_at (shown xs) n).status) ≡ true) (sym same) shut
+          | inr ne ↦ k.closed j (omega (arith, below, ne, e))
+        ];
         calm = k.calm;
         lows = lows_more low next up xs k.lows;
       }

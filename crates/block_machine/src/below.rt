@@ -109,13 +109,7 @@ fn part_of(alloc: Global, scanned: &Scanned<'_>, part: Option<View>) -> Result<V
 }
 
 /// The greatest request below `i` that is an estimate and whose delta covers the read. The list begins at `low`, below which all are settled.
-pub fn blocker(
-    kept: &Kept,
-    low: usize,
-    list: &[usize],
-    i: usize,
-    read: &Read<Id>,
-) -> Option<usize>
+pub fn blocker(kept: &Kept, low: usize, list: &[usize], i: usize, read: &Read<Id>) -> Option<usize>
     requires holds { Holds kept.now }
     requires low { low ≤ kept.now.low }
     requires within { i ≤ length kept.now.slots.items }

@@ -47,11 +47,7 @@ impl Model for Machine {
 
 impl Machine {
     /// The machine of a block of this many requests. The orders are those in which committed changes are kept beside SPOG.
-    pub fn new(
-        alloc: Global,
-        size: usize,
-        orders: &[Arrangement],
-    ) -> Result<Machine, AllocError>
+    pub fn new(alloc: Global, size: usize, orders: &[Arrangement]) -> Result<Machine, AllocError>
         ensures { IfOk result (λ m. m ≡ fresh size) }
     {
         let standing = Standing {
@@ -67,17 +63,17 @@ impl Machine {
         })
     }
 
-    /// How many requests are committed.
+    /// How many requests are committed: the first ones.
     pub fn front(&self) -> usize
-        ensures { result ≡ self.now.front }
+        ensures front { result ≡ self.now.front }
+        ensures committed { (j : ℕ) → j < self.now.front → closed (Some (slot_at self.now.slots j).status) ≡ true }
     {
         self.front
     }
 
-    /// The status of a request, if the block has it. Those below the front are committed.
+    /// The status of a request, if the block has it.
     pub fn status(&self, i: usize) -> Option<Status>
-        ensures status { result ≡ status_of self.now.slots i }
-        ensures committed { i < self.now.front → closed result ≡ true }
+        ensures { result ≡ status_of self.now.slots i }
     {
         self.slots.status(i)
     }

@@ -41,11 +41,7 @@ impl Model for Slots {
 
 impl Slots {
     /// Those of this many requests before their first event. The orders are those in which settled changes are kept beside SPOG.
-    pub fn new(
-        alloc: Global,
-        size: usize,
-        orders: &[Arrangement],
-    ) -> Result<Slots, AllocError>
+    pub fn new(alloc: Global, size: usize, orders: &[Arrangement]) -> Result<Slots, AllocError>
         ensures { IfOk result (λ slots. slots ≡ replicate size fresh_slot) }
     {
         let mut slots = Vec::new(alloc);

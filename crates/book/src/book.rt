@@ -159,17 +159,17 @@ impl<'a> Book<'a> {
         }
     }
 
-    /// How many requests are committed.
+    /// How many requests are committed: the first ones.
     pub fn front(&self) -> usize
-        ensures { result ≡ (state_of self.now).front }
+        ensures front { result ≡ (state_of self.now).front }
+        ensures committed { (j : ℕ) → j < (state_of self.now).front → is_closed (Some (slot_at (state_of self.now).slots j).status) ≡ true }
     {
         self.machine.front()
     }
 
-    /// The status of a request, if the block has it. Those below the front are committed.
+    /// The status of a request, if the block has it.
     pub fn status(&self, i: usize) -> Option<Status>
-        ensures status { result ≡ status_of (state_of self.now).slots i }
-        ensures committed { i < (state_of self.now).front → is_closed result ≡ true }
+        ensures { result ≡ status_of (state_of self.now).slots i }
     {
         self.machine.status(i)
     }

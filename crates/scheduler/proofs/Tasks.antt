@@ -19,6 +19,12 @@ status_slot [] i status e = absurd (none-some status e)
 status_slot (x ∷ slots) zero status e = same_Some x.status status e
 status_slot (x ∷ slots) (suc i) status e = status_slot slots i status e
 
+-- what is no request of the block is not executed
+pub none_executed : (slots : List Slot) (i : ℕ) → status_of slots i ≡ None → is_executed (slot_at slots i).status ≡ false
+none_executed [] i e = refl
+none_executed (x ∷ slots) zero e = absurd (none-some x.status (sym e))
+none_executed (x ∷ slots) (suc i) e = none_executed slots i e
+
 module _ (s : State) (i : ℕ) where
   -- it is lawful, and for request i
   abbrev IsFor : Task → Type 0

@@ -1,7 +1,7 @@
 //! The next task of a book.
-ghost use Rattle.std.specs.Prelude.{◌≡◌, ◌||◌, ℕ, Bool, true, not, nat_le, Some};
+ghost use Rattle.std.specs.Prelude.{◌≡◌, ◌&&◌, ◌||◌, ℕ, Bool, true, not, nat_le, Some};
 ghost use Rattle.book.specs.Run.{state_of};
-ghost use Rattle.block_machine.specs.Machine.{is_current, is_stamped, can_commit as the_can_commit};
+ghost use Rattle.block_machine.specs.Machine.{is_current, is_executed, is_stamped, slot_at};
 ghost use Rattle.block_machine.specs.Waiting.{has_work};
 ghost use Rattle.scheduler.specs.Task.{settling, task_at, IsNext};
 
@@ -20,13 +20,16 @@ fn is_stamped(stamp: Option<u64>, latest: u64) -> bool
 }
 
 // Whether the request at the front is executed, with a stamp that stands.
-fn can_commit(book: &Book<'_>) -> bool
-    ensures { result ≡ the_can_commit (state_of book.now) (state_of book.now).front }
+fn can_commit(book: &Book<'_>, front: usize) -> bool
+    requires { front ≡ (state_of book.now).front }
+    ensures { result ≡ (is_executed (slot_at (state_of book.now).slots front).status && is_stamped (state_of book.now).slots front (slot_at (state_of book.now).slots front).stamp) }
 {
-    let front = book.front();
     match book.status(front) {
         Some(Status::Executed(_)) => is_stamped(book.stamp(front), book.latest()),
-        _ => false,
+        Some(Status::Ready(_)) => false,
+        Some(Status::Executing(_, _)) => false,
+        Some(Status::Committed(_)) => false,
+        None => false,
     }
 }
 
@@ -58,8 +61,9 @@ fn work_at(book: &Book<'_>, place: usize) -> Task
 pub fn next(book: &Book<'_>) -> Option<Task>
     ensures { IsNext (state_of book.now) result }
 {
-    if can_commit(book) {
-        return Some(Task::Commit(book.front()));
+    let front = book.front();
+    if can_commit(book, front) {
+        return Some(Task::Commit(front));
     }
     let place = book.least_work()?;
     Some(work_at(book, place))
