@@ -1,12 +1,14 @@
 -- A walk along the requests that may have spoken gives what the walk along all gives.
-use Rattle.std.proofs.Common.{◌≡◌, ℕ, zero, suc, ◌<◌, ◌≤◌, inl, inr, Bool, true, false, ◌&&◌, if◌then◌else◌, List, [], ◌∷◌, ◌++◌, length, Option, Some, slice_index_or, ◌+◌, refl, sym, ap, ◌∙◌, subst, arith}
+use Rattle.std.proofs.Common.{◌≡◌, ℕ, zero, suc, ◌<◌, ◌≤◌, inl, inr, Bool, true, false, ◌&&◌, if◌then◌else◌, List, [], ◌∷◌, ◌++◌, length, Option, Some, slice_index_or, ◌+◌, refl, sym, ap, ◌∙◌, subst, arith, append_assoc}
 use Rattle.std.proofs.lemmas.Bool.{cases_lt}
-use Rattle.std.proofs.lemmas.List.{get_or_default, get_or_past}
+use Rattle.std.proofs.lemmas.List.{get_or_default, get_or_past, length-map}
 use Rattle.datasets.specs.Id.{id_order}
 use Rattle.change_laws.specs.Laws.{IsRising}
 use Rattle.reads.specs.Reads.{View, Read, says, covers}
-use Rattle.block_machine.specs.declared.state.Slot.{Slot}
-use Rattle.block_machine.specs.Machine.{fresh_slot, slot_at, view_at, blocker, touching}
+use Rattle.block_machine.specs.declared.state.Slot.{Slot as KeptSlot}
+use Rattle.block_machine.specs.Machine.{Slot, slot_at, view_at, blocker, touching}
+use Rattle.block_machine.specs.Kept.{plain, slot_by, shown}
+use Rattle.block_machine.proofs.Alike.{is_slot}
 use Rattle.block_machine.specs.Lower.{request_at, after_first, Leads}
 use Rattle.block_machine.proofs.Overlay.{uncovered, view_rises}
 
@@ -43,59 +45,18 @@ module _ (slots : List Slot) (read : Read) where
   unfolding view_at
   says_skips base rising j h = uncovered (slot_at slots j).delta (view_at base slots j) read (view_rises base slots rising j) h
 
-  module _ (list : List ℕ) (i : ℕ) (leads : Leads slots read list i) where
-    pub blocker_at : (k : ℕ) → k ≤ length list → blocker slots (request_at list i k) read ≡ blocker slots (after_first list i k) read
+  module _ (low : ℕ) (list : List ℕ) (i : ℕ) (leads : Leads slots read low list i) where
+    pub blocker_at : (k : ℕ) → k ≤ length list → blocker slots (request_at list i k) read ≡ blocker slots (after_first low list i k) read
     blocker_at k le =
-        skip (λ n. blocker slots n read) (after_first list i k) (request_at list i k) (leads.rising k le) (λ j l m. blocker_skips j (leads.none k le j l m))
+        skip (λ n. blocker slots n read) (after_first low list i k) (request_at list i k) (leads.rising k le) (λ j l m. blocker_skips j (leads.none k le j l m))
 
-    pub touching_at : (k : ℕ) → k ≤ length list → touching slots (request_at list i k) read ≡ touching slots (after_first list i k) read
+    pub touching_at : (k : ℕ) → k ≤ length list → touching slots (request_at list i k) read ≡ touching slots (after_first low list i k) read
     touching_at k le =
-        skip (λ n. touching slots n read) (after_first list i k) (request_at list i k) (leads.rising k le) (λ j l m. touching_skips j (leads.none k le j l m))
+        skip (λ n. touching slots n read) (after_first low list i k) (request_at list i k) (leads.rising k le) (λ j l m. touching_skips j (leads.none k le j l m))
 
-    pub says_at : (base : View) → IsRising id_order base → (k : ℕ) → k ≤ length list → says read (view_at base slots (request_at list i k)) ≡ says read (view_at base slots (after_first list i k))
+    pub says_at : (base : View) → IsRising id_order base → (k : ℕ) → k ≤ length list → says read (view_at base slots (request_at list i k)) ≡ says read (view_at base slots (after_first low list i k))
     says_at base rising k le =
-        skip (λ n. says read (view_at base slots n)) (after_first list i k) (request_at list i k) (leads.rising k le) (λ j l m. says_skips base rising j (leads.none k le j l m))
-
-    -- the next of the list
-
-    module _ (top : i ≤ length slots) (k : ℕ) (lt : k < length list) where
-      here : slice_index_or list k 0 ≡ request_at list i k
-      here = get_or_default list k 0 i lt
-
-      le : k ≤ length list
-      le = omega (arith, lt)
-
-      one_more : suc k ≡ k + 1
-      one_more = omega arith
-
-      pub in_slots : slice_index_or list k 0 < length slots
-      in_slots = let w = leads.within k lt in subst (λ n. n < length slots) (sym here) (omega (arith, w, top))
-
-      slot_here : (x : Slot) → x ≡ slice_index_or slots (slice_index_or list k 0) x → x ≡ slot_at slots (request_at list i k)
-      slot_here x is = is ∙ get_or_default slots (slice_index_or list k 0) x fresh_slot in_slots ∙ ap (slot_at slots) here
-
-      pub blocker_more : (x : Slot) (found next : Option ℕ) → x ≡ slice_index_or slots (slice_index_or list k 0) x → found ≡ blocker slots (after_first list i k) read
-          → next ≡ (if x.estimate && covers x.delta read then Some (slice_index_or list k 0) else found) → next ≡ blocker slots (after_first list i (k + 1)) read
-      unfolding blocker
-      blocker_more x found next is so_far e =
-          let at = slot_here x is in
-          let same : found ≡ blocker slots (request_at list i k) read = so_far ∙ sym (blocker_at k le) in
-          e ∙ (λ t. if (at t).estimate && covers (at t).delta read then Some (here t) else same t) ∙ ap (λ n. blocker slots (after_first list i n) read) one_more
-
-      pub touching_more : (x : Slot) (found next : List (ℕ × ℕ)) → x ≡ slice_index_or slots (slice_index_or list k 0) x → found ≡ touching slots (after_first list i k) read
-          → next ≡ found ++ (if covers x.delta read then (slice_index_or list k 0, x.version) ∷ [] else []) → next ≡ touching slots (after_first list i (k + 1)) read
-      unfolding touching
-      touching_more x found next is so_far e =
-          let at = slot_here x is in
-          let same : found ≡ touching slots (request_at list i k) read = so_far ∙ sym (touching_at k le) in
-          e ∙ (λ t. same t ++ (if covers (at t).delta read then (here t, (at t).version) ∷ [] else [])) ∙ ap (λ n. touching slots (after_first list i n) read) one_more
-
-      module _ (base : View) (rising : IsRising id_order base) where
-        pub part_at : (part : View) → says read part ≡ says read (view_at base slots (after_first list i k)) → says read part ≡ says read (view_at base slots (slice_index_or list k 0))
-        part_at part so_far = so_far ∙ sym (says_at base rising k le) ∙ ap (λ n. says read (view_at base slots n)) (sym here)
-
-        pub part_more : (next : View) → says read next ≡ says read (view_at base slots (suc (slice_index_or list k 0))) → says read next ≡ says read (view_at base slots (after_first list i (k + 1)))
-        part_more next e = e ∙ ap (λ n. says read (view_at base slots (suc n))) here ∙ ap (λ n. says read (view_at base slots (after_first list i n))) one_more
+        skip (λ n. says read (view_at base slots n)) (after_first low list i k) (request_at list i k) (leads.rising k le) (λ j l m. says_skips base rising j (leads.none k le j l m))
 
     -- past its end
 
@@ -103,11 +64,54 @@ module _ (slots : List Slot) (read : Read) where
       at_end : request_at list i k ≡ i
       at_end = get_or_past list k i ge
 
-      pub blocker_all : (found : Option ℕ) → found ≡ blocker slots (after_first list i k) read → found ≡ blocker slots i read
+      pub blocker_all : (found : Option ℕ) → found ≡ blocker slots (after_first low list i k) read → found ≡ blocker slots i read
       blocker_all found e = e ∙ sym (blocker_at k le) ∙ ap (λ n. blocker slots n read) at_end
 
-      pub touching_all : (found : List (ℕ × ℕ)) → found ≡ touching slots (after_first list i k) read → found ≡ touching slots i read
+      pub touching_all : (found : List (ℕ × ℕ)) → touching slots low read ++ found ≡ touching slots (after_first low list i k) read → touching slots low read ++ found ≡ touching slots i read
       touching_all found e = e ∙ sym (touching_at k le) ∙ ap (λ n. touching slots n read) at_end
 
-      pub part_all : (base : View) → IsRising id_order base → (part : View) → says read part ≡ says read (view_at base slots (after_first list i k)) → says read part ≡ says read (view_at base slots i)
+      pub part_all : (base : View) → IsRising id_order base → (part : View) → says read part ≡ says read (view_at base slots (after_first low list i k)) → says read part ≡ says read (view_at base slots i)
       part_all base rising part e = e ∙ sym (says_at base rising k le) ∙ ap (λ n. says read (view_at base slots n)) at_end
+
+-- the next of the list
+
+module _ (kept : List KeptSlot) (read : Read) (low : ℕ) (list : List ℕ) (i : ℕ) (leads : Leads (shown kept) read low list i) (top : i ≤ length kept) (k : ℕ) (lt : k < length list) where
+  here : slice_index_or list k 0 ≡ request_at list i k
+  here = get_or_default list k 0 i lt
+
+  le : k ≤ length list
+  le = omega (arith, lt)
+
+  one_more : suc k ≡ k + 1
+  one_more = omega arith
+
+  pub in_slots : slice_index_or list k 0 < length kept
+  in_slots = let w = leads.within k lt in subst (λ n. n < length kept) (sym here) (omega (arith, w, top))
+
+  slot_here : (x : KeptSlot) → x ≡ slice_index_or kept (slice_index_or list k 0) x → slot_by plain x ≡ slot_at (shown kept) (request_at list i k)
+  slot_here x is = is_slot plain kept (slice_index_or list k 0) x is in_slots ∙ ap (slot_at (shown kept)) here
+
+  pub blocker_more : (x : KeptSlot) (found next : Option ℕ) → x ≡ slice_index_or kept (slice_index_or list k 0) x → found ≡ blocker (shown kept) (after_first low list i k) read
+      → next ≡ (if x.estimate && covers x.delta read then Some (slice_index_or list k 0) else found) → next ≡ blocker (shown kept) (after_first low list i (k + 1)) read
+  unfolding blocker
+  blocker_more x found next is so_far e =
+      let at = slot_here x is in
+      let same : found ≡ blocker (shown kept) (request_at list i k) read = so_far ∙ sym (blocker_at (shown kept) read low list i leads k le) in
+      e ∙ (λ t. if (at t).estimate && covers (at t).delta read then Some (here t) else same t) ∙ ap (λ n. blocker (shown kept) (after_first low list i n) read) one_more
+
+  pub touching_more : (x : KeptSlot) (found next : List (ℕ × ℕ)) → x ≡ slice_index_or kept (slice_index_or list k 0) x → touching (shown kept) low read ++ found ≡ touching (shown kept) (after_first low list i k) read
+      → next ≡ found ++ (if covers x.delta read then (slice_index_or list k 0, x.version) ∷ [] else []) → touching (shown kept) low read ++ next ≡ touching (shown kept) (after_first low list i (k + 1)) read
+  unfolding touching
+  touching_more x found next is so_far e =
+      let at = slot_here x is in
+      let same : touching (shown kept) low read ++ found ≡ touching (shown kept) (request_at list i k) read = so_far ∙ sym (touching_at (shown kept) read low list i leads k le) in
+      ap (λ ts. touching (shown kept) low read ++ ts) e
+      ∙ sym (append_assoc (touching (shown kept) low read) found (if covers x.delta read then (slice_index_or list k 0, x.version) ∷ [] else []))
+      ∙ (λ t. same t ++ (if covers (at t).delta read then (here t, (at t).version) ∷ [] else [])) ∙ ap (λ n. touching (shown kept) (after_first low list i n) read) one_more
+
+  module _ (base : View) (rising : IsRising id_order base) where
+    pub part_at : (part : View) → says read part ≡ says read (view_at base (shown kept) (after_first low list i k)) → says read part ≡ says read (view_at base (shown kept) (slice_index_or list k 0))
+    part_at part so_far = so_far ∙ sym (says_at (shown kept) read low list i leads base rising k le) ∙ ap (λ n. says read (view_at base (shown kept) n)) (sym here)
+
+    pub part_more : (next : View) → says read next ≡ says read (view_at base (shown kept) (suc (slice_index_or list k 0))) → says read next ≡ says read (view_at base (shown kept) (after_first low list i (k + 1)))
+    part_more next e = e ∙ ap (λ n. says read (view_at base (shown kept) (suc n))) here ∙ ap (λ n. says read (view_at base (shown kept) (after_first low list i n))) one_more

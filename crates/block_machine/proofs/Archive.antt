@@ -10,10 +10,8 @@ use Rattle.change_laws.specs.Laws.{IsRising}
 use Rattle.reads.specs.Reads.{View, Delta, Read, says, applied, covers, no_change}
 use Rattle.block_machine.specs.declared.state.Status.{Status}
 use Rattle.block_machine.specs.declared.state.Status.TheVariants.{Ready, Executing, Executed, Committed as HasCommitted}
-use Rattle.block_machine.specs.declared.state.Noted.{Noted}
 use Rattle.block_machine.specs.declared.state.Pass.{Pass}
 use Rattle.delta.specs.declared.finished.Finished.{Finished}
-use Rattle.block_machine.specs.declared.state.Slot.{Slot}
 use Rattle.block_machine.specs.declared.state.Event.{Event}
 use Rattle.block_machine.specs.declared.state.Event.TheVariants.{Take, Read as ReadOf, Publish, Begin, Check, Commit, GiveUp}
 use Rattle.block_machine.specs.declared.state.Reply.{Reply}
@@ -21,11 +19,11 @@ use Rattle.block_machine.specs.declared.state.Reply.TheVariants.{Taken, Answered
 use Rattle.block_machine.specs.declared.validate.Verdict.{Verdict}
 use Rattle.block_machine.specs.declared.validate.Verdict.TheVariants as verdict
 use Rattle.block_machine.specs.declared.state.Entry.{Entry}
-use Rattle.block_machine.specs.Machine.{State, fresh_slot, fresh, slot_at, status_of, view_at, touching, is_closed, can_commit, IsAllowed, after, state_after, with_note, published, begun, passed, committed, NamesAnswer, NextNamesAnswer, NoteReply, ListVerdict, verdict_reply}
+use Rattle.block_machine.specs.Machine.{Noted, Slot, State, fresh_slot, fresh, slot_at, status_of, view_at, touching, is_closed, can_commit, IsAllowed, after, state_after, with_note, published, begun, passed, committed, NamesAnswer, NextNamesAnswer, NoteReply, ListVerdict, verdict_reply}
 use Rattle.block_machine.specs.Archive.{Archive, along, filed_at, archive_with, nothing_filed, archive_after, archive_of}
 use Rattle.block_machine.specs.Serial.{Setting, IsSetting, LawfulFrom, IsHistory}
 use Rattle.block_machine.proofs.Overlay.{uncovered, depends, view_rises}
-use Rattle.block_machine.proofs.Slots.{set_same, set_other, status_within}
+use Rattle.block_machine.proofs.SlotLaws.{set_same, set_other, status_within}
 use Rattle.block_machine.proofs.Theorem.{unless_execution, unless_executed, take_ready, commit_can, open_is}
 
 covers_none : (r : Read) → covers no_change r ≡ false

@@ -4,13 +4,11 @@ use Rattle.std.proofs.lemmas.Bool.{cases_lt, cases_eq}
 use Rattle.reads.specs.Reads.{View}
 use Rattle.block_machine.specs.declared.state.Status.{Status}
 use Rattle.block_machine.specs.declared.state.Status.TheVariants.{Ready, Executing, Executed, Committed as HasCommitted}
-use Rattle.block_machine.specs.declared.state.Noted.{Noted}
 use Rattle.block_machine.specs.declared.state.Pass.{Pass}
 use Rattle.delta.specs.declared.finished.Finished.{Finished}
-use Rattle.block_machine.specs.declared.state.Slot.{Slot}
-use Rattle.block_machine.specs.Machine.{State, slot_at, view_at, is_closed, transcript_of}
+use Rattle.block_machine.specs.Machine.{Noted, Slot, State, slot_at, view_at, is_closed, transcript_of}
 use Rattle.block_machine.specs.Serial.{Setting, IsSound, FrontIsSerial}
-use Rattle.block_machine.proofs.Slots.{set_same, set_other, view_below, view_same, replies_below, Clear, Known}
+use Rattle.block_machine.proofs.SlotLaws.{set_same, set_other, view_below, view_same, replies_below, Clear, Known}
 
 -- executed or committed
 abbrev pub is_done : Status → Bool

@@ -1,6 +1,6 @@
 -- The requests that were found lead to all whose delta covers the read.
-use Rattle.std.proofs.Common.{◌≡◌, ℕ, zero, suc, ◌<◌, ◌≤◌, inl, inr, Bool, true, false, ◌&&◌, List, [], ◌∷◌, length, get_or, refl, sym, ap, ◌∙◌, subst, arith}
-use Rattle.std.specs.Prelude.{filter, ◌||◌, ◌==◌, nat_lt, eqb}
+use Rattle.std.proofs.Common.{◌≡◌, ℕ, zero, suc, ◌<◌, ◌≤◌, inl, inr, Bool, true, false, ◌&&◌, List, [], ◌∷◌, length, get_or, refl, sym, ap, ◌∙◌, subst, arith, leb-true}
+use Rattle.std.specs.Prelude.{filter, ◌||◌, ◌==◌, nat_le, nat_lt, eqb}
 use Rattle.std.specs.List.{list_any}
 use Rattle.std.specs.List.{dedup}
 use Rattle.std.specs.List.Sorted.{IsStrictlySortedBy, IsSorted, IsPermutation}
@@ -16,8 +16,7 @@ use Rattle.std.proofs.lemmas.Map.Lookups.{exact_unsigned}
 use Rattle.sets.specs.Sets.{has}
 use Rattle.sets.proofs.SetLaws.{has-filter, has_alike, exact_by}
 use Rattle.reads.specs.Reads.{Read, covers}
-use Rattle.block_machine.specs.declared.state.Slot.{Slot}
-use Rattle.block_machine.specs.Machine.{slot_at}
+use Rattle.block_machine.specs.Machine.{Slot, slot_at}
 use Rattle.block_machine.specs.Lower.{request_at, after_first, Leads, NoneCovers}
 
 -- ---- tests of lists
@@ -42,26 +41,33 @@ ties x y =
     (λ e. ap (λ n. is_eq (nat_cmp x n)) (sym (eqb-true x y e)) ∙ ap is_eq (tied_itself nat_cmp_total x))
     (λ e. ap (λ n. eqb x n) (sym (exact_by nat_cmp_total exact_unsigned x y e)) ∙ nat_eq_equiv.refl x)
 
-module _ (found kept up result : List ℕ) (i : ℕ) (filtered : kept ≡ filter (λ r. nat_lt r i) found) (moved : IsPermutation kept up) (sorted : IsSorted nat_cmp up) (is : result ≡ dedup eqb up) where
-  pub below-sorted : IsStrictlySortedBy nat_cmp result
-  below-sorted = subst (λ xs. IsStrictlySortedBy nat_cmp xs) (sym is) (IsStrictlySortedBy-dedup nat_cmp_total ties up sorted)
+module _ (found kept up result : List ℕ) (from i : ℕ) (filtered : kept ≡ filter (λ r. nat_le from r && nat_lt r i) found) (moved : IsPermutation kept up) (sorted : IsSorted nat_cmp up) (is : result ≡ dedup eqb up) where
+  pub between-sorted : IsStrictlySortedBy nat_cmp result
+  between-sorted = subst (λ xs. IsStrictlySortedBy nat_cmp xs) (sym is) (IsStrictlySortedBy-dedup nat_cmp_total ties up sorted)
 
-  has_below : (j : ℕ) → has nat_cmp result j ≡ (has nat_cmp found j && nat_lt j i)
-  has_below j =
+  has_between : (j : ℕ) → has nat_cmp result j ≡ (has nat_cmp found j && (nat_le from j && nat_lt j i))
+  has_between j =
       ap (λ xs. has nat_cmp xs j) is
       ∙ has_alike nat_cmp_total exact_unsigned (dedup eqb up) kept
       (λ x h. Contains-permutation up kept x (IsPermutation-sym kept up moved) (Contains-from_dedup eqb up x h))
       (λ x h. Contains-dedup_nat up x (Contains-permutation kept up x moved h)) j
       ∙ ap (λ xs. has nat_cmp xs j) filtered
-      ∙ has-filter nat_cmp_total exact_unsigned (λ r. nat_lt r i) j found
+      ∙ has-filter nat_cmp_total exact_unsigned (λ r. nat_le from r && nat_lt r i) j found
 
-  pub below-within : (j : ℕ) → has nat_cmp result j ≡ true → j < i
-  below-within j e =
-      let p = and_parts (has nat_cmp found j) (nat_lt j i) (sym (has_below j) ∙ e) in
-      ltb-true j i p.1
+  both : (j : ℕ) → has nat_cmp result j ≡ true → (nat_le from j ≡ true) × (nat_lt j i ≡ true)
+  both j e = and_parts (nat_le from j) (nat_lt j i) (and_parts (has nat_cmp found j) (nat_le from j && nat_lt j i) (sym (has_between j) ∙ e)).1
 
-  pub below-same : (j : ℕ) → j < i → list_any (λ r. r == j) found ≡ true → has nat_cmp result j ≡ true
-  below-same j lt e = has_below j ∙ and_from (has nat_cmp found j) (nat_lt j i) (tied found j e) (grind (arith, lt))
+  pub between-from : (j : ℕ) → has nat_cmp result j ≡ true → from ≤ j
+  between-from j e = leb-true from j (both j e).0
+
+  pub between-below : (j : ℕ) → has nat_cmp result j ≡ true → j < i
+  between-below j e = ltb-true j i (both j e).1
+
+  pub between-same : (j : ℕ) → from ≤ j → j < i → list_any (λ r. r == j) found ≡ true → has nat_cmp result j ≡ true
+  between-same j ge lt e =
+      has_between j
+      ∙ and_from (has nat_cmp found j) (nat_le from j && nat_lt j i) (tied found j e)
+      (and_from (nat_le from j) (nat_lt j i) (grind (arith, ge)) (grind (arith, lt)))
 
 -- ---- from a set to a lead
 
@@ -91,8 +97,8 @@ holds_not : (b : Bool) → (b ≡ true → ⊥) → b ≡ false
 holds_not true f = absurd (f refl)
 holds_not false f = refl
 
-module _ (slots : List Slot) (read : Read) (list : List ℕ) (i : ℕ) (sorted : IsStrictlySortedBy nat_cmp list) (within : (j : ℕ) → has nat_cmp list j ≡ true → j < i)
-    (all : (j : ℕ) → j < i → covers (slot_at slots j).delta read ≡ true → has nat_cmp list j ≡ true) where
+module _ (slots : List Slot) (read : Read) (low : ℕ) (list : List ℕ) (i : ℕ) (rises : low ≤ i) (sorted : IsStrictlySortedBy nat_cmp list) (begins : (j : ℕ) → has nat_cmp list j ≡ true → low ≤ j)
+    (within : (j : ℕ) → has nat_cmp list j ≡ true → j < i) (all : (j : ℕ) → low ≤ j → j < i → covers (slot_at slots j).delta read ≡ true → has nat_cmp list j ≡ true) where
   at_within : (k : ℕ) → k < length list → request_at list i k < i
   at_within k lt = within (get_or list k i) (at-has list k i lt)
 
@@ -103,8 +109,12 @@ module _ (slots : List Slot) (read : Read) (list : List ℕ) (i : ℕ) (sorted :
         | inr ge ↦ (let e : n ≡ m = omega (arith, le, ge) in subst (λ z. request_at list i n ≤ request_at list i z) e (omega arith))
       ]
 
-  at_rising : (k : ℕ) → k ≤ length list → after_first list i k ≤ request_at list i k
-  at_rising zero le = omega arith
+  at_rising : (k : ℕ) → k ≤ length list → after_first low list i k ≤ request_at list i k
+  at_rising zero le =
+      elim (cases_lt 0 (length list)) [
+        | inl lt ↦ begins (get_or list 0 i) (at-has list 0 i lt)
+        | inr ge ↦ subst (λ z. low ≤ z) (sym (get_or_past list 0 i ge)) rises
+      ]
   at_rising (suc k) le =
       let here = at_within k (omega (arith, le)) in
       elim (cases_lt (suc k) (length list)) [
@@ -112,8 +122,8 @@ module _ (slots : List Slot) (read : Read) (list : List ℕ) (i : ℕ) (sorted :
         | inr ge ↦ subst (λ z. suc (request_at list i k) ≤ z) (sym (get_or_past list (suc k) i ge)) here
       ]
 
-  at_none : (k : ℕ) → k ≤ length list → NoneCovers slots read (after_first list i k) (request_at list i k)
-  at_none k le j low high = holds_not _ (λ e. no k le low high (place_of list i j (all j (below_i k le high) e)))
+  at_none : (k : ℕ) → k ≤ length list → NoneCovers slots read (after_first low list i k) (request_at list i k)
+  at_none k le j down high = holds_not _ (λ e. no k le down high (place_of list i j (all j (from_low k le down) (below_i k le high) e)))
     where
       below_i : (k : ℕ) → k ≤ length list → j < request_at list i k → j < i
       below_i k le high =
@@ -122,17 +132,24 @@ module _ (slots : List Slot) (read : Read) (list : List ℕ) (i : ℕ) (sorted :
             | inr ge ↦ subst (λ z. j < z) (get_or_past list k i ge) high
           ]
 
-      no : (k : ℕ) → k ≤ length list → after_first list i k ≤ j → j < request_at list i k → Place list i j → ⊥
-      no zero le low high p =
+      from_low : (k : ℕ) → k ≤ length list → after_first low list i k ≤ j → low ≤ j
+      from_low zero le down = down
+      from_low (suc k) le down =
+          let b = begins (get_or list k i) (at-has list k i (omega (arith, le))) in
+          let d : suc (get_or list k i) ≤ j = down in
+          omega (arith, b, d)
+
+      no : (k : ℕ) → k ≤ length list → after_first low list i k ≤ j → j < request_at list i k → Place list i j → ⊥
+      no zero le down high p =
           let r = rises_to zero p.place (omega arith) p.within in
           let same : request_at list i p.place ≡ j = p.is in
           absurd (omega (arith, r, same, high))
-      no (suc k) le low high p =
+      no (suc k) le down high p =
           let same : request_at list i p.place ≡ j = p.is in
           elim (cases_lt k p.place) [
             | inl lt ↦ (let r = rises_to (suc k) p.place (omega (arith, lt)) p.within in absurd (omega (arith, r, same, high)))
-            | inr ge ↦ (let r = rises_to p.place k ge (omega (arith, le)) in absurd (omega (arith, r, same, low)))
+            | inr ge ↦ (let r = rises_to p.place k ge (omega (arith, le)) in absurd (omega (arith, r, same, down)))
           ]
 
-  pub leads_all : Leads slots read list i
+  pub leads_all : Leads slots read low list i
   leads_all = record { within = at_within; rising = at_rising; none = at_none }

@@ -1,12 +1,10 @@
 -- What a read says of the view of a request, without the whole view.
-use Rattle.std.proofs.Common.{◌≡◌, ℕ, zero, suc, ◌<◌, false, List, length, slice_index_or, ap, sym, ◌∙◌}
-use Rattle.std.proofs.lemmas.List.{get_or_default}
+use Rattle.std.proofs.Common.{◌≡◌, ℕ, zero, suc, false, List, ap, sym, ◌∙◌}
 use Rattle.datasets.specs.Id.{id_order, id_total, id_exact}
 use Rattle.change_laws.specs.Laws.{IsRising}
 use Rattle.change_laws.proofs.ChangeLaws.{uncovered_keeps, same_after, rises_after}
 use Rattle.reads.specs.Reads.{View, Delta, Read, says, applied, covers}
-use Rattle.block_machine.specs.declared.state.Slot.{Slot}
-use Rattle.block_machine.specs.Machine.{fresh_slot, slot_at, view_at}
+use Rattle.block_machine.specs.Machine.{Slot, slot_at, view_at}
 
 -- THE LAWS OF CHANGES, AT NUMBERS OF TERMS
 
@@ -27,10 +25,6 @@ module _ (base : View) (slots : List Slot) where
   unfolding view_at
   view_rises rising zero = rising
   view_rises rising (suc i) = rises (slot_at slots i).delta (view_at base slots i)
-
-  pub starts : (r : Read) (part : View) → says r part ≡ says r base → says r part ≡ says r (view_at base slots 0)
-  unfolding view_at
-  starts r part h = h
 
   module _ (j : ℕ) (r : Read) (c : Delta) (is : c ≡ (slot_at slots j).delta) (part : View) (alike : says r part ≡ says r (view_at base slots j)) where
     pub next_covered : (asked : Delta) (next : View) → ((d : View) → says r (applied asked d) ≡ says r (applied c d)) → next ≡ applied asked part → says r next ≡ says r (view_at base slots (suc j))
@@ -54,16 +48,6 @@ module _ (base : View) (slots : List Slot) where
       uncovered_as rising e = next_uncovered rising (ap (covers c) (sym same_read) ∙ e)
 
 -- a delta takes its request's view to the next one's
-pub changes_one : (slots : List Slot) (low high : ℕ) (x : Slot) (c : Delta) → low < length slots → c ≡ (slice_index_or slots low x).delta → high ≡ suc low → (base : View) → applied c (view_at base slots low) ≡ view_at base slots high
+pub changes_one : (slots : List Slot) (low high : ℕ) (c : Delta) → c ≡ (slot_at slots low).delta → high ≡ suc low → (base : View) → applied c (view_at base slots low) ≡ view_at base slots high
 unfolding view_at
-changes_one slots low high x c lt e f base =
-    let at = get_or_default slots low x fresh_slot lt in
-    (λ t. applied ((e ∙ ap (λ (y : Slot). y.delta) at) t) (view_at base slots low)) ∙ ap (view_at base slots) (sym f)
-
-pub view_at_start : (base : View) (slots : List Slot) (i : ℕ) (v : View) → v ≡ base → i ≡ 0 → v ≡ view_at base slots i
-unfolding view_at
-view_at_start base slots i v e f = e ∙ ap (view_at base slots) (sym f)
-
-pub view_after : (base : View) (slots : List Slot) (i : ℕ) (c : Delta) (v w : View) → w ≡ applied c v → v ≡ base → applied c (view_at base slots 0) ≡ view_at base slots i → w ≡ view_at base slots i
-unfolding view_at
-view_after base slots i c v w e f h = e ∙ ap (applied c) f ∙ h
+changes_one slots low high c e f base = ap (λ (d : Delta). applied d (view_at base slots low)) e ∙ ap (view_at base slots) (sym f)

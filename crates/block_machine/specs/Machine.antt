@@ -1,14 +1,13 @@
 -- The machine: what each event may be answered, and what it changes.
 use Rattle.std.specs.Prelude.{◌≡◌, ◌≢◌, ℕ, zero, suc, ◌+◌, ◌^◌, ◌<◌, Bool, true, false, ◌&&◌, ◌==◌, if◌then◌else◌, nat_le, List, [], ◌∷◌, ◌++◌, length, map, replicate, Option, Some, None, option_map, slice_get, slice_set, slice_index_or}
-use Rattle.reads.specs.Reads.{View, Read, says, applied, covers, no_change}
+use Rattle.meaning.specs.declared.reply.Reply as request
+use Rattle.reads.specs.Reads.{View, Read, Answer, Delta, says, applied, covers, no_change}
 use Rattle.delta.specs.Same.{delta_eq}
 use Rattle.reads.specs.declared.note.Note.{Note}
 use Rattle.block_machine.specs.declared.state.Status.{Status}
 use Rattle.block_machine.specs.declared.state.Status.TheVariants.{Ready, Executing, Executed, Committed as HasCommitted}
 use Rattle.block_machine.specs.declared.state.Pass.{Pass}
-use Rattle.block_machine.specs.declared.state.Noted.{Noted}
 use Rattle.delta.specs.declared.finished.Finished.{Finished}
-use Rattle.block_machine.specs.declared.state.Slot.{Slot}
 use Rattle.block_machine.specs.declared.state.Event.{Event}
 use Rattle.block_machine.specs.declared.state.Event.TheVariants.{Take, Read as ReadOf, Publish, Begin, Check, Commit, GiveUp}
 use Rattle.block_machine.specs.declared.state.Reply.{Reply}
@@ -16,6 +15,25 @@ use Rattle.block_machine.specs.declared.state.Reply.TheVariants.{Taken, Answered
 use Rattle.block_machine.specs.declared.state.Entry.{Entry}
 use Rattle.block_machine.specs.declared.validate.Verdict.{Verdict}
 use Rattle.block_machine.specs.declared.validate.Verdict.TheVariants as verdict
+
+-- A read as it was answered, with the lower requests whose deltas touched it, each by the incarnation of its last publication.
+pub record Noted : Type 0 where
+  pub read : Read
+  pub answer : Answer
+  pub touching : List (ℕ × ℕ)
+
+-- One request's part of the machine: its status, the reads of its incarnation, its last publication's delta, incarnation and reply, whether
+-- that is an estimate, the clock when the delta last changed, the pass that stands, and the clock when the last finished pass began.
+pub record Slot : Type 0 where
+  pub status : Status
+  pub notes : List Noted
+  pub delta : Delta
+  pub version : ℕ
+  pub reply : Option request.Reply
+  pub estimate : Bool
+  pub changed : ℕ
+  pub pass : Option Pass
+  pub stamp : Option ℕ
 
 -- The machine's state: a slot for each request, the clock, and the front, which is the number of commits.
 pub record State : Type 0 where

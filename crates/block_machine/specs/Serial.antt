@@ -4,13 +4,12 @@ use Rattle.reads.specs.Reads.{View, IsDataset}
 use Rattle.delta.specs.Sound.{IsSoundFor}
 use Rattle.meaning.specs.declared.reply.Reply as request
 use Rattle.delta.specs.declared.finished.Finished.{Finished}
-use Rattle.block_machine.specs.declared.state.Slot.{Slot}
 use Rattle.block_machine.specs.declared.state.Event.{Event}
 use Rattle.block_machine.specs.declared.state.Event.TheVariants.{Publish}
 use Rattle.block_machine.specs.declared.state.Reply.{Reply}
 use Rattle.block_machine.specs.declared.state.Reply.TheVariants.{Published}
 use Rattle.block_machine.specs.declared.state.Entry.{Entry}
-use Rattle.block_machine.specs.Machine.{State, IsAllowed, after, fresh, slot_at, view_at, state_after}
+use Rattle.block_machine.specs.Machine.{Slot, State, IsAllowed, after, fresh, slot_at, view_at, state_after}
 
 -- What is run: a base, how many requests there are, and what each makes of a dataset and replies.
 pub record Setting : Type 0 where

@@ -3,11 +3,10 @@ use Rattle.std.specs.Prelude.{◌≡◌, ℕ, ◌<◌, Bool, true, false, not, �
 use Rattle.stamp_tree.specs.declared.standing.Due.{Due}
 use Rattle.stamp_tree.specs.declared.standing.Due.TheVariants.{Now, After, Never}
 use Rattle.stamp_tree.specs.declared.standing.Standing.{Standing}
-use Rattle.block_machine.specs.declared.state.Slot.{Slot}
 use Rattle.block_machine.specs.declared.state.Pass.{Pass}
 use Rattle.block_machine.specs.declared.state.Status.{Status}
 use Rattle.block_machine.specs.declared.state.Status.TheVariants.{Ready, Executing, Executed, Committed}
-use Rattle.block_machine.specs.Machine.{slot_at, status_of, is_stamped}
+use Rattle.block_machine.specs.Machine.{Slot, slot_at, status_of, is_stamped}
 
 abbrev pub can_go_on : Option Status → (has_pass stamped : Bool) → Bool
 can_go_on (Some (Ready n)) has_pass stamped = true

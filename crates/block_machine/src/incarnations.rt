@@ -1,15 +1,8 @@
 //! Statuses of requests, and the refusals of events that a status does not allow.
 ghost use Rattle.std.specs.Prelude.{◌≡◌, IfSome, IfNone};
-ghost use Rattle.block_machine.specs.Machine.{status_of, execution_refusal, executed_refusal, is_closed as closed, is_executed as executed, IsPlain};
+ghost use Rattle.block_machine.specs.Machine.{execution_refusal, executed_refusal, is_closed as closed, is_executed as executed, IsPlain};
 
-use crate::state::{Reply, Slot, Status};
-
-/// The status of request `i`, if the block has it.
-pub fn status_at(slots: &[Slot], i: usize) -> Option<Status>
-    ensures { result ≡ status_of slots.now i }
-{
-    slots.get(i).map(|slot| slot.status)
-}
+use crate::state::{Reply, Status};
 
 /// The refusal of an event of this incarnation of a request that this worker executes, if there is one.
 pub fn refused_execution(status: Option<Status>, incarnation: u64, worker: u32) -> Option<Reply>
@@ -57,8 +50,8 @@ pub fn is_closed(status: Option<Status>) -> bool
 }
 
 /// Whether a request is executed and not committed.
-pub fn is_executed(status: Status) -> bool
-    ensures { result ≡ executed status }
+pub fn is_executed(status: Option<Status>) -> bool
+    ensures { IfSome status (λ it. result ≡ executed it) }
 {
-    matches!(status, Status::Executed(_))
+    matches!(status, Some(Status::Executed(_)))
 }

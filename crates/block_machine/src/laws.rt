@@ -1,10 +1,8 @@
 //! Laws of the machine, over every history.
 ghost use Rattle.std.specs.Prelude.{◌≡◌, ◌<◌, ◌≤◌, ◌+◌, ◌^◌, ◌∷◌, ◌++◌, [], ℕ, List, Some, length};
-ghost use Rattle.block_machine.specs.Machine.{State, after, state_after, IsReady, NamesAnswer, NextNamesAnswer, NoteReply, ListVerdict, verdict_reply};
+ghost use Rattle.block_machine.specs.Machine.{Noted, Slot, State, after, state_after, IsReady, NamesAnswer, NextNamesAnswer, NoteReply, ListVerdict, verdict_reply};
 ghost use Rattle.block_machine.specs.Serial.{Setting, IsSetting, IsHistory, IsLawful, state_of, FrontIsSerial};
 ghost use Rattle.block_machine.specs.declared.state.Entry.{Entry};
-ghost use Rattle.block_machine.specs.declared.state.Noted.{Noted};
-ghost use Rattle.block_machine.specs.declared.state.Slot.{Slot};
 ghost use Rattle.block_machine.specs.declared.validate.Verdict.{Verdict};
 ghost use Rattle.reads.specs.Reads.{View};
 

@@ -1,36 +1,32 @@
 //! The machine: one method for each event.
-ghost use Rattle.std.specs.Prelude.{◌≡◌, ◌<◌, ◌≤◌, ◌+◌, ◌^◌, ◌↔◌, ℕ, length, map, nat_le, slice_get, Some, None, IfSome, true, false, IsTrue, IfOk, OnOk, OnErr, option_copied};
+ghost use Rattle.std.specs.Prelude.{◌≡◌, ◌<◌, ◌≤◌, ◌+◌, ◌^◌, ℕ, length, map, nat_le, slice_get, Some, None, IfSome, true, false, IsTrue, IfOk, OnOk, OnErr, option_copied};
 ghost use Rattle.reads.specs.Reads.{View as Base};
-ghost use Rattle.block_machine.specs.declared.state.Noted.{Noted as Described};
 ghost use Rattle.block_machine.specs.Serial.{replies_to};
-ghost use Rattle.block_machine.specs.Lower.{Leads, stands_after};
+ghost use Rattle.block_machine.specs.Kept.{kept_note_of};
+ghost use Rattle.block_machine.specs.Lower.{stands_after};
 ghost use Rattle.block_machine.specs.Scans.{questions_of};
 ghost use Rattle.block_machine.specs.Waiting.{has_work, IsLeastWork};
-ghost use Rattle.block_machine.specs.Machine.{fresh, view_at, slot_at, is_current, note_now, note_of, can_commit, transcript_of, CheckVerdict, NextNamesAnswer, NoteVerdict, NoteReply, verdict_reply, wanted_reply, status_of, is_closed as closed, HasNext, IsReady, IsPlain, IsAllowed, after};
+ghost use Rattle.block_machine.specs.Machine.{Noted as Described, fresh, view_at, slot_at, is_current, transcript_of, can_commit, CheckVerdict, NextNamesAnswer, NoteVerdict, NoteReply, verdict_reply, wanted_reply, status_of, is_closed as closed, HasNext, IsReady, IsPlain, IsAllowed, after};
 
-use crate::candidates::candidates_for;
+use crate::found::Asked;
+use crate::incarnations;
 use crate::laws::lists_are_enough;
-use crate::spoken::Spoken;
-use crate::state::{Event, Noted, Pass, Reply, Slot, Status};
-use crate::validate::{self, Verdict};
-use crate::version_overlay::{answer_before, blocker, touching, view_before};
-use crate::{incarnations, slot};
-use datasets::{Id, Read};
+use crate::slots::Slots;
+use crate::state::{Event, Noted, Pass, Reply, Status};
+use crate::validate::Verdict;
 use delta::Finished;
-use reads::same::same_reads;
-use reads::{IndexedView, Note, Scanned, View};
-use stamp_tree::StampTree;
+use quad_index::Arrangement;
+use reads::{IndexedView, Scanned, View};
+use stamp_tree::{Due, StampTree, Standing};
 use std::alloc::{AllocError, Global};
 use std::marker::Model;
 
 /// The machine of a block.
 #[derive(Drop)]
 pub struct Machine {
-    slots: Vec<Slot>,
+    slots: Slots,
     clock: u64,
     front: usize,
-    // Of all that a delta speaks of its request, and some more.
-    spoken: Spoken,
     // The last change of a committed request.
     latest: u64,
     // How each request stands, to find the next one for which something can be done.
@@ -43,47 +39,64 @@ impl Model for Machine {
     ghost Value = { State };
 
     ghost use Rattle.block_machine.specs.Lower.{KeepsBeside};
-    ghost use Rattle.block_machine.specs.Spoken.{speaks};
 
-    ghost view = { λ m. record { slots = m.slots.items; clock = m.clock; front = m.front } };
+    ghost view = { λ m. record { slots = m.slots; clock = m.clock; front = m.front } };
 
-    ghost invariant = { λ m. KeepsBeside m.slots.items m.front (speaks m.spoken) m.latest m.standings };
+    ghost invariant = { λ m. KeepsBeside m.slots m.front m.latest m.standings };
 }
 
 impl Machine {
-    /// The machine of a block of this many requests.
-    pub fn new(alloc: Global, size: usize) -> Result<Machine, AllocError>
+    /// The machine of a block of this many requests. The orders are those in which committed changes are kept beside SPOG.
+    pub fn new(alloc: Global, size: usize, orders: &[Arrangement]) -> Result<Machine, AllocError>
         ensures { IfOk result (λ m. m ≡ fresh size) }
     {
-        let fresh = slot::fresh(alloc);
-        let standing = slot::standing(&fresh);
-        let mut slots = Vec::new(alloc);
-        for _count in 0..size {
-            slots.push(slot::fresh(alloc))?;
-        }
+        let standing = Standing {
+            due: Due::Now,
+            changed: 0,
+        };
         Ok(Machine {
-            slots,
+            slots: Slots::new(alloc, size, orders)?,
             clock: 0,
             front: 0,
-            spoken: Spoken::new(alloc),
             latest: 0,
             standings: StampTree::new(alloc, size, standing)?,
         })
     }
 
-    /// How many requests are committed.
+    /// How many requests are committed: the first ones.
     pub fn front(&self) -> usize
-        ensures { result ≡ self.now.front }
+        ensures front { result ≡ self.now.front }
+        ensures committed { (j : ℕ) → j < self.now.front → closed (Some (slot_at self.now.slots j).status) ≡ true }
     {
         self.front
     }
 
-    /// The requests' parts, in their order. Those below the front are committed.
-    pub fn slots(&self) -> &[Slot]
-        ensures slots { result.now ≡ self.now.slots }
-        ensures committed { (j : ℕ) → j < self.now.front → closed (Some (slot_at self.now.slots j).status) ≡ true }
+    /// The status of a request, if the block has it.
+    pub fn status(&self, i: usize) -> Option<Status>
+        ensures { result ≡ status_of self.now.slots i }
     {
-        self.slots.as_slice()
+        self.slots.status(i)
+    }
+
+    /// The pass of checks of a request that stands.
+    pub fn pass(&self, i: usize) -> Option<Pass>
+        ensures { result ≡ (slot_at self.now.slots i).pass }
+    {
+        self.slots.pass(i)
+    }
+
+    /// The clock when the last finished pass of checks of a request began.
+    pub fn stamp(&self, i: usize) -> Option<u64>
+        ensures { result ≡ (slot_at self.now.slots i).stamp }
+    {
+        self.slots.stamp(i)
+    }
+
+    /// The reads of a request's incarnation, in order.
+    pub fn notes(&self, i: usize) -> &[Noted]
+        ensures { map kept_note_of result.now ≡ transcript_of (slot_at self.now.slots i).notes }
+    {
+        self.slots.notes(i)
     }
 
     /// The clock when a committed request last changed what it publishes, 0 before any did.
@@ -106,7 +119,7 @@ impl Machine {
         requires { self.now.front ≤ length self.now.slots }
         ensures { IfOk result (λ view. view ≡ view_at base.now self.now.slots self.now.front) }
     {
-        view_before(alloc, base, self.slots.as_slice(), self.front)
+        self.slots.view(alloc, base, self.front)
     }
 
     /// The committed requests' replies.
@@ -114,7 +127,7 @@ impl Machine {
         requires { self.now.front ≤ length self.now.slots }
         ensures { IfOk result (λ list. list.items ≡ replies_to self.now.slots self.now.front) }
     {
-        replies_before(alloc, self.slots.as_slice(), self.front)
+        self.slots.replies(alloc, self.front)
     }
 
     /// One event of a worker, with what its read says of the base, and with its reply twice: to keep, and to tell. A check compares touching
@@ -157,11 +170,10 @@ impl Machine {
         ensures allowed { (base : Base) → IsAllowed base self.old worker (Event.Take i) result }
         ensures changed { self.new ≡ after self.old worker (Event.Take i) result }
     {
-        match incarnations::status_at(self.slots.as_slice(), i) {
+        match self.slots.status(i) {
             Some(Status::Ready(n)) => {
-                let slot = &mut self.slots[i];
-                slot::take(slot, n, worker);
-                self.standings.set(i, slot::standing(slot));
+                self.slots.take(i, n, worker);
+                self.standings.set(i, self.slots.standing(i));
                 Reply::Taken(n)
             }
             _ => Reply::Stale,
@@ -175,13 +187,12 @@ impl Machine {
         ensures allowed { (base : Base) → IsAllowed base self.old worker (Event.GiveUp i n) result }
         ensures changed { self.new ≡ after self.old worker (Event.GiveUp i n) result }
     {
-        let status = incarnations::status_at(self.slots.as_slice(), i);
+        let status = self.slots.status(i);
         if let Some(refusal) = incarnations::refused_execution(status, n, worker) {
             return refusal;
         }
-        let slot = &mut self.slots[i];
-        slot::give_up(slot, n);
-        self.standings.set(i, slot::standing(slot));
+        self.slots.give_up(i, n);
+        self.standings.set(i, self.slots.standing(i));
         Reply::Given
     }
 
@@ -199,20 +210,17 @@ impl Machine {
         ensures changed { IfOk result (λ replies. self.new ≡ after self.old worker (Event.Read i n scanned.now.read) replies.0) }
         ensures err { OnErr result (self.new ≡ self.old) }
     {
-        let status = incarnations::status_at(self.slots.as_slice(), i);
+        let status = self.slots.status(i);
         if let Some(refusal) = incarnations::refused_execution(status, n, worker) {
             return Ok(twice(refusal));
         }
-        let (slots, read) = (self.slots.as_slice(), scanned.read());
-        let list = candidates_for(alloc, &self.spoken, slots, i, read)?;
-        if let Some(j) = blocker(slots, &list, i, read) {
-            return Ok((Reply::Blocked(j), Reply::Blocked(j)));
+        self.slots.settle(alloc, self.front)?;
+        match self.slots.read(alloc, scanned, i)? {
+            Asked::Blocked(j) => Ok((Reply::Blocked(j), Reply::Blocked(j))),
+            Asked::Answered(answer, again) => {
+                Ok((Reply::Answered(answer), Reply::Answered(again)))
+            }
         }
-        let noted = noted(alloc, scanned, slots, &list, i)?;
-        let answer = noted.answer.copied(alloc)?;
-        let again = noted.answer.copied(alloc)?;
-        slot::note(&mut self.slots[i], noted)?;
-        Ok((Reply::Answered(answer), Reply::Answered(again)))
     }
 
     /// Publishes a finished run, if its transcript is the notes.
@@ -230,14 +238,14 @@ impl Machine {
         ensures changed { IfOk result (λ reply. self.new ≡ after self.old worker (Event.Publish i n (option_copied finished.entry)) reply) }
         ensures err { OnErr result (self.new ≡ self.old) }
     {
-        let status = incarnations::status_at(self.slots.as_slice(), i);
+        let status = self.slots.status(i);
         if let Some(refusal) = incarnations::refused_execution(status, n, worker) {
             return Ok(refusal);
         }
         let Some(finished) = finished else {
             return Ok(Reply::NotYet);
         };
-        if !has_transcript(&self.slots[i], finished) {
+        if !self.slots.has_transcript(i, finished) {
             return Ok(Reply::NotYet);
         }
         self.store(alloc, i, n, finished)?;
@@ -258,11 +266,9 @@ impl Machine {
         ensures ok { (worker : ℕ) → OnOk result (self.new ≡ after self.old worker (Event.Publish i n (Some finished.now)) Reply.Published) }
         ensures err { OnErr result (self.new ≡ self.old) }
     {
-        self.spoken.put(alloc, &finished.delta, i)?;
-        let clock = self.clock;
-        let slot = &mut self.slots[i];
-        let same = slot::publish(alloc, slot, n, finished, clock)?;
-        self.standings.set(i, slot::standing(slot));
+        self.slots.settle(alloc, self.front)?;
+        let same = self.slots.publish(alloc, i, n, finished, self.clock)?;
+        self.standings.set(i, self.slots.standing(i));
         if !same {
             self.clock += 1;
         }
@@ -275,14 +281,12 @@ impl Machine {
         ensures allowed { (base : Base) → IsAllowed base self.old worker (Event.Begin i n) result }
         ensures changed { self.new ≡ after self.old worker (Event.Begin i n) result }
     {
-        let status = incarnations::status_at(self.slots.as_slice(), i);
+        let status = self.slots.status(i);
         if let Some(refusal) = incarnations::refused_executed(status, n) {
             return refusal;
         }
-        let clock = self.clock;
-        let slot = &mut self.slots[i];
-        slot::begin(slot, clock);
-        self.standings.set(i, slot::standing(slot));
+        self.slots.begin(i, self.clock);
+        self.standings.set(i, self.slots.standing(i));
         Reply::Begun
     }
 
@@ -329,32 +333,29 @@ impl Machine {
         ensures changed { IfOk result (λ reply. self.new ≡ after self.old worker (Event.Check i n) reply) }
         ensures err { OnErr result (self.new ≡ self.old) }
     {
-        let status = incarnations::status_at(self.slots.as_slice(), i);
+        let status = self.slots.status(i);
         if let Some(refusal) = incarnations::refused_executed(status, n) {
             return Ok(refusal);
         }
-        let Some(stands) = self.slots[i].pass else {
+        let Some(stands) = self.slots.pass(i) else {
             return Ok(Reply::NotYet);
         };
         match self.next_verdict(alloc, base, i, stands, passed)? {
             Verdict::Blocked(j) => Ok(Reply::Blocked(j)),
             Verdict::Same => {
-                let slot = &mut self.slots[i];
-                slot::pass(slot, stands);
-                self.standings.set(i, slot::standing(slot));
+                self.slots.pass_on(i, stands);
+                self.standings.set(i, self.slots.standing(i));
                 Ok(Reply::Passed)
             }
             Verdict::Changed => {
-                let slot = &mut self.slots[i];
-                slot::abort(slot, n);
-                self.standings.set(i, slot::standing(slot));
+                self.slots.abort(i, n);
+                self.standings.set(i, self.slots.standing(i));
                 Ok(Reply::Aborted)
             }
         }
     }
 
     // What the check of the next note of the pass that stands finds: by answers if `passed` is wanted, and else by touching lists.
-    #[tactic(auto, using(crate::proofs::Wanted::wanted_by_answers, crate::proofs::Wanted::wanted_by_lists))]
     fn next_verdict(
         &self,
         alloc: Global,
@@ -363,7 +364,7 @@ impl Machine {
         stands: Pass,
         passed: bool,
     ) -> Result<Verdict, AllocError>
-        requires within { i < length self.now.slots }
+        requires still { closed (status_of self.now.slots i) ≡ false }
         requires pass { (slot_at self.now.slots i).pass ≡ Some stands }
         requires next { HasNext self.now i }
         requires names { NextNamesAnswer base.now self.now i }
@@ -371,14 +372,11 @@ impl Machine {
         ensures wanted { IfOk result (λ verdict. NoteReply base.now self.now.slots i (slice_get (slot_at self.now.slots i).notes stands.next) (wanted_reply passed) → verdict_reply verdict ≡ wanted_reply passed) }
         ensures reply { IfOk result (λ verdict. NoteReply base.now self.now.slots i (slice_get (slot_at self.now.slots i).notes stands.next) (verdict_reply verdict)) }
     {
-        let slots = self.slots.as_slice();
-        let note = &slots[i].notes.as_slice()[stands.next];
         if passed {
-            validate::check(alloc, base, &self.spoken, slots, i, note)
+            self.slots.verdict_by_answers(alloc, base, i, stands.next)
         } else {
             lists_are_enough();
-            let list = note.touching.as_slice();
-            validate::check_list(alloc, &self.spoken, slots, i, &note.read, list)
+            self.slots.verdict_by_lists(alloc, i, stands.next)
         }
     }
 
@@ -388,17 +386,17 @@ impl Machine {
         ensures allowed { (base : Base) → IsAllowed base self.old worker (Event.Commit i) result }
         ensures changed { self.new ≡ after self.old worker (Event.Commit i) result }
     {
-        let status = incarnations::status_at(self.slots.as_slice(), i);
+        let status = self.slots.status(i);
         if incarnations::is_closed(status) {
             return Reply::Stale;
         }
         if !self.may_commit(i) {
             return Reply::NotYet;
         }
-        let changed = self.slots[i].changed;
-        let slot = &mut self.slots[i];
-        slot::commit(slot);
-        self.standings.set(i, slot::standing(slot));
+        self.slots.are_few();
+        let changed = self.slots.changed(i);
+        self.slots.commit(i);
+        self.standings.set(i, self.slots.standing(i));
         self.front += 1;
         self.latest = self.latest.max(changed);
         Reply::Committed
@@ -409,10 +407,9 @@ impl Machine {
         requires { i < length self.now.slots }
         ensures { result ≡ can_commit self.now i }
     {
-        let slot = &self.slots[i];
         i == self.front
-            && incarnations::is_executed(slot.status)
-            && is_after(slot.stamp, self.latest)
+            && incarnations::is_executed(self.slots.status(i))
+            && is_after(self.slots.stamp(i), self.latest)
     }
 }
 
@@ -424,24 +421,6 @@ fn is_after(stamp: Option<u64>, latest: u64) -> bool
         None => false,
         Some(moment) => latest <= moment,
     }
-}
-
-#[tactic(auto, unfolding(crate::specs::Serial::replies_to))]
-fn replies_before(
-    alloc: Global,
-    slots: &[Slot],
-    n: usize,
-) -> Result<Vec<meaning::Reply>, AllocError>
-    requires { n ≤ length slots.now }
-    ensures { IfOk result (λ list. list.items ≡ replies_to slots.now n) }
-{
-    let mut list = Vec::new(alloc);
-    for j in 0..n {
-        if let Some(reply) = slots[j].reply {
-            list.push(reply)?;
-        }
-    }
-    Ok(list)
 }
 
 // A reply that is no answer, twice. It takes no memory.
@@ -465,54 +444,4 @@ fn twice(reply: Reply) -> (Reply, Reply)
         Reply::NotYet => Reply::NotYet,
     };
     (reply, again)
-}
-
-// The read, its answer, and its touching list.
-fn noted(
-    alloc: Global,
-    scanned: &Scanned<'_>,
-    slots: &[Slot],
-    list: &[usize],
-    i: usize,
-) -> Result<Noted, AllocError>
-    requires within { i ≤ length slots.now }
-    requires leads { Leads slots.now scanned.now.read list.now i }
-    ensures { IfOk result (λ note. note ≡ note_now scanned.now.dataset slots.now i scanned.now.read) }
-{
-    let answer = answer_before(alloc, scanned, slots, list, i)?;
-    let touching = touching(alloc, slots, list, i, scanned.read())?;
-    Ok(Noted {
-        read: *scanned.read(),
-        answer,
-        touching,
-    })
-}
-
-// Whether the run's transcript is the notes.
-fn has_transcript(slot: &Slot, finished: &Finished) -> bool
-    ensures { IsTrue result ↔ (finished.now.transcript ≡ transcript_of slot.now.notes) }
-{
-    is_transcript(slot.notes.as_slice(), finished.transcript.as_slice())
-}
-
-// Whether these are the noted reads with their answers.
-fn is_transcript(notes: &[Noted], transcript: &[Note]) -> bool
-    ensures { IsTrue result ↔ (transcript.now ≡ transcript_of notes.now) }
-{
-    if notes.len() != transcript.len() {
-        return false;
-    }
-    for at in 0..notes.len() {
-        if !is_entry(&notes[at], &transcript[at]) {
-            return false;
-        }
-    }
-    true
-}
-
-// Whether this is the noted read with its answer.
-fn is_entry(note: &Noted, entry: &Note) -> bool
-    ensures { IsTrue result ↔ (entry.now ≡ note_of note.now) }
-{
-    same_reads(&entry.read, &note.read) && entry.answer.is_same(&note.answer)
 }

@@ -1,6 +1,9 @@
 //! The changes of one request's slot.
-ghost use Rattle.std.specs.Prelude.{◌≡◌, ◌<◌, ◌+◌, ◌^◌, OnOk, OnErr, IfOk, length};
-ghost use Rattle.block_machine.specs.Machine.{fresh_slot, taken, with_note, keeps_delta, published as published_slot, begun as begun_slot, passed as passed_slot, aborted as aborted_slot, given as given_slot, committed as committed_slot};
+ghost use Rattle.std.specs.Prelude.{◌≡◌, ◌<◌, ◌+◌, ◌^◌, ◌++◌, ◌∷◌, [], OnOk, OnErr, IfOk, length, map};
+ghost use Rattle.delta.specs.Same.{delta_eq};
+ghost use Rattle.block_machine.specs.declared.state.Noted.{Noted as KeptNote};
+ghost use Rattle.block_machine.specs.Machine.{Noted as Described, taken, published as published_slot, begun as begun_slot, passed as passed_slot, aborted as aborted_slot, given as given_slot, committed as committed_slot};
+ghost use Rattle.block_machine.specs.Kept.{plain, slot_by, fresh_kept};
 ghost use Rattle.block_machine.specs.Waiting.{standing_of};
 
 use crate::state::{Noted, Pass, Slot, Status};
@@ -11,7 +14,7 @@ use std::alloc::{AllocError, Global};
 
 /// A request before its first event.
 pub fn fresh(alloc: Global) -> Slot
-    ensures { result ≡ fresh_slot }
+    ensures { result ≡ fresh_kept }
 {
     Slot {
         status: Status::Ready(0),
@@ -28,7 +31,7 @@ pub fn fresh(alloc: Global) -> Slot
 
 /// When something is to be done for the request but to commit it, and its last change.
 pub fn standing(slot: &Slot) -> Standing
-    ensures { result ≡ standing_of slot.now }
+    ensures { result ≡ standing_of (slot_by plain slot.now) }
 {
     let due = match slot.status {
         Status::Ready(_) => Due::Now,
@@ -46,7 +49,8 @@ pub fn standing(slot: &Slot) -> Standing
 
 /// The worker executes incarnation `n`, with no notes yet.
 pub fn take(slot: &mut Slot, n: u64, worker: u32)
-    ensures { slot.new ≡ taken slot.old n worker }
+    ensures by { (f : KeptNote → Described) → slot_by f slot.new ≡ taken (slot_by f slot.old) n worker }
+    ensures notes { slot.new.notes ≡ [] }
 {
     slot.status = Status::Executing(n, worker);
     slot.notes.clear();
@@ -54,7 +58,7 @@ pub fn take(slot: &mut Slot, n: u64, worker: u32)
 
 /// One more note. After want of memory the slot is as before.
 pub fn note(slot: &mut Slot, noted: Noted) -> Result<(), AllocError>
-    ensures ok { OnOk result (slot.new ≡ with_note slot.old noted) }
+    ensures ok { OnOk result (slot.new ≡ record slot.old { notes = slot.old.notes ++ noted ∷ [] }) }
     ensures err { OnErr result (slot.new ≡ slot.old) }
 {
     slot.notes.push(noted)
@@ -62,7 +66,8 @@ pub fn note(slot: &mut Slot, noted: Noted) -> Result<(), AllocError>
 
 /// A pass begins. With no notes there is nothing to check, and the stamp is the clock.
 pub fn begin(slot: &mut Slot, clock: u64)
-    ensures { slot.new ≡ begun_slot slot.old slot.old.notes clock }
+    ensures by { (f : KeptNote → Described) → slot_by f slot.new ≡ begun_slot (slot_by f slot.old) (map f slot.old.notes) clock }
+    ensures notes { slot.new.notes ≡ slot.old.notes }
 {
     if slot.notes.is_empty() {
         slot.pass = None;
@@ -79,7 +84,8 @@ pub fn begin(slot: &mut Slot, clock: u64)
 /// The next note comes. After the last one the pass is over, and its start is the stamp.
 pub fn pass(slot: &mut Slot, stands: Pass)
     requires { stands.next < length slot.old.notes }
-    ensures { slot.new ≡ passed_slot slot.old (Some stands) }
+    ensures by { (f : KeptNote → Described) → slot_by f slot.new ≡ passed_slot (slot_by f slot.old) (Some stands) }
+    ensures notes { slot.new.notes ≡ slot.old.notes }
 {
     let count = slot.notes.len();
     let next = stands.next + 1;
@@ -97,7 +103,8 @@ pub fn pass(slot: &mut Slot, stands: Pass)
 /// The next incarnation is ready. The delta stays, as an estimate.
 pub fn abort(slot: &mut Slot, n: u64)
     requires { n + 1 < 2 ^ 64 }
-    ensures { slot.new ≡ aborted_slot slot.old n }
+    ensures by { (f : KeptNote → Described) → slot_by f slot.new ≡ aborted_slot (slot_by f slot.old) n }
+    ensures notes { slot.new.notes ≡ [] }
 {
     give_up(slot, n);
     slot.estimate = true;
@@ -108,7 +115,8 @@ pub fn abort(slot: &mut Slot, n: u64)
 /// The next incarnation is ready. The delta and its mark stay.
 pub fn give_up(slot: &mut Slot, n: u64)
     requires { n + 1 < 2 ^ 64 }
-    ensures { slot.new ≡ given_slot slot.old n }
+    ensures by { (f : KeptNote → Described) → slot_by f slot.new ≡ given_slot (slot_by f slot.old) n }
+    ensures notes { slot.new.notes ≡ [] }
 {
     slot.status = Status::Ready(n + 1);
     slot.notes.clear();
@@ -116,7 +124,8 @@ pub fn give_up(slot: &mut Slot, n: u64)
 
 /// The request is committed.
 pub fn commit(slot: &mut Slot)
-    ensures { slot.new ≡ committed_slot slot.old slot.old.status }
+    ensures by { (f : KeptNote → Described) → slot_by f slot.new ≡ committed_slot (slot_by f slot.old) slot.old.status }
+    ensures notes { slot.new.notes ≡ slot.old.notes }
 {
     if let Status::Executed(n) = slot.status {
         slot.status = Status::Committed(n);
@@ -132,8 +141,9 @@ pub fn publish(
     clock: u64,
 ) -> Result<bool, AllocError>
     requires { clock + 1 < 2 ^ 64 }
-    ensures ok { OnOk result (slot.new ≡ published_slot slot.old n finished.now clock) }
-    ensures same { IfOk result (λ same. same ≡ keeps_delta slot.old finished.now) }
+    ensures ok { OnOk result ((f : KeptNote → Described) → slot_by f slot.new ≡ published_slot (slot_by f slot.old) n finished.now clock) }
+    ensures notes { OnOk result (slot.new.notes ≡ slot.old.notes) }
+    ensures same { IfOk result (λ same. same ≡ delta_eq slot.old.delta finished.now.delta) }
     ensures err { OnErr result (slot.new ≡ slot.old) }
 {
     let same = slot.delta.is_same(&finished.delta);

@@ -22,11 +22,14 @@ pub struct Pass {
     pub next: usize,
 }
 
-/// A read as it was answered, with the lower requests whose deltas touched it, each by the incarnation of its last publication.
+/// A read as it was answered, with the lower requests whose deltas touched it, each by the incarnation of its last publication. Those that
+/// were settled by then never change again, and are left out.
 #[derive(Drop)]
 pub struct Noted {
     pub read: Read<Id>,
     pub answer: Answered,
+    /// How many of the first requests were settled when the read was answered.
+    pub low: usize,
     pub touching: Items<(usize, u64)>,
 }
 

@@ -1,14 +1,12 @@
 //! The check of one note: whether its read would be answered as before.
-ghost use Rattle.std.specs.Prelude.{◌≡◌, ◌≤◌, ◌↔◌, length, IsTrue, IfOk, Some};
-ghost use Rattle.block_machine.specs.Machine.{NoteReply, NoteVerdict, ListVerdict, NamesAnswer, verdict_reply};
-ghost use Rattle.block_machine.specs.Lower.{Knows};
-ghost use Rattle.block_machine.specs.Spoken.{speaks};
+ghost use Rattle.std.specs.Prelude.{◌≡◌, ◌≤◌, ◌↔◌, length, IsTrue, IfOk};
+ghost use Rattle.block_machine.specs.Machine.{NoteVerdict, ListVerdict};
+ghost use Rattle.block_machine.specs.Kept.{shown, whole, Holds};
 
+use crate::below::{answer_before, blocker, touching};
 use crate::candidates::candidates_for;
-use crate::spoken::Spoken;
-use crate::state::{Noted, Slot};
-use crate::version_overlay::{answer_before, blocker, touching};
-use datasets::{Id, Read};
+use crate::kept::Kept;
+use crate::state::Noted;
 use reads::{IndexedView, Scanned};
 use std::alloc::{AllocError, Global};
 
@@ -27,23 +25,21 @@ pub enum Verdict {
 pub(crate) fn check(
     alloc: Global,
     base: &IndexedView,
-    spoken: &Spoken,
-    slots: &[Slot],
+    kept: &Kept,
     i: usize,
     note: &Noted,
 ) -> Result<Verdict, AllocError>
-    requires within { i ≤ length slots.now }
-    requires spoken { Knows (speaks spoken.now) slots.now }
-    requires names { NamesAnswer base.now slots.now i note.now }
-    ensures verdict { IfOk result (λ verdict. NoteVerdict base.now slots.now i note.now verdict) }
-    ensures reply { IfOk result (λ verdict. NoteReply base.now slots.now i (Some note.now) (verdict_reply verdict)) }
+    requires holds { Holds kept.now }
+    requires within { i ≤ length kept.now.slots.items }
+    requires above { kept.now.low ≤ i }
+    ensures { IfOk result (λ verdict. NoteVerdict base.now (shown kept.now.slots.items) i (whole kept.now.slots.items note.now) verdict) }
 {
-    let list = candidates_for(alloc, spoken, slots, i, &note.read)?;
-    if let Some(j) = blocker(slots, &list, i, &note.read) {
+    let list = candidates_for(alloc, kept, kept.low, i, &note.read)?;
+    if let Some(j) = blocker(kept, kept.low, &list, i, &note.read) {
         return Ok(Verdict::Blocked(j));
     }
     let scanned = Scanned::new(alloc, base, &note.read)?;
-    let now = answer_before(alloc, &scanned, slots, &list, i)?;
+    let now = answer_before(alloc, &scanned, kept, &list, i)?;
     if note.answer.is_same(&now) {
         Ok(Verdict::Same)
     } else {
@@ -51,25 +47,27 @@ pub(crate) fn check(
     }
 }
 
-/// Compares a note's touching list with the list now, at request `i`: no answer is kept, and none is computed.
-pub fn check_list(
+/// Compares a note's touching list with the list now, at request `i`, from the first request on that was not settled when it was made: no
+/// answer is computed.
+pub(crate) fn check_list(
     alloc: Global,
-    spoken: &Spoken,
-    slots: &[Slot],
+    kept: &Kept,
     i: usize,
-    read: &Read<Id>,
-    list: &[(usize, u64)],
+    note: &Noted,
 ) -> Result<Verdict, AllocError>
-    requires within { i ≤ length slots.now }
-    requires spoken { Knows (speaks spoken.now) slots.now }
-    ensures { IfOk result (λ verdict. ListVerdict slots.now i read.now list.now verdict) }
+    requires holds { Holds kept.now }
+    requires within { i ≤ length kept.now.slots.items }
+    requires low { note.now.low ≤ kept.now.low }
+    requires above { kept.now.low ≤ i }
+    ensures { IfOk result (λ verdict. ListVerdict (shown kept.now.slots.items) i note.now.read (whole kept.now.slots.items note.now).touching verdict) }
 {
-    let along = candidates_for(alloc, spoken, slots, i, read)?;
-    if let Some(j) = blocker(slots, &along, i, read) {
+    let along = candidates_for(alloc, kept, note.low, i, &note.read)?;
+    if let Some(j) = blocker(kept, note.low, &along, i, &note.read) {
         return Ok(Verdict::Blocked(j));
     }
-    let now = touching(alloc, slots, &along, i, read)?;
-    if is_same_list(list, now.as_slice()) {
+    let slots = kept.slots.as_slice();
+    let now = touching(alloc, slots, note.low, &along, i, &note.read)?;
+    if is_same_list(note.touching.as_slice(), now.as_slice()) {
         Ok(Verdict::Same)
     } else {
         Ok(Verdict::Changed)

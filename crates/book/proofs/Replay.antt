@@ -7,13 +7,12 @@ use Rattle.meaning.specs.Run.{Request, answer_of, run_of_first}
 use Rattle.reads.specs.Reads.{View, IsDataset}
 use Rattle.delta.specs.Sound.{IsSoundFor}
 use Rattle.delta.specs.declared.finished.Finished.{Finished}
-use Rattle.block_machine.specs.declared.state.Slot.{Slot}
 use Rattle.block_machine.specs.declared.state.Event.{Event}
 use Rattle.block_machine.specs.declared.state.Event.TheVariants.{Publish}
 use Rattle.block_machine.specs.declared.state.Reply.{Reply}
 use Rattle.block_machine.specs.declared.state.Reply.TheVariants.{Published, Stale, NotYet}
 use Rattle.block_machine.specs.declared.state.Entry.{Entry}
-use Rattle.block_machine.specs.Machine.{State, fresh, status_of, slot_at, execution_refusal, Unless, PublishReply, IsAllowed, after, state_after, view_at}
+use Rattle.block_machine.specs.Machine.{Slot, State, fresh, status_of, slot_at, execution_refusal, Unless, PublishReply, IsAllowed, after, state_after, view_at}
 use Rattle.block_machine.specs.Serial.{Setting, IsSetting, IsSound, IsSoundEntry, IsLawful, IsHistory, replies_to, FrontIsSerial}
 use Rattle.book.specs.Run.{Run, answer_at, setting, setting_of, front_run, IsReplayed, kept, IsSoundEvent}
 use Rattle.book.proofs.Meaning.{is_setting, serial_run}

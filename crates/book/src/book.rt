@@ -1,7 +1,8 @@
 //! A block's machine with its journal.
-ghost use Rattle.std.specs.Prelude.{◌≡◌, ◌<◌, [], ◌∷◌, ◌++◌, ℕ, Some, None, true, false, nat_le, IfSome, IfOk, OnErr};
+ghost use Rattle.std.specs.Prelude.{◌≡◌, ◌<◌, [], ◌∷◌, ◌++◌, map, ℕ, Some, None, true, false, nat_le, IfSome, IfOk, OnErr};
 ghost use Rattle.reads.specs.Reads.{IsDataset};
-ghost use Rattle.block_machine.specs.Machine.{IsAllowed, wanted_reply, is_closed, is_current, slot_at};
+ghost use Rattle.block_machine.specs.Kept.{kept_note_of};
+ghost use Rattle.block_machine.specs.Machine.{IsAllowed, wanted_reply, is_closed, is_current, slot_at, status_of, transcript_of};
 ghost use Rattle.block_machine.specs.Scans.{questions_of};
 ghost use Rattle.block_machine.specs.Serial.{IsHistory};
 ghost use Rattle.block_machine.specs.Waiting.{has_work, IsLeastWork};
@@ -9,7 +10,7 @@ ghost use Rattle.book.specs.Run.{state_of, setting_of, front_run, kept, IsSoundE
 
 use crate::copies::{copy_of_event, kept_event};
 use block_machine::laws::{front_is_serial, front_is_within, history_goes_on, ready_after};
-use block_machine::{Entry, Event, Machine, Reply, Slot, scans_of};
+use block_machine::{Entry, Event, Machine, Noted, Pass, Reply, Status, scans_of};
 use datasets::Id;
 use delta::Outcome;
 use dict::Dict;
@@ -55,7 +56,8 @@ impl<'a> Book<'a> {
         requires { IsDataset base.now }
         ensures { IfOk result (λ book. book ≡ record { terms = terms.now; base = base.now; block = block.now; history = [] }) }
     {
-        let machine = Machine::new(alloc, block.len())?;
+        let orders = base.orders(alloc)?;
+        let machine = Machine::new(alloc, block.len(), &orders)?;
         Ok(Book {
             terms,
             base,
@@ -157,19 +159,40 @@ impl<'a> Book<'a> {
         }
     }
 
-    /// How many requests are committed.
+    /// How many requests are committed: the first ones.
     pub fn front(&self) -> usize
-        ensures { result ≡ (state_of self.now).front }
+        ensures front { result ≡ (state_of self.now).front }
+        ensures committed { (j : ℕ) → j < (state_of self.now).front → is_closed (Some (slot_at (state_of self.now).slots j).status) ≡ true }
     {
         self.machine.front()
     }
 
-    /// The machine's part of each request, in their order. Those below the front are committed.
-    pub fn slots(&self) -> &[Slot]
-        ensures slots { result.now ≡ (state_of self.now).slots }
-        ensures committed { (j : ℕ) → j < (state_of self.now).front → is_closed (Some (slot_at (state_of self.now).slots j).status) ≡ true }
+    /// The status of a request, if the block has it.
+    pub fn status(&self, i: usize) -> Option<Status>
+        ensures { result ≡ status_of (state_of self.now).slots i }
     {
-        self.machine.slots()
+        self.machine.status(i)
+    }
+
+    /// The pass of checks of a request that stands.
+    pub fn pass(&self, i: usize) -> Option<Pass>
+        ensures { result ≡ (slot_at (state_of self.now).slots i).pass }
+    {
+        self.machine.pass(i)
+    }
+
+    /// The clock when the last finished pass of checks of a request began.
+    pub fn stamp(&self, i: usize) -> Option<u64>
+        ensures { result ≡ (slot_at (state_of self.now).slots i).stamp }
+    {
+        self.machine.stamp(i)
+    }
+
+    /// The reads of a request's incarnation, in order.
+    pub fn notes(&self, i: usize) -> &[Noted]
+        ensures { map kept_note_of result.now ≡ transcript_of (slot_at (state_of self.now).slots i).notes }
+    {
+        self.machine.notes(i)
     }
 
     /// The clock when a committed request last changed what it publishes, 0 before any did.

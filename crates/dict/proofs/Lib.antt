@@ -1,2 +1,6 @@
 pub mod Numbers
 pub mod Frozen
+pub mod Gathering
+pub mod Taking
+pub mod Numbering
+pub mod Whole

@@ -1,9 +1,11 @@
 //! A frozen dictionary.
-ghost use Rattle.std.specs.Prelude.{◌≡◌, true, false, length, filter, IfOk, IfSome, IfNone};
+ghost use Rattle.std.specs.Prelude.{◌≡◌, ◌++◌, true, false, length, map, filter, IfOk, IfSome, IfNone};
+ghost use Rattle.std.specs.List.{list_all};
 ghost use Rattle.sets.specs.Sets.{set_of as the_set_of, has};
 ghost use Rattle.terms.specs.Term.{term_order};
 ghost use Rattle.dict.specs.Dictionary.{IsDictionary, is_written, is_known, term_of as the_term_of, numbers};
 
+use crate::ranks::{in_order, numbered};
 use datasets::Id;
 use sets::{place_of, set_of};
 use std::alloc::{AllocError, Global};
@@ -39,6 +41,25 @@ impl Dict {
         Dict {
             terms: set_of(terms),
         }
+    }
+
+    /// The dictionary of these terms and of more, in any order and with doubles, and the numbers of the first list's terms, each at its term's
+    /// place. Made nodes are left out of the dictionary. Terms are compared only to put them in order. An error comes only where memory runs
+    /// out.
+    pub fn numbered(
+        alloc: Global,
+        terms: &[Term],
+        more: &[Term],
+    ) -> Result<(Dict, Vec<Id>), AllocError>
+        ensures terms { IfOk result (λ r. r.0 ≡ the_set_of term_order (filter is_written (terms.now ++ more.now))) }
+        ensures form { IfOk result (λ r. IsDictionary r.0) }
+        ensures renamed { IfOk result (λ r. map (the_term_of r.0) r.1.items ≡ terms.now) }
+        ensures known { IfOk result (λ r. list_all (is_known r.0) r.1.items ≡ true) }
+    {
+        let placed = in_order(alloc, terms, more)?;
+        let (found, mut ids) = numbered(alloc, placed.as_slice(), placed.len())?;
+        ids.truncate(terms.len());
+        Ok((Dict { terms: found }, ids))
     }
 
     /// How many terms it has.

@@ -6,6 +6,8 @@
 
 mod dictionary;
 pub mod laws;
+mod parts;
+mod ranks;
 
 pub use datasets::Id;
 pub use dictionary::Dict;

@@ -29,8 +29,9 @@ fn terms_of(alloc: Global, block: &Block) -> Result<Vec<Term>, AllocError>
     distinct(alloc, found.as_slice())
 }
 
-/// A base and a block at numbers, by the dictionary of the terms of the base and of the block's accepted requests. Each term is looked up
-/// once, and the base is kept in the orders that the block can use. An error comes only where memory runs out.
+/// A base and a block at numbers, by the dictionary of the terms of the base and of the block's accepted requests. The base's terms have
+/// their numbers from the sort that makes the dictionary, and the base is kept in the orders that the block can use. An error comes only
+/// where memory runs out.
 pub fn number(alloc: Global, dataset: &DataSet, block: &Block) -> Result<Numbered, AllocError>
     ensures { IfOk result (λ n. IsNumbered dataset.now block.now n.base n.block.items) }
 {

@@ -1,9 +1,9 @@
 -- What a filter lets through: every quad that was put, and so each pattern that one of them matches.
-use Rattle.std.specs.Prelude.{Bool, true, false, not, ◌&&◌, ◌||◌, ◌==◌, Option, Some, None, slice_set}
-use Rattle.std.proofs.Common.{◌≡◌, ◌<◌, ◌%◌, ℕ, zero, suc, List, [], ◌∷◌, refl, sym, ap, ◌∙◌, length, get_or, arith}
+use Rattle.std.specs.Prelude.{Bool, true, false, ◌&&◌, Option, Some, None, slice_set}
+use Rattle.std.proofs.Common.{◌≡◌, ◌<◌, ℕ, zero, suc, List, [], ◌∷◌, refl, sym, ap, ◌∙◌, length, get_or, arith}
 use Rattle.std.proofs.lemmas.Bool.{false≢true, and_parts, and_from}
 use Rattle.std.proofs.lemmas.Nat.{mod_below}
-use Rattle.std.specs.List.{list_any}
+use Rattle.std.specs.Option.{is_none}
 use Rattle.std.specs.Cmp.Lexicographic.{options_total}
 use Rattle.sets.proofs.SetLaws.{exact_by}
 use Rattle.datasets.specs.declared.id.Id.{Id}
@@ -14,9 +14,7 @@ use Rattle.datasets.specs.declared.read.GraphPlace.TheVariants.{Any, Only}
 use Rattle.datasets.specs.declared.read.QuadPattern.{QuadPattern}
 use Rattle.datasets.specs.Dataset.{matches, free_or, in_place}
 use Rattle.datasets.specs.Id.{id_order, id_total, id_exact, option_exact}
-use Rattle.quad_index.specs.declared.run.Hint.{Hint}
-use Rattle.quad_index.specs.declared.seen.SeenQuads.{SeenQuads}
-use Rattle.quad_index.specs.Seen.{slot_of, is_seen, is_graph_seen, is_quad_seen, lets, lets_graph, may_match, AllSeen}
+use Rattle.quad_index.specs.Seen.{slot_of, is_seen, is_graph_seen, lets, lets_graph, passes, names_no_term, binds_no_term}
 
 -- ---- slots
 
@@ -46,48 +44,48 @@ graph_through : (slots : List Bool) (place : GraphPlace Id) (g : Option Id) → 
 graph_through slots Any g seen e = refl
 graph_through slots (Only h) g seen e = ap (is_graph_seen slots) (sym (exact_by (options_total id_total) (option_exact id_order id_exact) g h e)) ∙ seen
 
-matched : (seen : SeenQuads) (p : QuadPattern Id) (q : Quad Id) → is_quad_seen seen q ≡ true → matches id_order p q ≡ true → may_match seen p ≡ true
-matched seen p q s m =
-    let one = and_parts (is_seen seen.subjects q.subject) (is_seen seen.predicates q.predicate && (is_seen seen.objects q.object && is_graph_seen seen.graphs q.graph)) s in
-    let two = and_parts (is_seen seen.predicates q.predicate) (is_seen seen.objects q.object && is_graph_seen seen.graphs q.graph) one.1 in
-    let three = and_parts (is_seen seen.objects q.object) (is_graph_seen seen.graphs q.graph) two.1 in
+pub matched : (a b c d : List Bool) (p : QuadPattern Id) (q : Quad Id) → is_seen a q.subject ≡ true → is_seen b q.predicate ≡ true → is_seen c q.object ≡ true → is_graph_seen d q.graph ≡ true
+    → matches id_order p q ≡ true → passes a b c d p ≡ true
+matched a b c d p q s r o g m =
     let first = and_parts (free_or id_order p.subject q.subject) (free_or id_order p.predicate q.predicate && (free_or id_order p.object q.object && in_place id_order p.graph q.graph)) m in
     let second = and_parts (free_or id_order p.predicate q.predicate) (free_or id_order p.object q.object && in_place id_order p.graph q.graph) first.1 in
     let third = and_parts (free_or id_order p.object q.object) (in_place id_order p.graph q.graph) second.1 in
-    and_from _ _ (let_through seen.subjects p.subject q.subject one.0 first.0) (and_from _ _ (let_through seen.predicates p.predicate q.predicate two.0 second.0)
-    (and_from _ _ (let_through seen.objects p.object q.object three.0 third.0) (graph_through seen.graphs p.graph q.graph three.1 third.1)))
+    and_from _ _ (let_through a p.subject q.subject s first.0) (and_from _ _ (let_through b p.predicate q.predicate r second.0)
+    (and_from _ _ (let_through c p.object q.object o third.0) (graph_through d p.graph q.graph g third.1)))
 
--- ---- hints
+-- ---- more slots
 
-or_false : (a b : Bool) → (a || b) ≡ false → (a ≡ false) × (b ≡ false)
-or_false true b e = absurd (false≢true (sym e))
-or_false false b e = (refl, e)
+-- what is seen in the first slots is seen in the others
+abbrev pub Within : List Bool → List Bool → Type 0
+Within xs ys = (x : Id) → is_seen xs x ≡ true → is_seen ys x ≡ true
 
-or_none : (a b : Bool) → a ≡ false → b ≡ false → (a || b) ≡ false
-or_none true b e f = absurd (false≢true (sym e))
-or_none false b e f = f
+lets_more : (xs ys : List Bool) → Within xs ys → (place : Option Id) → lets xs place ≡ true → lets ys place ≡ true
+lets_more xs ys more None e = refl
+lets_more xs ys more (Some x) e = more x e
 
-any_weaker : (t u : Hint → Bool) → ((h : Hint) → t h ≡ false → u h ≡ false) → (hints : List Hint) → list_any t hints ≡ false → list_any u hints ≡ false
-any_weaker t u f [] e = refl
-any_weaker t u f (h ∷ hs) e = let parts = or_false (t h) (list_any t hs) e in or_none (u h) (list_any u hs) (f h parts.0) (any_weaker t u f hs parts.1)
+lets_graph_more : (xs ys : List Bool) → ((g : Option Id) → is_graph_seen xs g ≡ true → is_graph_seen ys g ≡ true) → (place : GraphPlace Id) → lets_graph xs place ≡ true → lets_graph ys place ≡ true
+lets_graph_more xs ys more Any e = refl
+lets_graph_more xs ys more (Only g) e = more g e
 
-not_false : (b : Bool) → not b ≡ false → b ≡ true
-not_false true e = refl
-not_false false e = absurd (false≢true (sym e))
+pub passes_more : (a b c d a' b' c' d' : List Bool) → Within a a' → Within b b' → Within c c' → ((g : Option Id) → is_graph_seen d g ≡ true → is_graph_seen d' g ≡ true)
+    → (p : QuadPattern Id) → passes a b c d p ≡ true → passes a' b' c' d' p ≡ true
+passes_more a b c d a' b' c' d' f g h k p e =
+    let first = and_parts (lets a p.subject) (lets b p.predicate && (lets c p.object && lets_graph d p.graph)) e in
+    let second = and_parts (lets b p.predicate) (lets c p.object && lets_graph d p.graph) first.1 in
+    let third = and_parts (lets c p.object) (lets_graph d p.graph) second.1 in
+    and_from _ _ (lets_more a a' f p.subject first.0) (and_from _ _ (lets_more b b' g p.predicate second.0)
+    (and_from _ _ (lets_more c c' h p.object third.0) (lets_graph_more d d' k p.graph third.1)))
 
-pub not_true : (b : Bool) → b ≡ true → not b ≡ false
-not_true true e = refl
-not_true false e = absurd (false≢true e)
+-- ---- no slots
 
-pub seen_more : (before after : SeenQuads) (hints : List Hint) → ((q : Quad Id) → is_quad_seen before q ≡ true → is_quad_seen after q ≡ true) → AllSeen before hints → AllSeen after hints
-seen_more before after hints more all =
-    any_weaker (λ h. not (is_quad_seen before h.quad)) (λ h. not (is_quad_seen after h.quad)) (λ h e. not_true (is_quad_seen after h.quad) (more h.quad (not_false (is_quad_seen before h.quad) e))) hints all
+lets_none : (place : Option Id) → lets [] place ≡ is_none place
+lets_none None = refl
+lets_none (Some x) = refl
 
-neither : (b c : Bool) → (b ≡ true → ⊥) → (b && c) ≡ false
-neither true c f = absurd (f refl)
-neither false c f = refl
+lets_graph_none : (place : GraphPlace Id) → lets_graph [] place ≡ names_no_term place
+lets_graph_none Any = refl
+lets_graph_none (Only None) = refl
+lets_graph_none (Only (Some x)) = refl
 
-pub none_matches : (seen : SeenQuads) (p : QuadPattern Id) (hints : List Hint) → AllSeen seen hints → may_match seen p ≡ false → (j : ℕ) → list_any (λ (h : Hint). matches id_order p h.quad && (h.request == j)) hints ≡ false
-none_matches seen p hints all stops j =
-    any_weaker (λ h. not (is_quad_seen seen h.quad)) (λ h. matches id_order p h.quad && (h.request == j))
-    (λ h e. neither (matches id_order p h.quad) (h.request == j) (λ m. false≢true (sym stops ∙ matched seen p h.quad (not_false (is_quad_seen seen h.quad) e) m))) hints all
+pub passes_none : (p : QuadPattern Id) → passes [] [] [] [] p ≡ binds_no_term p
+passes_none p = λ i. lets_none p.subject i && (lets_none p.predicate i && (lets_none p.object i && lets_graph_none p.graph i))

@@ -3,14 +3,16 @@ use Rattle.std.specs.Prelude.{Bool, true, false, cond, ◌&&◌, ◌||◌, ◌==
 use Rattle.std.specs.List.{list_any}
 use Rattle.std.proofs.Common.{◌≡◌, ◌+◌, ◌<◌, ◌≤◌, ℕ, List, [], ◌∷◌, ◌++◌, refl, sym, ap, ◌∙◌, length, drop, get_or}
 use Rattle.std.proofs.lemmas.List.{map-append, append_assoc, drop_more, drop_all}
+use Rattle.std.proofs.lemmas.Bool.{false≢true}
 use Rattle.std.proofs.lemmas.List.Elements.{filter-append}
+use Rattle.std.proofs.lemmas.List.Folds.{list_any-append}
 use Rattle.datasets.specs.declared.id.Id.{Id}
 use Rattle.datasets.specs.declared.read.QuadPattern.{QuadPattern}
 use Rattle.datasets.specs.Dataset.{matches}
 use Rattle.datasets.specs.Id.{id_order}
 use Rattle.quad_index.specs.declared.run.Hint.{Hint}
 use Rattle.quad_index.specs.declared.run.Run.{Run}
-use Rattle.quad_index.specs.Hints.{all_entries, hints_of}
+use Rattle.quad_index.specs.Hints.{all_entries}
 
 abbrev pub kept_by : QuadPattern Id → List Hint → List Hint
 kept_by p hints = filter (λ (h : Hint). matches id_order p h.quad) hints
@@ -34,11 +36,8 @@ module _ (p : QuadPattern Id) (runs : List Run) (found next all : List ℕ) (k :
       ∙ ap (λ (rs : List Run). found ++ named_by p (all_entries rs)) (ap (λ (y : Run). y ∷ drop (k + 1) runs) is ∙ sym (drop_more runs k x lt))
       ∙ so_far
 
-  pub tail_more : (tail : List Hint) → length runs ≤ k → next ≡ found ++ named_by p tail → all ≡ named_by p (all_entries runs) → next ≡ named_by p (hints_of runs tail)
-  tail_more tail le pushed whole =
-      pushed
-      ∙ ap (λ (zs : List ℕ). zs ++ named_by p tail) (sym (append-nothing found) ∙ ap (λ (rs : List Run). found ++ named_by p (all_entries rs)) (sym (drop_all k runs le)) ∙ so_far ∙ whole)
-      ∙ sym (named-append p (all_entries runs) tail)
+  pub runs_done : length runs ≤ k → found ≡ all
+  runs_done le = sym (append-nothing found) ∙ ap (λ (rs : List Run). found ++ named_by p (all_entries rs)) (sym (drop_all k runs le)) ∙ so_far
     where
       append-nothing : (xs : List ℕ) → xs ++ [] ≡ xs
       append-nothing [] = refl
@@ -53,3 +52,21 @@ pub named_any : (p : QuadPattern Id) (j : ℕ) (hs : List Hint) → list_any (λ
 named_any p j [] = refl
 named_any p j (h ∷ hs) =
     head_named j (matches id_order p h.quad) h (kept_by p hs) ∙ ap (λ b. (matches id_order p h.quad && (h.request == j)) || b) (named_any p j hs)
+
+or_right : (a b : Bool) → b ≡ true → (a || b) ≡ true
+or_right true b e = refl
+or_right false b e = e
+
+or_left : (a b : Bool) → a ≡ true → (a || b) ≡ true
+or_left true b e = refl
+or_left false b e = absurd (false≢true e)
+
+-- what was named stays so where more is named
+pub names_kept : (j : ℕ) (found next more : List ℕ) → next ≡ found ++ more → list_any (λ r. r == j) found ≡ true → list_any (λ r. r == j) next ≡ true
+names_kept j found next more is e = ap (list_any (λ r. r == j)) is ∙ list_any-append (λ r. r == j) found more ∙ or_left _ _ e
+
+-- the request of a hint that matches comes to be named
+pub names_added : (p : QuadPattern Id) (j : ℕ) (found next : List ℕ) (hints : List Hint) → next ≡ found ++ named_by p hints
+    → list_any (λ (h : Hint). matches id_order p h.quad && (h.request == j)) hints ≡ true → list_any (λ r. r == j) next ≡ true
+names_added p j found next hints is e =
+    ap (list_any (λ r. r == j)) is ∙ list_any-append (λ r. r == j) found (named_by p hints) ∙ or_right _ _ (named_any p j hints ∙ e)

@@ -1,4 +1,4 @@
--- The hints of one order: those of the runs, and the tail.
+-- The hints of one order: those of its runs.
 use Rattle.std.specs.Prelude.{◌≡◌, Bool, true, List, [], ◌∷◌, ◌++◌}
 use Rattle.std.specs.List.{list_any}
 use Rattle.quad_index.specs.declared.run.Hint.{Hint}
@@ -7,9 +7,6 @@ use Rattle.quad_index.specs.declared.run.Run.{Run}
 abbrev pub all_entries : List Run → List Hint
 all_entries [] = []
 all_entries (r ∷ rs) = r.entries.items ++ all_entries rs
-
-abbrev pub hints_of : List Run → List Hint → List Hint
-hints_of runs tail = all_entries runs ++ tail
 
 -- each of the other orders has all that the first has
 pub record HaveAll (spog pogs ogsp gspo gpso ospg : List Hint) : Type 0 where

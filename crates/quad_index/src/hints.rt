@@ -1,5 +1,5 @@
 //! At which requests of a block a quad may have been spoken of.
-ghost use Rattle.std.specs.Prelude.{◌≡◌, ◌&&◌, ◌==◌, Bool, ℕ, true, [], IfOk, OnOk};
+ghost use Rattle.std.specs.Prelude.{◌≡◌, ◌&&◌, ◌==◌, Bool, ℕ, true, false, [], IfOk, OnOk};
 ghost use Rattle.std.specs.List.{list_any};
 ghost use Rattle.datasets.specs.Id.{id_order};
 ghost use Rattle.datasets.specs.Dataset.{matches};
@@ -7,30 +7,29 @@ ghost use Rattle.quad_index.specs.declared.run.Hint.{Hint};
 
 use crate::ordered_hints::OrderedHints;
 use crate::run::Hint;
-use crate::seen::SeenQuads;
+use crate::sorted_hints::add_requests;
 use datasets::{Id, Quad, QuadPattern};
 use std::alloc::{AllocError, Global};
 use std::marker::Model;
 
-/// Hints: quads, each with a request. Contracts see them as a list. Those of a pattern are found by binary search; before it stands a filter,
-/// by which most patterns that no hint has to do with are told at once.
+/// How many hints are in no order at most, where there is memory to sort them.
+const MOST_IN_TAIL: usize = 512;
+
+/// Hints: quads, each with a request. Contracts see them as a list. Those of a pattern are found by binary search in six orders, but for the
+/// last few.
 #[derive(Drop)]
 pub struct Hints {
-    seen: SeenQuads,
     ordered: OrderedHints,
+    tail: Vec<Hint>,
 }
 
 impl Model for Hints {
-    ghost use Rattle.std.specs.Prelude.{List};
+    ghost use Rattle.std.specs.Prelude.{List, ◌++◌};
     ghost use Rattle.quad_index.specs.declared.run.Hint.{Hint};
 
     ghost Value = { List Hint };
 
-    ghost use Rattle.quad_index.specs.Seen.{AllSeen};
-
-    ghost view = { λ h. h.ordered };
-
-    ghost invariant = { λ h. AllSeen h.seen h.ordered };
+    ghost view = { λ h. h.ordered ++ h.tail.items };
 }
 
 impl Hints {
@@ -39,22 +38,36 @@ impl Hints {
         ensures { result ≡ [] }
     {
         Hints {
-            seen: SeenQuads::new(alloc),
             ordered: OrderedHints::new(alloc),
+            tail: Vec::new(alloc),
         }
     }
 
-    /// One more hint. What was there stays, also where memory runs out.
+    /// One more hint. What was there stays, also where memory runs out, and nothing else comes.
     pub fn put(&mut self, alloc: Global, quad: &Quad<Id>, request: usize) -> Result<(), AllocError>
         ensures added { OnOk result ((p : Hint → Bool) → p (record { quad = quad.now; request = request }) ≡ true → list_any p self.new ≡ true) }
         ensures kept { (p : Hint → Bool) → list_any p self.old ≡ true → list_any p self.new ≡ true }
+        ensures only { (p : Hint → Bool) → list_any p self.old ≡ false → p (record { quad = quad.now; request = request }) ≡ false → list_any p self.new ≡ false }
     {
-        self.seen.put(quad)?;
         let hint = Hint {
             quad: *quad,
             request,
         };
-        self.ordered.put(alloc, hint)
+        self.tail.push(hint)?;
+        if self.tail.len() >= MOST_IN_TAIL {
+            self.settle(alloc);
+        }
+        Ok(())
+    }
+
+    // Puts the tail into the orders, as far as there is memory.
+    fn settle(&mut self, alloc: Global)
+        ensures kept { (p : Hint → Bool) → list_any p self.old ≡ true → list_any p self.new ≡ true }
+        ensures only { (p : Hint → Bool) → list_any p self.old ≡ false → list_any p self.new ≡ false }
+    {
+        if self.ordered.add(alloc, &self.tail).is_ok() {
+            self.tail.clear();
+        }
     }
 
     /// The requests of hints whose quad the pattern matches, in any order and with repeats: none of them is missing.
@@ -65,9 +78,9 @@ impl Hints {
     ) -> Result<Vec<usize>, AllocError>
         ensures { IfOk result (λ found. (j : ℕ) → list_any (λ h. matches id_order pattern.now h.quad && (h.request == j)) self.now ≡ true → list_any (λ r. r == j) found.items ≡ true) }
     {
-        if !self.seen.may_match(pattern) {
-            return Ok(Vec::new(alloc));
-        }
-        self.ordered.requests(alloc, pattern)
+        let mut found = Vec::new(alloc);
+        self.ordered.add_requests(&mut found, pattern)?;
+        add_requests(&mut found, &self.tail, pattern)?;
+        Ok(found)
     }
 }

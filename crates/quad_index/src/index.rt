@@ -76,6 +76,17 @@ impl Index {
         let _ = &self.spog;
     }
 
+    /// The orders beside SPOG, in which its quads are kept.
+    pub fn orders(&self, alloc: Global) -> Result<Vec<Arrangement>, AllocError>
+        ensures { IfOk result (λ orders. Arrangement.Spog ∷ orders.items ≡ self.now.orders) }
+    {
+        let mut orders = Vec::new(alloc);
+        for order in &self.others {
+            orders.push(order.arrangement())?;
+        }
+        Ok(orders)
+    }
+
     // The quads in this order, if it was made beside SPOG.
     fn other(&self, arrangement: Arrangement) -> Option<&Order>
         ensures arrangement { IfSome result (λ order. order.now.arrangement ≡ arrangement) }

@@ -1,8 +1,10 @@
 //! Quads in sorted orders: the six orders of a quad's places, binary search in entries that are sorted by one of them, a set of quads kept
-//! in several of them, and hints, which say at which request of a block a quad may have been spoken of. Stands on `datasets`.
+//! in several of them, hints, which say at which request of a block a quad may have been spoken of, and filters of patterns. Stands on
+//! `datasets`.
 //!
 //! The contracts used above: `part_of_set` has all quads of a set that a pattern matches; `Index::scan` is a filter of the whole set, and
-//! `Index::scan_counted` bounds how many entries it looks at; what `Hints::put` put, `Hints::requests` finds.
+//! `Index::scan_counted` bounds how many entries it looks at; what `Hints::put` put, `Hints::requests` finds; what
+//! `SeenQuads::put` put, `SeenQuads::may_match` lets through.
 #![tactic(auto)]
 
 mod hints;
@@ -24,3 +26,4 @@ pub use key::{Arrangement, BESIDE_SPOG};
 pub use looks::Looks;
 pub use order::Order;
 pub use search::part_of_set;
+pub use seen::SeenQuads;

@@ -1,10 +1,10 @@
 //! Hints in six orders.
-ghost use Rattle.std.specs.Prelude.{◌≡◌, ◌&&◌, ◌==◌, Bool, ℕ, true, false, [], IfOk, OnOk};
+ghost use Rattle.std.specs.Prelude.{◌≡◌, ◌&&◌, ◌==◌, Bool, ℕ, true, false, [], OnOk};
 ghost use Rattle.std.specs.List.{list_any};
 ghost use Rattle.datasets.specs.Id.{id_order};
 ghost use Rattle.datasets.specs.Dataset.{matches};
 ghost use Rattle.quad_index.specs.declared.run.Hint.{Hint};
-ghost use Rattle.quad_index.specs.Hints.{hints_of};
+ghost use Rattle.quad_index.specs.Hints.{all_entries};
 
 use crate::key::{Arrangement, order_for};
 use crate::run::Hint;
@@ -30,11 +30,11 @@ impl Model for OrderedHints {
 
     ghost Value = { List Hint };
 
-    ghost use Rattle.quad_index.specs.Hints.{hints_of, HaveAll};
+    ghost use Rattle.quad_index.specs.Hints.{all_entries, HaveAll};
 
-    ghost view = { λ h. hints_of h.spog.runs.items h.spog.tail.items };
+    ghost view = { λ h. all_entries h.spog.runs.items };
 
-    ghost invariant = { λ h. HaveAll (hints_of h.spog.runs.items h.spog.tail.items) (hints_of h.pogs.runs.items h.pogs.tail.items) (hints_of h.ogsp.runs.items h.ogsp.tail.items) (hints_of h.gspo.runs.items h.gspo.tail.items) (hints_of h.gpso.runs.items h.gpso.tail.items) (hints_of h.ospg.runs.items h.ospg.tail.items) };
+    ghost invariant = { λ h. HaveAll (all_entries h.spog.runs.items) (all_entries h.pogs.runs.items) (all_entries h.ogsp.runs.items) (all_entries h.gspo.runs.items) (all_entries h.gpso.runs.items) (all_entries h.ospg.runs.items) };
 }
 
 impl OrderedHints {
@@ -52,22 +52,22 @@ impl OrderedHints {
         }
     }
 
-    /// One more hint. What was there stays, also where memory runs out.
-    pub fn put(&mut self, alloc: Global, hint: Hint) -> Result<(), AllocError>
-        ensures added { OnOk result ((p : Hint → Bool) → p hint ≡ true → list_any p self.new ≡ true) }
+    /// These hints more. What was there stays, also where memory runs out.
+    pub fn add(&mut self, alloc: Global, hints: &[Hint]) -> Result<(), AllocError>
+        ensures added { OnOk result ((p : Hint → Bool) → list_any p hints.now ≡ true → list_any p self.new ≡ true) }
         ensures kept { (p : Hint → Bool) → list_any p self.old ≡ true → list_any p self.new ≡ true }
-        ensures only { (p : Hint → Bool) → list_any p self.old ≡ false → p hint ≡ false → list_any p self.new ≡ false }
+        ensures only { (p : Hint → Bool) → list_any p self.old ≡ false → list_any p hints.now ≡ false → list_any p self.new ≡ false }
     {
-        self.pogs.put(alloc, hint)?;
-        self.ogsp.put(alloc, hint)?;
-        self.gspo.put(alloc, hint)?;
-        self.gpso.put(alloc, hint)?;
-        self.ospg.put(alloc, hint)?;
-        self.spog.put(alloc, hint)
+        self.pogs.add(alloc, hints)?;
+        self.ogsp.add(alloc, hints)?;
+        self.gspo.add(alloc, hints)?;
+        self.gpso.add(alloc, hints)?;
+        self.ospg.add(alloc, hints)?;
+        self.spog.add(alloc, hints)
     }
 
     fn sorted(&self, arrangement: Arrangement) -> &SortedHints
-        ensures { (p : Hint → Bool) → list_any p self.now ≡ true → list_any p (hints_of result.now.runs.items result.now.tail.items) ≡ true }
+        ensures { (p : Hint → Bool) → list_any p self.now ≡ true → list_any p (all_entries result.now.runs.items) ≡ true }
     {
         match arrangement {
             Arrangement::Spog => &self.spog,
@@ -79,14 +79,15 @@ impl OrderedHints {
         }
     }
 
-    /// The requests of hints whose quad the pattern matches, in any order and with repeats: none of them is missing.
-    pub fn requests(
+    /// Adds the requests of hints whose quad the pattern matches, in any order and with repeats: none of them is missing.
+    pub fn add_requests(
         &self,
-        alloc: Global,
+        found: &mut Vec<usize>,
         pattern: &QuadPattern<Id>,
-    ) -> Result<Vec<usize>, AllocError>
-        ensures { IfOk result (λ found. (j : ℕ) → list_any (λ h. matches id_order pattern.now h.quad && (h.request == j)) self.now ≡ true → list_any (λ r. r == j) found.items ≡ true) }
+    ) -> Result<(), AllocError>
+        ensures kept { OnOk result ((j : ℕ) → list_any (λ r. r == j) found.old.items ≡ true → list_any (λ r. r == j) found.new.items ≡ true) }
+        ensures added { OnOk result ((j : ℕ) → list_any (λ h. matches id_order pattern.now h.quad && (h.request == j)) self.now ≡ true → list_any (λ r. r == j) found.new.items ≡ true) }
     {
-        self.sorted(order_for(pattern)).requests(alloc, pattern)
+        self.sorted(order_for(pattern)).add_requests(found, pattern)
     }
 }

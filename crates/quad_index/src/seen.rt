@@ -1,8 +1,10 @@
 //! Filters: what the places of quads can't have had.
 ghost use Rattle.std.specs.Prelude.{◌≡◌, true, [], Option, OnOk};
 ghost use Rattle.datasets.specs.declared.id.Id.{Id as Number};
-ghost use Rattle.datasets.specs.declared.quad.Quad.{Quad as Spoken};
-ghost use Rattle.quad_index.specs.Seen.{slot_of as the_slot_of, is_seen, is_graph_seen, is_quad_seen, lets, lets_graph, may_match as the_may_match};
+ghost use Rattle.datasets.specs.declared.read.QuadPattern.{QuadPattern as PatternOf};
+ghost use Rattle.datasets.specs.Dataset.{matches};
+ghost use Rattle.datasets.specs.Id.{id_order};
+ghost use Rattle.quad_index.specs.Seen.{slot_of as the_slot_of, is_seen, is_graph_seen, lets, lets_graph, may_match as the_may_match, binds_no_term};
 
 use datasets::{GraphPlace, Id, Quad, QuadPattern};
 use std::alloc::{AllocError, Global};
@@ -68,7 +70,7 @@ impl Seen {
     }
 }
 
-/// A filter for each place of quads.
+/// A filter of patterns: it lets through each that matches a quad which was put, and few others.
 #[derive(Drop)]
 pub struct SeenQuads {
     subjects: Seen,
@@ -78,8 +80,10 @@ pub struct SeenQuads {
 }
 
 impl SeenQuads {
-    /// No quad was put. It takes no memory.
-    pub fn new(alloc: Global) -> SeenQuads {
+    /// No quad was put: what binds a place to a term is stopped. It takes no memory.
+    pub fn new(alloc: Global) -> SeenQuads
+        ensures { (p : PatternOf Number) → the_may_match result p ≡ binds_no_term p }
+    {
         SeenQuads {
             subjects: Seen::new(alloc),
             predicates: Seen::new(alloc),
@@ -88,10 +92,10 @@ impl SeenQuads {
         }
     }
 
-    /// One more quad. What was there stays, also where memory runs out.
+    /// One more quad. What was let through still is, also where memory runs out.
     pub fn put(&mut self, quad: &Quad<Id>) -> Result<(), AllocError>
-        ensures added { OnOk result (is_quad_seen self.new quad.now ≡ true) }
-        ensures kept { (q : Spoken Number) → is_quad_seen self.old q ≡ true → is_quad_seen self.new q ≡ true }
+        ensures added { OnOk result ((p : PatternOf Number) → matches id_order p quad.now ≡ true → the_may_match self.new p ≡ true) }
+        ensures kept { (p : PatternOf Number) → the_may_match self.old p ≡ true → the_may_match self.new p ≡ true }
     {
         self.subjects.put(quad.subject)?;
         self.predicates.put(quad.predicate)?;
@@ -99,7 +103,7 @@ impl SeenQuads {
         put_graph(&mut self.graphs, quad.graph)
     }
 
-    /// Whether a quad that the pattern matches may have been put.
+    /// Whether the pattern is let through.
     pub fn may_match(&self, pattern: &QuadPattern<Id>) -> bool
         ensures { result ≡ the_may_match self.now pattern.now }
     {

@@ -61,6 +61,12 @@ impl IndexedView {
         self.named.names()
     }
 
+    /// The orders in which its quads are kept, beside SPOG. How long a read takes depends on them, and not what it says: no contract sees
+    /// them.
+    pub fn orders(&self, alloc: Global) -> Result<Vec<Arrangement>, AllocError> {
+        self.quads.orders(alloc)
+    }
+
     /// The same dataset, its quads in SPOG alone.
     pub fn copied(&self, alloc: Global) -> Result<View, AllocError>
         ensures { IfOk result (λ copy. copy ≡ self.now) }

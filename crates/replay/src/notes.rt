@@ -51,12 +51,9 @@ pub fn execute_again(
     let Some(request) = book.block().get(i) else {
         return Ok(None);
     };
-    let Some(slot) = book.slots().get(i) else {
-        return Ok(None);
-    };
     let mut answering = Answering {
         alloc,
-        notes: slot.notes.as_slice(),
+        notes: book.notes(i),
         next: 0,
     };
     match execute(alloc, book.terms(), i as u32, request, &mut answering) {

@@ -5,10 +5,9 @@ use Rattle.std.specs.Cmp.{both_ways}
 use Rattle.std.proofs.lemmas.List.{get_or_default}
 use Rattle.std.proofs.lemmas.Bool.{cases_lt, false≢true, and_parts, and_from}
 use Rattle.std.proofs.lemmas.Option.{none-some, same_Some}
-use Rattle.block_machine.specs.declared.state.Slot.{Slot}
 use Rattle.block_machine.specs.declared.state.Status.{Status}
 use Rattle.block_machine.specs.declared.state.Status.TheVariants.{Ready, Executing, Executed, Committed}
-use Rattle.block_machine.specs.Machine.{State, fresh_slot, can_commit, is_closed, is_current, is_executed, is_stamped, slot_at, status_of}
+use Rattle.block_machine.specs.Machine.{Slot, State, fresh_slot, can_commit, is_closed, is_current, is_executed, is_stamped, slot_at, status_of}
 use Rattle.block_machine.specs.Waiting.{can_go_on, has_work, IsLeastWork}
 use Rattle.scheduler.specs.declared.task.Task.{Task}
 use Rattle.scheduler.specs.declared.task.Task.TheVariants as task
@@ -19,6 +18,12 @@ status_slot : (slots : List Slot) (i : ℕ) (status : Status) → status_of slot
 status_slot [] i status e = absurd (none-some status e)
 status_slot (x ∷ slots) zero status e = same_Some x.status status e
 status_slot (x ∷ slots) (suc i) status e = status_slot slots i status e
+
+-- what is no request of the block is not executed
+pub none_executed : (slots : List Slot) (i : ℕ) → status_of slots i ≡ None → is_executed (slot_at slots i).status ≡ false
+none_executed [] i e = refl
+none_executed (x ∷ slots) zero e = absurd (none-some x.status (sym e))
+none_executed (x ∷ slots) (suc i) e = none_executed slots i e
 
 module _ (s : State) (i : ℕ) where
   -- it is lawful, and for request i

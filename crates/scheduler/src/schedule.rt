@@ -1,12 +1,12 @@
 //! The next task of a book.
-ghost use Rattle.std.specs.Prelude.{◌≡◌, ◌<◌, ◌&&◌, ◌||◌, ℕ, Bool, true, not, length, nat_le, Some};
+ghost use Rattle.std.specs.Prelude.{◌≡◌, ◌&&◌, ◌||◌, ℕ, Bool, true, not, nat_le, Some};
 ghost use Rattle.book.specs.Run.{state_of};
 ghost use Rattle.block_machine.specs.Machine.{is_current, is_executed, is_stamped, slot_at};
 ghost use Rattle.block_machine.specs.Waiting.{has_work};
 ghost use Rattle.scheduler.specs.Task.{settling, task_at, IsNext};
 
 use crate::task::Task;
-use block_machine::{Slot, Status};
+use block_machine::Status;
 use book::Book;
 
 // Whether a stamp stands, where the lower requests last changed at this moment of the clock.
@@ -20,16 +20,16 @@ fn is_stamped(stamp: Option<u64>, latest: u64) -> bool
 }
 
 // Whether the request at the front is executed, with a stamp that stands.
-fn can_commit(slots: &[Slot], front: usize, latest: u64) -> bool
-    requires { (moment : ℕ) → is_current slots.now front moment ≡ nat_le latest moment }
-    ensures { result ≡ (is_executed (slot_at slots.now front).status && is_stamped slots.now front (slot_at slots.now front).stamp) }
+fn can_commit(book: &Book<'_>, front: usize) -> bool
+    requires { front ≡ (state_of book.now).front }
+    ensures { result ≡ (is_executed (slot_at (state_of book.now).slots front).status && is_stamped (state_of book.now).slots front (slot_at (state_of book.now).slots front).stamp) }
 {
-    let Some(slot) = slots.get(front) else {
-        return false;
-    };
-    match slot.status {
-        Status::Executed(_) => is_stamped(slot.stamp, latest),
-        Status::Ready(_) | Status::Executing(_, _) | Status::Committed(_) => false,
+    match book.status(front) {
+        Some(Status::Executed(_)) => is_stamped(book.stamp(front), book.latest()),
+        Some(Status::Ready(_)) => false,
+        Some(Status::Executing(_, _)) => false,
+        Some(Status::Committed(_)) => false,
+        None => false,
     }
 }
 
@@ -45,16 +45,14 @@ fn settling(place: usize, incarnation: u64, has_pass: bool) -> Task
 }
 
 // What can be done for a request for which something can be, but to commit it.
-fn work_at(slots: &[Slot], place: usize) -> Task
-    requires within { place < length slots.now }
-    requires has { has_work slots.now place ≡ true }
-    ensures { task_at slots.now place ≡ Some result }
+fn work_at(book: &Book<'_>, place: usize) -> Task
+    requires { has_work (state_of book.now).slots place ≡ true }
+    ensures { task_at (state_of book.now).slots place ≡ Some result }
 {
-    let slot = &slots[place];
-    match slot.status {
-        Status::Ready(_) => Task::Take(place),
-        Status::Executed(n) => settling(place, n, slot.pass.is_some()),
-        Status::Executing(_, _) | Status::Committed(_) => unreachable!(),
+    match book.status(place) {
+        Some(Status::Ready(_)) => Task::Take(place),
+        Some(Status::Executed(n)) => settling(place, n, book.pass(place).is_some()),
+        _ => unreachable!(),
     }
 }
 
@@ -63,10 +61,10 @@ fn work_at(slots: &[Slot], place: usize) -> Task
 pub fn next(book: &Book<'_>) -> Option<Task>
     ensures { IsNext (state_of book.now) result }
 {
-    let (slots, front, latest) = (book.slots(), book.front(), book.latest());
-    if can_commit(slots, front, latest) {
+    let front = book.front();
+    if can_commit(book, front) {
         return Some(Task::Commit(front));
     }
     let place = book.least_work()?;
-    Some(work_at(slots, place))
+    Some(work_at(book, place))
 }

@@ -58,7 +58,10 @@ use Rattle.quad_index.specs.contracts.ordered_hints.OrderedHints as OrderedHints
 use Rattle.quad_index.specs.contracts.seen.Seen as Seen
 use Rattle.quad_index.specs.contracts.seen.SeenQuads as SeenQuads
 use Rattle.quad_index.specs.contracts.sorted_hints.SortedHints as SortedHints
-use Rattle.block_machine.specs.contracts.spoken.Spoken as Spoken
+use Rattle.version_overlay.specs.contracts.generation.Generation as Generation
+use Rattle.version_overlay.specs.contracts.spoken.Spoken as Spoken
+use Rattle.version_overlay.specs.contracts.level.Level as Level
+use Rattle.version_overlay.specs.contracts.settled.Settled as Settled
 use Rattle.quad_index.proofs.key.Arrangement.TheSendSync as arrangement
 use Rattle.quad_index.specs.contracts.run.Run as Run
 use Rattle.quad_index.specs.contracts.run.Hint as Hint
@@ -76,6 +79,8 @@ use Rattle.block_machine.specs.contracts.state.Reply as MachineReply
 use Rattle.block_machine.specs.contracts.state.Entry as Entry
 use Rattle.stamp_tree.specs.contracts.tree.StampTree as StampTree
 use Rattle.stamp_tree.proofs.tree.StampTree.TheLaws.TheKnot as trees
+use Rattle.block_machine.specs.contracts.kept.Kept as KeptSlots
+use Rattle.block_machine.specs.contracts.slots.Slots as Slots
 use Rattle.block_machine.specs.contracts.machine.Machine as Machine
 use Rattle.book.specs.contracts.book.Book as Book
 use Rattle.blocklock.proofs.Sent.{lock, pass}
@@ -261,17 +266,50 @@ seen = search (sendable, crosses) depth 20
 seen_quads : IsSend (SeenQuads.the_field).row
 seen_quads = let s = seen in search (sendable, crosses) depth 20
 
-hints : IsSend (Hints.the_row)
-hints = let o = ordered_hints in let s = seen_quads in search (sendable, crosses) depth 20
+hints : IsSend (Hints.the_field).row
+hints = let o = ordered_hints in let h = hint in search (sendable, crosses) depth 20
+
+generation : IsSend (Generation.the_field).row
+generation = let h = hints in let i = id.the_send in search (sendable, crosses, maps.crosses) depth 20
 
 spoken : IsSend (Spoken.the_field).row
-spoken = let h = hints in let i = id.the_send in search (sendable, crosses, maps.crosses) depth 20
+spoken = let g = generation in let s = seen_quads in search (sendable, crosses) depth 20
+
+known_quad_send : IsSend (KnownQuad.the_row)
+known_quad_send = search (sendable, crosses) depth 20
+
+entries_send : IsSend (Entries.the_field).row
+entries_send = let k = known_quad_send in let q = quad in search (sendable, crosses) depth 20
+
+order_send : IsSend (Order.the_row)
+order_send = let e = entries_send in let a = arrangement.the_field_send in search (sendable, crosses) depth 20
+
+first_order_send : IsSend (Order.the_field).row
+first_order_send = let e = entries_send in let a = arrangement.the_field_send in search (sendable, crosses) depth 20
+
+index_send : IsSend (Index.the_field).row
+index_send = let o = order_send in let f = first_order_send in search (sendable, crosses) depth 20
+
+delta_field : IsSend (Delta.the_field).row
+delta_field = let p = parts in let y = parts_sync in search (sendable, crosses) depth 20
+
+level : IsSend (Level.the_row)
+level = let d = delta_field in let i = index_send in search (sendable, crosses) depth 20
+
+settled : IsSend (Settled.the_field).row
+settled = let l = level in let s = seen_quads in let a = arrangement.the_send in search (sendable, crosses) depth 20
+
+kept_slots : IsSend (KeptSlots.the_field).row
+kept_slots = let s = slot in let p = spoken in let t = settled in search (sendable, crosses) depth 20
+
+slots : IsSend (Slots.the_field).row
+slots = let k = kept_slots in search (sendable, crosses) depth 20
 
 tree : IsSend (StampTree.the_field).row
 tree = search (sendable, crosses, trees.crosses) depth 20
 
 machine : IsSend (Machine.the_row)
-machine = let s = slot in let p = spoken in let t = tree in search (sendable, crosses) depth 20
+machine = let s = slots in let t = tree in search (sendable, crosses) depth 20
 
 event : IsSend (Event.the_field).row
 event = let f = finished in let r = read in search (sendable, crosses) depth 20

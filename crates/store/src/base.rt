@@ -1,5 +1,5 @@
 //! The base of a block.
-ghost use Rattle.std.specs.Prelude.{◌≡◌, ◌++◌, true, IfOk};
+ghost use Rattle.std.specs.Prelude.{◌≡◌, true, IfOk};
 ghost use Rattle.std.specs.List.{list_all};
 ghost use Rattle.sets.specs.Sets.{set_of};
 ghost use Rattle.datasets.specs.Id.{id_order};
@@ -8,7 +8,7 @@ ghost use Rattle.reads.specs.Reads.{IsDataset};
 ghost use Rattle.store.specs.Base.{IsBaseOf};
 ghost use Rattle.store.specs.Held.{is_held};
 
-use crate::numbers::{name_numbers, number_terms, quad_numbers};
+use crate::numbers::{name_numbers, quad_numbers};
 use datasets::{Id, Quad, Read};
 use dict::Dict;
 use dict::laws::is_renaming;
@@ -40,17 +40,6 @@ impl Model for Base {
     ghost invariant = { λ b. IsDataset b.dataset };
 }
 
-// These terms and then those.
-fn collected(alloc: Global, mut found: Vec<Term>, terms: &[Term]) -> Result<Vec<Term>, AllocError>
-    ensures { IfOk result (λ all. all.items ≡ found.items ++ terms.now) }
-{
-    found.reserve(terms.len())?;
-    for term in terms {
-        found.push(term.copied(alloc)?)?;
-    }
-    Ok(found)
-}
-
 // The dataset of these quads and graph names, its quads in these orders beside SPOG.
 fn in_orders(
     alloc: Global,
@@ -65,8 +54,8 @@ fn in_orders(
 }
 
 impl Base {
-    /// The base of a dataset, with the dictionary of its terms and of more, its quads in these orders beside SPOG. Each term is looked up
-    /// once. An error comes only where memory runs out.
+    /// The base of a dataset, with the dictionary of its terms and of more, its quads in these orders beside SPOG. The numbers of its terms
+    /// come of the sort that puts them in order. An error comes only where memory runs out.
     pub fn new(
         alloc: Global,
         dataset: &DataSet,
@@ -79,8 +68,7 @@ impl Base {
         is_renaming();
         let tag = tag(alloc, dataset)?;
         let parts = dataset.parts();
-        let terms = Dict::freeze(collected(alloc, more, parts.terms)?);
-        let ids = number_terms(alloc, &terms, parts.terms)?;
+        let (terms, ids) = Dict::numbered(alloc, parts.terms, more.as_slice())?;
         let quads = quad_numbers(alloc, ids.as_slice(), parts.quads)?;
         let names = name_numbers(alloc, ids.as_slice(), parts.names)?;
         let indexed = in_orders(alloc, quads, names, orders)?;

@@ -24,22 +24,6 @@ pub fn number_term(dict: &Dict, term: &Term) -> Id
     }
 }
 
-pub(crate) fn number_terms(
-    alloc: Global,
-    dict: &Dict,
-    terms: &[Term],
-) -> Result<Vec<Id>, AllocError>
-    requires { list_all (is_held dict.now) terms.now ≡ true }
-    ensures renamed { IfOk result (λ list. map (term_of dict.now) list.items ≡ terms.now) }
-    ensures known { IfOk result (λ list. list_all (is_known dict.now) list.items ≡ true) }
-{
-    let mut list = Vec::new(alloc);
-    for term in terms {
-        list.push(number_term(dict, term))?;
-    }
-    Ok(list)
-}
-
 fn name_number(ids: &[Id], name: Option<u32>) -> Option<Id>
     requires { is_name_within ids.now name ≡ true }
     ensures { result ≡ option_map (number_at ids.now) name }

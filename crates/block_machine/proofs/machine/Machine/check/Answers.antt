@@ -1,28 +1,12 @@
 use Rattle.std.proofs.Common.{refl, ap, sym, ◌∙◌, Some}
-use Rattle.block_machine.specs.declared.state.Slot.{Slot}
-use Rattle.block_machine.specs.Machine.{status_of}
-use Rattle.block_machine.specs.Spoken.{speaks}
-use Rattle.block_machine.proofs.Keeps.{keeps_by, passed-delta}
-use Rattle.block_machine.proofs.Standings.{standings_set}
+use Rattle.block_machine.specs.Machine.{is_closed, status_of, slot_at}
+use Rattle.block_machine.proofs.Steps.{keeps_step}
 use Rattle.block_machine.proofs.machine.Machine.check.Goals as goal
 
 pub invariant_of-self : goal.invariant_of-self
 invariant_of-self c =
-    record {
-      lower =
-          keeps_by c.self.inside.slots.items c.self.inside.front (speaks c.self.inside.spoken) c.self.inside.latest c.self.invariant.lower c.args.i _
-          (ap (λ slots. status_of slots c.args.i) (sym c.as_slice.ensures.value) ∙ sym c.status_at-status.ensures ∙ c.in_default.ensures.none) refl
-          c.pass.new.slot c.index_mut-slot.result.now c.index_mut-slot.ensures.value
-          (ap (λ (x : Slot). x.delta) c.pass.ensures ∙ passed-delta c.index_mut-slot.result.now (Some c.in-Some-pass.stands));
-      standings_are = standings_set _ _ _ _ _ _ c.self.invariant.standings_are c.standing.ensures c.set.ensures;
-    }
+    keeps_step c.self.inside.slots c.self.inside.front c.self.inside.latest c.self.inside.standings c.self.invariant c.args.i (ap is_closed (sym c.status-status.ensures ∙ c.in_default.ensures.none)) _ c.pass_on.new.self c.pass_on.ensures _ c.standing.ensures _ c.set.ensures
 
 pub invariant_of-self-in-Changed : goal.invariant_of-self-in-Changed
 invariant_of-self-in-Changed c =
-    record {
-      lower =
-          keeps_by c.self.inside.slots.items c.self.inside.front (speaks c.self.inside.spoken) c.self.inside.latest c.self.invariant.lower c.args.i _
-          (ap (λ slots. status_of slots c.args.i) (sym c.as_slice.ensures.value) ∙ sym c.status_at-status.ensures ∙ c.in_default.ensures.none) refl
-          c.abort.new.slot c.index_mut-slot-in-Changed.result.now c.index_mut-slot-in-Changed.ensures.value (ap (λ (x : Slot). x.delta) c.abort.ensures);
-      standings_are = standings_set _ _ _ _ _ _ c.self.invariant.standings_are c.standing-in-Changed.ensures c.set-in-Changed.ensures;
-    }
+    keeps_step c.self.inside.slots c.self.inside.front c.self.inside.latest c.self.inside.standings c.self.invariant c.args.i (ap is_closed (sym c.status-status.ensures ∙ c.in_default.ensures.none)) _ c.abort.new.self c.abort.ensures _ c.standing-in-Changed.ensures _ c.set-in-Changed.ensures

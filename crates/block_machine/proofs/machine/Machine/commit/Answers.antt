@@ -1,18 +1,17 @@
-use Rattle.std.proofs.Common.{ap, sym, ◌∙◌}
-use Rattle.block_machine.specs.Machine.{is_closed, status_of}
-use Rattle.block_machine.specs.Spoken.{speaks}
-use Rattle.block_machine.proofs.Keeps.{keeps_committed}
-use Rattle.block_machine.proofs.Standings.{standings_set}
+use Rattle.std.proofs.Common.{refl, ap, sym, ◌∙◌, max, arith}
+use Rattle.block_machine.specs.Machine.{State, is_closed}
+use Rattle.block_machine.proofs.Keeps.{front_in}
+use Rattle.block_machine.proofs.Steps.{keeps_front}
 use Rattle.block_machine.proofs.machine.Machine.commit.Goals as goal
+
+pub overflow_add-self : goal.overflow_add-self
+overflow_add-self c =
+    let within = front_in c.self.inside.slots c.self.inside.front c.self.inside.latest c.self.inside.standings c.self.invariant in
+    let few = c.are_few.ensures in
+    omega (arith, within, few)
 
 pub invariant_of-self : goal.invariant_of-self
 invariant_of-self c =
-    record {
-      lower =
-          keeps_committed c.self.inside.slots.items c.self.inside.clock c.self.inside.front (speaks c.self.inside.spoken) c.self.inside.latest _ c.self.invariant.lower
-          c.args.self.now c.self.view_is c.args.i
-          (ap (λ slots. is_closed (status_of slots c.args.i)) (sym c.as_slice.ensures.value) ∙ ap is_closed (sym c.status_at-status.ensures) ∙ sym c.is_closed.ensures ∙ c.if-is_closed.false)
-          (sym c.may_commit.ensures ∙ c.if-not-may_commit.false)
-          c.commit.new.slot c.index_mut-slot.result.now c.index.result.now c.index_mut-slot.ensures.value c.commit.ensures c.index.ensures c.max-self-inside.ensures;
-      standings_are = standings_set _ _ _ _ _ _ c.self.invariant.standings_are c.standing.ensures c.set.ensures;
-    }
+    keeps_front c.self.inside.slots c.self.inside.front c.self.inside.latest c.self.inside.standings c.self.invariant c.args.i (ap is_closed (sym c.status-status.ensures) ∙ sym c.is_closed.ensures ∙ c.if-is_closed.false)
+    c.args.self.now (ap (λ (s : State). s.slots) (sym c.self.view_is)) (ap (λ (s : State). s.front) (sym c.self.view_is)) (sym c.may_commit.ensures ∙ c.if-not-may_commit.false)
+    c.commit.new.self c.commit.ensures c.standing.result c.standing.ensures c.set.new.self c.set.ensures c.max-self-inside.result (c.max-self-inside.ensures ∙ ap (max c.self.inside.latest) c.changed-changed.ensures)

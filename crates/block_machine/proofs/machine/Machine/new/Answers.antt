@@ -1,13 +1,11 @@
-use Rattle.std.proofs.Common.{◌≡◌, arith}
-use Rattle.block_machine.specs.Spoken.{speaks}
+use Rattle.std.proofs.Common.{refl, ap, sym}
 use Rattle.block_machine.proofs.Keeps.{keeps_new}
 use Rattle.block_machine.proofs.Standings.{standings_new}
+use Rattle.block_machine.specs.Machine.{fresh_slot}
+use Rattle.block_machine.specs.Waiting.{standing_of}
 use Rattle.block_machine.proofs.machine.Machine.new.Goals as goal
 
 pub invariant_of-result : goal.invariant_of-result
 invariant_of-result c =
-    let whole : c.args.size ≡ c.loop-count._count = omega arith in
-    record {
-      lower = keeps_new c.loop-count.slots.items (speaks c.new.result) c.loop-count._count c.loop-count.invariant;
-      standings_are = standings_new _ _ c.args.size c.loop-count._count c.fresh-fresh.result c.standing-standing.result whole c.fresh-fresh.ensures c.standing-standing.ensures c.loop-count.invariant c.in_ok-new.ensures;
-    }
+    keeps_new c.in_ok-new.field-0 c.args.size c.in_ok-new-2.field-0 c.in_ok-new.ensures
+    (standings_new c.in_ok-new.field-0 c.in_ok-new-2.field-0 c.args.size c.args.size fresh_slot (standing_of fresh_slot) refl refl refl c.in_ok-new.ensures c.in_ok-new-2.ensures)

@@ -1,29 +1,17 @@
-use Rattle.std.proofs.Common.{ap, ◌∙◌}
-use Rattle.block_machine.specs.declared.state.Slot.{Slot}
+use Rattle.std.proofs.Common.{ap, sym, ◌∙◌, subst}
+use Rattle.block_machine.specs.Lower.{KeepsBeside}
 use Rattle.block_machine.specs.Machine.{State, is_closed, status_of}
-use Rattle.block_machine.specs.Spoken.{speaks}
-use Rattle.block_machine.proofs.Keeps.{keeps_store}
-use Rattle.block_machine.proofs.Standings.{standings_set}
+use Rattle.block_machine.proofs.Steps.{keeps_step}
 use Rattle.block_machine.proofs.machine.Machine.store.Goals as goal
 
 pub invariant_of-self-then-not-same : goal.invariant_of-self-then-not-same
 invariant_of-self-then-not-same c =
-    record {
-      lower =
-          keeps_store c.self.inside.slots.items c.self.inside.front (speaks c.self.inside.spoken) (speaks c.put.new.self) c.self.inside.latest c.self.invariant.lower
-          c.in_ok-put.ensures.kept c.args.i
-          (ap (λ (s : State). is_closed (status_of s.slots c.args.i)) c.self.view_is ∙ c.requires.still)
-          c.publish.new.slot c.args.finished.now.delta (ap (λ (x : Slot). x.delta) c.in_ok-same.ensures.ok) c.in_ok-put.ensures.added;
-      standings_are = standings_set _ _ _ _ _ _ c.self.invariant.standings_are c.standing.ensures c.set.ensures;
-    }
+    keeps_step c.settle.new.self c.self.inside.front c.self.inside.latest c.self.inside.standings
+    (subst (λ s. KeepsBeside s c.self.inside.front c.self.inside.latest c.self.inside.standings) (sym c.settle.ensures) c.self.invariant) c.args.i
+    (ap (λ s. is_closed (status_of s c.args.i)) c.settle.ensures ∙ ap (λ (s : State). is_closed (status_of s.slots c.args.i)) c.self.view_is ∙ c.requires.still) _ c.publish.new.self c.in_ok-same.ensures.ok _ c.standing.ensures _ c.set.ensures
 
 pub invariant_of-self-else-not-same : goal.invariant_of-self-else-not-same
 invariant_of-self-else-not-same c =
-    record {
-      lower =
-          keeps_store c.self.inside.slots.items c.self.inside.front (speaks c.self.inside.spoken) (speaks c.put.new.self) c.self.inside.latest c.self.invariant.lower
-          c.in_ok-put.ensures.kept c.args.i
-          (ap (λ (s : State). is_closed (status_of s.slots c.args.i)) c.self.view_is ∙ c.requires.still)
-          c.publish.new.slot c.args.finished.now.delta (ap (λ (x : Slot). x.delta) c.in_ok-same.ensures.ok) c.in_ok-put.ensures.added;
-      standings_are = standings_set _ _ _ _ _ _ c.self.invariant.standings_are c.standing.ensures c.set.ensures;
-    }
+    keeps_step c.settle.new.self c.self.inside.front c.self.inside.latest c.self.inside.standings
+    (subst (λ s. KeepsBeside s c.self.inside.front c.self.inside.latest c.self.inside.standings) (sym c.settle.ensures) c.self.invariant) c.args.i
+    (ap (λ s. is_closed (status_of s c.args.i)) c.settle.ensures ∙ ap (λ (s : State). is_closed (status_of s.slots c.args.i)) c.self.view_is ∙ c.requires.still) _ c.publish.new.self c.in_ok-same.ensures.ok _ c.standing.ensures _ c.set.ensures

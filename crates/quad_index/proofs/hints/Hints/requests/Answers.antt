@@ -1,15 +1,19 @@
-use Rattle.std.proofs.Common.{◌≡◌, ◌∙◌, sym, ap, List, true, false}
-use Rattle.std.specs.Prelude.{◌&&◌, ◌==◌, not}
+use Rattle.std.proofs.Common.{◌∙◌, ap, sym}
+use Rattle.std.specs.Prelude.{◌&&◌, ◌==◌}
 use Rattle.std.specs.List.{list_any}
-use Rattle.std.proofs.lemmas.Bool.{false≢true}
+use Rattle.std.proofs.lemmas.List.Folds.{list_any-append}
 use Rattle.datasets.specs.Id.{id_order}
 use Rattle.datasets.specs.Dataset.{matches}
 use Rattle.quad_index.specs.declared.run.Hint.{Hint}
-use Rattle.quad_index.proofs.Filtering.{none_matches}
+use Rattle.quad_index.proofs.Joined.{either}
+use Rattle.quad_index.proofs.Requests.{names_kept, names_added}
 use Rattle.quad_index.proofs.hints.Hints.requests.Goals as goal
 
-pub returns-then-not-may_match : goal.returns-then-not-may_match
-returns-then-not-may_match c j e =
-    let stops = sym c.may_match.ensures ∙ c.if-not-may_match.true in
-    absurd (false≢true (sym (none_matches c.self.inside.seen c.args.pattern.now c.self.inside.ordered c.self.invariant stops j)
-    ∙ ap (λ (hints : List Hint). list_any (λ (h : Hint). matches id_order c.args.pattern.now h.quad && (h.request == j)) hints) c.self.view_is ∙ e))
+pub returns : goal.returns
+returns c j e =
+    let p : Hint → _ = λ (x : Hint). matches id_order c.args.pattern.now x.quad && (x.request == j) in
+    let tail = c.self.inside.tail.items in
+    let at_orders = c.self.inside.ordered in
+    either (list_any p at_orders) (list_any p tail) (sym (list_any-append p at_orders tail) ∙ ap (list_any p) c.self.view_is ∙ e)
+    (λ a. names_kept j c.add_requests.new.found.items _ _ c.in_ok-add_requests-2.ensures (c.in_ok-add_requests.ensures.added j a))
+    (λ b. names_added c.args.pattern.now j c.add_requests.new.found.items _ _ c.in_ok-add_requests-2.ensures (ap (list_any p) c.deref.ensures.value ∙ b))

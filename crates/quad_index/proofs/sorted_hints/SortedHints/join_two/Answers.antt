@@ -20,5 +20,5 @@ returns-in-Ok c p =
     let last : c.index-shorter.result.now ≡ get_or xs (n + 1) d =
     c.index-shorter.ensures ∙ ap (λ k. get_or xs k c.index-shorter.result.now) place ∙ get_or_default xs (n + 1) c.index-shorter.result.now d within in
     let second : c.deref-2.result.now ≡ (get_or xs (n + 1) d).entries.items = c.deref-2.ensures.value ∙ ap (λ (r : Run). r.entries.items) last in
-    popped p c.in-Ok.run' d xs _ c.args.self.now.tail.items n (c.args.self.now.runs.len - 1) c.pop.ensures.rest (omega arith) (omega arith)
+    popped p c.in-Ok.run' d xs _ n (c.args.self.now.runs.len - 1) c.pop.ensures.rest (omega arith) (omega arith)
     (c.in-Ok.ensures.members p ∙ (λ i. list_any p (first i) || list_any p (second i)))

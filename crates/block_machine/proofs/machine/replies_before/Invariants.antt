@@ -1,6 +1,0 @@
-use Rattle.std.proofs.Common.{◌≡◌}
-use Rattle.block_machine.specs.Serial.{replies_to}
-use Rattle.block_machine.proofs.machine.replies_before.Given as goal
-
-abbrev pub invariant-loop-j : goal.invariant-loop-j
-invariant-loop-j l = l.list.items ≡ replies_to l.slots l.j

@@ -1,9 +1,0 @@
-use Rattle.std.proofs.Common.{◌≡◌}
-use Rattle.reads.specs.Reads.{says}
-use Rattle.block_machine.specs.Machine.{view_at}
-use Rattle.block_machine.specs.Lower.{after_first, part_or}
-use Rattle.block_machine.proofs.version_overlay.answer_before.Given as goal
-
-abbrev pub invariant-loop-request : goal.invariant-loop-request
-invariant-loop-request l =
-    says l.scanned.read (part_or l.scanned.dataset l.part) ≡ says l.scanned.read (view_at l.scanned.dataset l.slots (after_first l.list l.i l.request-index))

@@ -1,0 +1,113 @@
+-- What is kept of slots, and the slots that it stands for. What is committed never changes again: so of the first requests, once they are
+-- settled, a note keeps no part of its list, and their changes are kept as one.
+use Rattle.std.specs.Prelude.{◌≡◌, ℕ, ◌<◌, ◌≤◌, Bool, true, false, List, [], ◌∷◌, ◌++◌, length, map, Some, None, slice_set}
+use Rattle.reads.specs.Reads.{View, Delta, Read, says, no_change}
+use Rattle.reads.specs.declared.note.Note.{Note}
+use Rattle.version_overlay.specs.Settled.{changed_by}
+use Rattle.version_overlay.specs.Spoken.{speaks}
+use Rattle.block_machine.specs.declared.state.Noted.{Noted as KeptNote}
+use Rattle.block_machine.specs.declared.state.Slot.{Slot as KeptSlot}
+use Rattle.block_machine.specs.declared.kept.Kept.{Kept}
+use Rattle.block_machine.specs.declared.state.Status.{Status}
+use Rattle.block_machine.specs.declared.state.Status.TheVariants.{Ready, Executing, Executed, Committed}
+use Rattle.block_machine.specs.declared.found.Found.{Found}
+use Rattle.block_machine.specs.declared.found.Found.TheVariants as found
+use Rattle.block_machine.specs.declared.found.Asked.{Asked}
+use Rattle.block_machine.specs.declared.found.Asked.TheVariants as asked
+use Rattle.block_machine.specs.Machine.{Noted, Slot, slot_at, blocker, touching, view_at, note_now, with_note, is_closed}
+use Rattle.block_machine.specs.Lower.{Knows}
+
+-- a kept slot, its notes by a reading
+abbrev pub slot_by : (KeptNote → Noted) → KeptSlot → Slot
+slot_by f x =
+    record {
+      status = x.status;
+      notes = map f x.notes;
+      delta = x.delta;
+      version = x.version;
+      reply = x.reply;
+      estimate = x.estimate;
+      changed = x.changed;
+      pass = x.pass;
+      stamp = x.stamp;
+    }
+
+-- a note, with the part of its list that is kept
+abbrev pub plain : KeptNote → Noted
+plain n = record { read = n.read; answer = n.answer; touching = n.touching }
+
+-- slots, their notes with the parts of their lists that are kept
+abbrev pub shown : List KeptSlot → List Slot
+shown slots = map (slot_by plain) slots
+
+-- a note with its whole list: of the requests that were settled when it was made, that is the list of now
+abbrev pub whole : List KeptSlot → KeptNote → Noted
+whole slots n = record { read = n.read; answer = n.answer; touching = touching (shown slots) n.low n.read ++ n.touching }
+
+-- the slots that are kept
+abbrev pub slots_of : List KeptSlot → List Slot
+slots_of slots = map (slot_by (whole slots)) slots
+
+-- the noted read with its answer
+abbrev pub kept_note_of : KeptNote → Note
+kept_note_of n = record { read = n.read; answer = n.answer }
+
+-- whether a request of this status may be an estimate
+abbrev pub may_estimate : Status → Bool
+may_estimate (Ready n) = true
+may_estimate (Executing n by) = true
+may_estimate (Executed n) = false
+may_estimate (Committed n) = false
+
+abbrev pub IsCalm : Slot → Type 0
+IsCalm x = may_estimate x.status ≡ false → x.estimate ≡ false
+
+-- no note was made when more than so many requests were settled
+abbrev pub LowNotes : ℕ → List KeptNote → Type 0
+LowNotes low [] = Unit {0}
+LowNotes low (n ∷ ns) = (n.low ≤ low) × LowNotes low ns
+
+abbrev pub LowSlots : ℕ → List KeptSlot → Type 0
+LowSlots low [] = Unit {0}
+LowSlots low (x ∷ xs) = LowNotes low x.notes × LowSlots low xs
+
+-- What is kept: of each request that is not settled, that it may have spoken of all that its delta covers; of those that are settled, that
+-- they are committed, and what they make of a base; and that no request that is executed is an estimate.
+pub record IsKept (slots : List KeptSlot) (low : ℕ) (spoken : Read → ℕ → Bool) (settled : List Delta) : Type 0 where
+  pub within : low ≤ length slots
+  pub knows : Knows spoken low (shown slots)
+  pub folded : (base : View) → changed_by settled base ≡ view_at base (shown slots) low
+  pub closed : (j : ℕ) → j < low → is_closed (Some (slot_at (shown slots) j).status) ≡ true
+  pub calm : (j : ℕ) → IsCalm (slot_at (shown slots) j)
+  pub lows : LowSlots low slots
+
+abbrev pub Holds : Kept → Type 0
+Holds k = IsKept k.slots.items k.low (speaks k.spoken) k.settled
+
+-- a request before its first event
+abbrev pub fresh_kept : KeptSlot
+fresh_kept =
+    record {
+      status = Ready 0;
+      notes = [];
+      delta = no_change;
+      version = 0;
+      reply = None;
+      estimate = false;
+      changed = 0;
+      pass = None;
+      stamp = None;
+    }
+
+-- what is found of a read: the estimate that blocks it, or the note of its answer
+abbrev pub IsFound : View → List KeptSlot → ℕ → ℕ → Read → Found → Type 0
+IsFound base slots low i read (found.Blocked j) = blocker (shown slots) i read ≡ Some j
+IsFound base slots low i read (found.Noted n) =
+    (blocker (shown slots) i read ≡ None) × ((n.low ≡ low) × (whole slots n ≡ note_now base (shown slots) i read))
+
+-- what a read comes to, and what it leaves: a note, where it is answered
+abbrev pub IsAsked : View → List Slot → List Slot → ℕ → Read → Asked → Type 0
+IsAsked base old new i read (asked.Blocked j) = (blocker old i read ≡ Some j) × (new ≡ old)
+IsAsked base old new i read (asked.Answered a again) =
+    ((blocker old i read ≡ None) × (a ≡ says read (view_at base old i)))
+    × ((again ≡ a) × (new ≡ slice_set old i (with_note (slot_at old i) (note_now base old i read))))

@@ -1,0 +1,37 @@
+//! How committed requests are settled: their changes become one, and nobody asks any more which of them spoke of what.
+ghost use Rattle.std.specs.Prelude.{◌≡◌, ◌<◌, ◌≤◌, ◌+◌, ℕ, true, Some, length, OnOk, OnErr};
+ghost use Rattle.block_machine.specs.Machine.{is_closed, slot_at};
+ghost use Rattle.block_machine.specs.Kept.{shown, Holds};
+
+use crate::kept::Kept;
+use std::alloc::{AllocError, Global};
+
+// The first request that is not settled is settled. After want of memory nothing is.
+fn settle_next(alloc: Global, kept: &mut Kept) -> Result<(), AllocError>
+    requires holds { Holds kept.old }
+    requires within { kept.old.low < length kept.old.slots.items }
+    requires closed { is_closed (Some (slot_at (shown kept.old.slots.items) kept.old.low).status) ≡ true }
+    ensures holds { Holds kept.new }
+    ensures slots { kept.new.slots.items ≡ kept.old.slots.items }
+    ensures ok { OnOk result (kept.new.low ≡ kept.old.low + 1) }
+{
+    let low = kept.low;
+    kept.settled.push(alloc, &kept.slots[low].delta)?;
+    kept.low = low + 1;
+    Ok(())
+}
+
+/// The requests below `to` are settled, as far as there is memory.
+pub fn settle(alloc: Global, kept: &mut Kept, to: usize) -> Result<(), AllocError>
+    requires holds { Holds kept.old }
+    requires within { to ≤ length kept.old.slots.items }
+    requires closed { (j : ℕ) → j < to → is_closed (Some (slot_at (shown kept.old.slots.items) j).status) ≡ true }
+    ensures holds { Holds kept.new }
+    ensures slots { kept.new.slots.items ≡ kept.old.slots.items }
+{
+    for _low in kept.low..to {
+        settle_next(alloc, kept)?;
+    }
+    kept.spoken.forget_below(alloc, kept.low);
+    Ok(())
+}

@@ -1,0 +1,4 @@
+pub mod Changing
+pub mod Generations
+pub mod Scanning
+pub mod Speaking

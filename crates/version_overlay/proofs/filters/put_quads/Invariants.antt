@@ -1,0 +1,14 @@
+use Rattle.std.proofs.Common.{◌≡◌, true, take}
+use Rattle.std.specs.List.{list_any}
+use Rattle.datasets.specs.declared.id.Id.{Id}
+use Rattle.datasets.specs.declared.read.QuadPattern.{QuadPattern}
+use Rattle.datasets.specs.Dataset.{matches}
+use Rattle.datasets.specs.Id.{id_order}
+use Rattle.quad_index.specs.Seen.{may_match}
+use Rattle.version_overlay.proofs.filters.put_quads.Given as goal
+
+abbrev pub invariant-loop-quad : goal.invariant-loop-quad
+invariant-loop-quad l = record {
+  added : (p : QuadPattern Id) → list_any (matches id_order p) (take l.quad-index l.quads) ≡ true → may_match l.seen p ≡ true;
+  kept : (p : QuadPattern Id) → may_match l.initial.seen p ≡ true → may_match l.seen p ≡ true;
+}

@@ -1,0 +1,35 @@
+use Rattle.std.proofs.Common.{sym, ap, ◌∙◌}
+use Rattle.datasets.specs.declared.read.Read.TheVariants.{Scan}
+use Rattle.quad_index.specs.Seen.{may_match}
+use Rattle.reads.specs.Reads.{says, applied, covers}
+use Rattle.version_overlay.specs.Settled.{changed_by}
+use Rattle.version_overlay.proofs.Changing.{nothing_changed, changed-rises, changed_by-rises, some_are, pushed_is, uncovered}
+use Rattle.version_overlay.proofs.Generations.{stopped}
+use Rattle.version_overlay.proofs.settled.Settled.push.Goals as goal
+
+pub returns-then-says_nothing-clause-ok : goal.returns-then-says_nothing-clause-ok
+returns-then-says_nothing-clause-ok c d =
+    let was = c.args.self.now in
+    let levels = c.self.inside.levels in
+    let after = changed_by was d in
+    sym (ap (λ x. applied x after) (c.says_nothing.ensures c.if-says_nothing.true)
+    ∙ nothing_changed after (changed-rises was (λ none. some_are levels.items levels.len levels.ok.0 (sym c.is_empty.ensures ∙ c.if-not-is_empty.true) (c.self.view_is ∙ none)) d))
+
+pub invariant_of-self-in_err-push : goal.invariant_of-self-in_err-push
+invariant_of-self-in_err-push c p stops d rising =
+    ap (λ cs. says (Scan p) (changed_by cs d)) c.in_err-push.ensures.items
+    ∙ c.self.invariant p (stopped (may_match c.self.inside.seen p) (may_match c.put_all.new.seen p) (c.put_all.ensures.kept p) stops) d rising
+
+pub invariant_of-self-2 : goal.invariant_of-self-2
+invariant_of-self-2 c p stops d rising =
+    let levels = c.self.inside.levels.items in
+    let delta = c.args.delta.now in
+    ap (says (Scan p)) (c.join_alike.ensures d ∙ pushed_is levels c.push.new.self.items c.in_ok-level.level delta c.in_ok-push.ensures.items (c.in_ok-level.ensures ∙ c.in_ok-copied.ensures) d)
+    ∙ uncovered delta (changed_by levels d) (Scan p) (changed_by-rises levels d rising) (stopped (covers delta (Scan p)) (may_match c.put_all.new.seen p) (c.in_ok-put_all.ensures.added p) stops)
+    ∙ c.self.invariant p (stopped (may_match c.self.inside.seen p) (may_match c.put_all.new.seen p) (c.put_all.ensures.kept p) stops) d rising
+
+pub returns-clause-ok : goal.returns-clause-ok
+returns-clause-ok c d =
+    c.join_alike.ensures d
+    ∙ pushed_is c.self.inside.levels.items c.push.new.self.items c.in_ok-level.level c.args.delta.now c.in_ok-push.ensures.items (c.in_ok-level.ensures ∙ c.in_ok-copied.ensures) d
+    ∙ ap (λ cs. applied c.args.delta.now (changed_by cs d)) c.self.view_is

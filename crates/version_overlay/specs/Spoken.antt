@@ -1,0 +1,9 @@
+-- Which requests may have spoken of what.
+use Rattle.std.specs.Prelude.{ℕ, Bool, ◌||◌}
+use Rattle.reads.specs.Reads.{Read}
+use Rattle.version_overlay.specs.declared.spoken.Spoken.{Spoken}
+use Rattle.version_overlay.specs.Generation.{has_spoken}
+
+-- whether a request is kept, in either generation, as one that may have spoken of what a read asks for
+abbrev pub speaks : Spoken → Read → ℕ → Bool
+speaks spoken read j = has_spoken spoken.older read j || has_spoken spoken.current read j

@@ -1,0 +1,35 @@
+//! Filters of what changes speak of.
+ghost use Rattle.std.specs.Prelude.{◌≡◌, true, OnOk};
+ghost use Rattle.std.specs.List.{list_any};
+ghost use Rattle.datasets.specs.declared.id.Id.{Id as Number};
+ghost use Rattle.datasets.specs.declared.read.QuadPattern.{QuadPattern as PatternOf};
+ghost use Rattle.datasets.specs.declared.read.Read.TheVariants.{Scan};
+ghost use Rattle.datasets.specs.Dataset.{matches};
+ghost use Rattle.datasets.specs.Id.{id_order};
+ghost use Rattle.quad_index.specs.Seen.{may_match};
+ghost use Rattle.reads.specs.Reads.{covers};
+
+use datasets::{Id, Quad};
+use delta::Delta;
+use quad_index::SeenQuads;
+use std::alloc::AllocError;
+
+/// Lets through what a change speaks of. What was let through still is, also where memory runs out.
+#[tactic(auto, unfolding(reads::specs::Reads::covers))]
+pub fn put_all(seen: &mut SeenQuads, delta: &Delta) -> Result<(), AllocError>
+    ensures added { OnOk result ((p : PatternOf Number) → covers delta.now (Scan p) ≡ true → may_match seen.new p ≡ true) }
+    ensures kept { (p : PatternOf Number) → may_match seen.old p ≡ true → may_match seen.new p ≡ true }
+{
+    put_quads(seen, delta.present())?;
+    put_quads(seen, delta.absent())
+}
+
+fn put_quads(seen: &mut SeenQuads, quads: &[Quad<Id>]) -> Result<(), AllocError>
+    ensures added { OnOk result ((p : PatternOf Number) → list_any (matches id_order p) quads.now ≡ true → may_match seen.new p ≡ true) }
+    ensures kept { (p : PatternOf Number) → may_match seen.old p ≡ true → may_match seen.new p ≡ true }
+{
+    for quad in quads {
+        seen.put(quad)?;
+    }
+    Ok(())
+}

@@ -1,0 +1,201 @@
+//! One change of several requests, its present quads in several orders, and what it makes of the part of a dataset that a read asks for.
+ghost use Rattle.std.specs.Prelude.{◌≡◌, true, false, [], IfOk, filter};
+ghost use Rattle.std.specs.List.{list_any};
+ghost use Rattle.std.specs.List.Sorted.{IsStrictlySortedBy};
+ghost use Rattle.sets.specs.Sets.{has, without};
+ghost use Rattle.datasets.specs.declared.id.Id.{Id as Number};
+ghost use Rattle.datasets.specs.declared.quad.Quad.{Quad as Named};
+ghost use Rattle.datasets.specs.Id.{id_order};
+ghost use Rattle.datasets.specs.Dataset.{quad_order, matches};
+ghost use Rattle.change_laws.specs.Laws.{IsRising};
+ghost use Rattle.reads.specs.Reads.{View as Dataset, says, applied};
+ghost use Rattle.version_overlay.specs.Settled.{part_or};
+
+use datasets::{Id, Quad, QuadPattern, Read};
+use delta::Delta;
+use quad_index::{Arrangement, Index};
+use reads::lists::{copied_quads, quads_union};
+use reads::{Scanned, View};
+use sets::is_member;
+use std::alloc::{AllocError, Global};
+use std::marker::Model;
+
+/// With fewer present quads a search of them all is as fast as one by an order.
+const WORTH_ORDERS: usize = 32;
+
+/// A change whose present quads are found by binary search. Contracts see the change.
+#[derive(Drop)]
+pub struct Level {
+    change: Delta,
+    present: Index,
+}
+
+impl Model for Level {
+    ghost use Rattle.std.specs.Prelude.{◌≡◌};
+    ghost use Rattle.reads.specs.Reads.{Delta};
+
+    ghost Value = { Delta };
+
+    ghost view = { λ l. l.change };
+
+    ghost invariant = { λ l. l.present.quads ≡ l.change.present };
+}
+
+impl Level {
+    /// This change, its present quads in these orders beside SPOG where they are many. An error comes only where memory runs out.
+    pub fn new(alloc: Global, change: Delta, orders: &[Arrangement]) -> Result<Level, AllocError>
+        ensures { IfOk result (λ level. level ≡ change) }
+    {
+        let quads = copied_quads(alloc, change.present())?;
+        let orders = if quads.len() < WORTH_ORDERS {
+            &orders[0..0]
+        } else {
+            orders
+        };
+        let present = Index::new(alloc, quads, orders)?;
+        Ok(Level { change, present })
+    }
+
+    /// The change.
+    pub fn change(&self) -> &Delta
+        ensures { result.now ≡ self.now }
+    {
+        &self.change
+    }
+
+    /// What is asked for of a dataset, if changes have changed it, with this change more, where that changes it.
+    pub fn part_after(
+        &self,
+        alloc: Global,
+        scanned: &Scanned<'_>,
+        part: Option<View>,
+    ) -> Result<Option<View>, AllocError>
+        ensures { IfOk result (λ next. (d : Dataset) → IsRising id_order d → says scanned.now.read (part_or scanned.now.dataset part) ≡ says scanned.now.read d → says scanned.now.read (part_or scanned.now.dataset next) ≡ says scanned.now.read (applied self.now d)) }
+    {
+        match scanned.read() {
+            Read::Scan(pattern) => self.scan_after(alloc, scanned, pattern, part),
+            Read::GraphIs(_) => changed_part(alloc, scanned, &self.change, part),
+            Read::Graphs => changed_part(alloc, scanned, &self.change, part),
+        }
+    }
+
+    // The same, where the read is a scan. What comes is found by binary search, and what goes is looked for among what is there.
+    fn scan_after(
+        &self,
+        alloc: Global,
+        scanned: &Scanned<'_>,
+        pattern: &QuadPattern<Id>,
+        part: Option<View>,
+    ) -> Result<Option<View>, AllocError>
+        requires { scanned.now.read ≡ Read.Scan pattern.now }
+        ensures { IfOk result (λ next. (d : Dataset) → IsRising id_order d → says scanned.now.read (part_or scanned.now.dataset part) ≡ says scanned.now.read d → says scanned.now.read (part_or scanned.now.dataset next) ≡ says scanned.now.read (applied self.now d)) }
+    {
+        let coming = self.present.scan(alloc, pattern)?;
+        let going = self.change.absent();
+        if coming.is_empty() && !is_any_gone(alloc, scanned, pattern, &part, going)? {
+            return Ok(part);
+        }
+        let (quads, _names) = part_of(alloc, scanned, part)?.into_parts();
+        let quads = quads_union(quads_without(quads, going), coming)?;
+        Ok(Some(View::from_sets(quads, Vec::new(alloc))))
+    }
+}
+
+// What is asked for of a dataset, if changes have changed it, with one change more, where that covers the read.
+fn changed_part(
+    alloc: Global,
+    scanned: &Scanned<'_>,
+    delta: &Delta,
+    part: Option<View>,
+) -> Result<Option<View>, AllocError>
+    ensures { IfOk result (λ next. (d : Dataset) → IsRising id_order d → says scanned.now.read (part_or scanned.now.dataset part) ≡ says scanned.now.read d → says scanned.now.read (part_or scanned.now.dataset next) ≡ says scanned.now.read (applied delta.now d)) }
+{
+    let read = scanned.read();
+    if !delta.covers(read) {
+        return Ok(part);
+    }
+    let part = part_of(alloc, scanned, part)?;
+    let next = delta.asked(alloc, read)?.apply(alloc, part)?;
+    Ok(Some(next))
+}
+
+// What is asked for of the dataset, where no change has changed it yet, or what is left of it.
+fn part_of(alloc: Global, scanned: &Scanned<'_>, part: Option<View>) -> Result<View, AllocError>
+    ensures { IfOk result (λ found. says scanned.now.read found ≡ says scanned.now.read (part_or scanned.now.dataset part)) }
+{
+    match part {
+        Some(part) => Ok(part),
+        None => scanned.part(alloc),
+    }
+}
+
+// Whether any quad that is asked for may be one of a set's.
+fn is_any_gone(
+    alloc: Global,
+    scanned: &Scanned<'_>,
+    pattern: &QuadPattern<Id>,
+    part: &Option<View>,
+    going: &[Quad<Id>],
+) -> Result<bool, AllocError>
+    requires scan { scanned.now.read ≡ Read.Scan pattern.now }
+    requires set { IsStrictlySortedBy (quad_order id_order) going.now }
+    ensures { IfOk result (λ so. so ≡ false → (q : Named Number) → has (quad_order id_order) (filter (matches id_order pattern.now) (part_or scanned.now.dataset part.now).quads) q ≡ true → has (quad_order id_order) going.now q ≡ false) }
+{
+    match part {
+        Some(view) => {
+            view.rises();
+            Ok(have_common(view.quads(), going))
+        }
+        None => is_any_told_gone(alloc, scanned, pattern, going),
+    }
+}
+
+// Whether any quad that the scan says of the dataset may be one of a set's.
+fn is_any_told_gone(
+    alloc: Global,
+    scanned: &Scanned<'_>,
+    pattern: &QuadPattern<Id>,
+    going: &[Quad<Id>],
+) -> Result<bool, AllocError>
+    requires scan { scanned.now.read ≡ Read.Scan pattern.now }
+    requires set { IsStrictlySortedBy (quad_order id_order) going.now }
+    ensures { IfOk result (λ so. so ≡ false → (q : Named Number) → has (quad_order id_order) (filter (matches id_order pattern.now) scanned.now.dataset.quads) q ≡ true → has (quad_order id_order) going.now q ≡ false) }
+{
+    let _ = pattern;
+    scanned.rises();
+    let answer = scanned.answer(alloc)?;
+    match answer.quads() {
+        Some(quads) => Ok(have_common(quads, going)),
+        None => Ok(true),
+    }
+}
+
+// Whether two sets of quads have a quad in common. Those of the smaller one are looked for in the other.
+fn have_common(first: &[Quad<Id>], second: &[Quad<Id>]) -> bool
+    requires first { IsStrictlySortedBy (quad_order id_order) first.now }
+    requires second { IsStrictlySortedBy (quad_order id_order) second.now }
+    ensures { result ≡ false → (q : Named Number) → has (quad_order id_order) first.now q ≡ true → has (quad_order id_order) second.now q ≡ false }
+{
+    if first.len() <= second.len() {
+        is_any_in(first, second)
+    } else {
+        is_any_in(second, first)
+    }
+}
+
+// Whether any of these quads is one of a set's.
+fn is_any_in(quads: &[Quad<Id>], set: &[Quad<Id>]) -> bool
+    requires { IsStrictlySortedBy (quad_order id_order) set.now }
+    ensures { result ≡ list_any (λ q. has (quad_order id_order) set.now q) quads.now }
+{
+    quads.iter().any(|quad| is_member(set, quad))
+}
+
+// The quads that are none of a set's.
+fn quads_without(mut quads: Vec<Quad<Id>>, others: &[Quad<Id>]) -> Vec<Quad<Id>>
+    requires { IsStrictlySortedBy (quad_order id_order) others.now }
+    ensures { result.items ≡ without (quad_order id_order) quads.items others.now }
+{
+    quads.retain(|quad| !is_member(others, quad));
+    quads
+}

@@ -1,0 +1,173 @@
+//! The changes of the requests that are committed, which will not change again.
+//!
+//! They lie in levels, the oldest first. Each but the last two is more than twice as long as the next, so a read looks at few of them, and
+//! what a change speaks of is copied about as often as there are levels.
+ghost use Rattle.std.specs.Prelude.{◌≡◌, ◌≤◌, ◌+◌, true, false, [], length, vec_len, IfOk, OnOk, OnErr, IsTrue};
+ghost use Rattle.datasets.specs.Id.{id_order};
+ghost use Rattle.change_laws.specs.Laws.{IsRising};
+ghost use Rattle.reads.specs.Reads.{View as Dataset, says, applied, no_change};
+ghost use Rattle.version_overlay.specs.Settled.{changed_by, part_or};
+
+use crate::filters::put_all;
+use crate::level::Level;
+use datasets::{Id, Read};
+use delta::Delta;
+use quad_index::{Arrangement, SeenQuads};
+use reads::{Scanned, View};
+use std::alloc::{AllocError, Global};
+use std::marker::Model;
+
+/// Changes that will not change again, one after another, as one. A filter stands before them.
+#[derive(Drop)]
+pub struct Settled {
+    orders: Vec<Arrangement>,
+    seen: SeenQuads,
+    levels: Vec<Level>,
+}
+
+impl Model for Settled {
+    ghost use Rattle.std.specs.Prelude.{List};
+    ghost use Rattle.reads.specs.Reads.{Delta};
+    ghost use Rattle.version_overlay.specs.Settled.{StopsUnchanged};
+
+    ghost Value = { List Delta };
+
+    ghost view = { λ s. s.levels.items };
+
+    ghost invariant = { λ s. StopsUnchanged s.seen s.levels.items };
+}
+
+impl Settled {
+    /// No change yet. The quads of those that come are kept in these orders, beside SPOG. An error comes only where memory runs out.
+    pub fn new(alloc: Global, orders: &[Arrangement]) -> Result<Settled, AllocError>
+        ensures { IfOk result (λ settled. settled ≡ []) }
+    {
+        let orders = Vec::from_slice(alloc, orders)?;
+        Ok(Settled {
+            orders,
+            seen: SeenQuads::new(alloc),
+            levels: Vec::new(alloc),
+        })
+    }
+
+    /// One more change, after the others. After want of memory they make of a dataset what they made. One that speaks of nothing adds
+    /// nothing, but for the first, which makes sets of what it is applied to.
+    pub fn push(&mut self, alloc: Global, delta: &Delta) -> Result<(), AllocError>
+        ensures ok { OnOk result ((d : Dataset) → changed_by self.new d ≡ applied delta.now (changed_by self.old d)) }
+        ensures err { OnErr result ((d : Dataset) → changed_by self.new d ≡ changed_by self.old d) }
+    {
+        if !self.levels.is_empty() && says_nothing(delta) {
+            return Ok(());
+        }
+        put_all(&mut self.seen, delta)?;
+        let level = Level::new(alloc, delta.copied(alloc)?, &self.orders)?;
+        self.levels.push(level)?;
+        join_alike(alloc, &mut self.levels, &self.orders);
+        Ok(())
+    }
+
+    // Whether the changes may have changed what the read says.
+    fn may_say_else(&self, read: &Read<Id>) -> bool
+        ensures { result ≡ false → (d : Dataset) → IsRising id_order d → says read.now (changed_by self.now d) ≡ says read.now d }
+    {
+        match read {
+            Read::Scan(pattern) => self.seen.may_match(pattern),
+            Read::GraphIs(_) => true,
+            Read::Graphs => true,
+        }
+    }
+
+    /// The part of the dataset after the changes that a read asks for, from what it says of the dataset: none where they don't speak of it.
+    pub fn part(&self, alloc: Global, scanned: &Scanned<'_>) -> Result<Option<View>, AllocError>
+        ensures { IfOk result (λ part. says scanned.now.read (part_or scanned.now.dataset part) ≡ says scanned.now.read (changed_by self.now scanned.now.dataset)) }
+    {
+        scanned.rises();
+        if !self.may_say_else(scanned.read()) {
+            return Ok(None);
+        }
+        let mut part = None;
+        for level in &self.levels {
+            part = level.part_after(alloc, scanned, part)?;
+        }
+        Ok(part)
+    }
+
+    /// The dataset after the changes. An error comes only where memory runs out.
+    pub fn apply(&self, alloc: Global, view: View) -> Result<View, AllocError>
+        ensures { IfOk result (λ after. after ≡ changed_by self.now view) }
+    {
+        match self.levels.as_slice() {
+            [] => Ok(view),
+            [first, later @ ..] => joined(alloc, first, later)?.apply(alloc, view),
+        }
+    }
+}
+
+// Whether a change speaks of nothing.
+fn says_nothing(delta: &Delta) -> bool
+    ensures { result ≡ true → delta.now ≡ no_change }
+{
+    delta.present().is_empty()
+        && delta.absent().is_empty()
+        && delta.there().is_empty()
+        && delta.gone().is_empty()
+}
+
+// The first change and then the later ones, as one.
+fn joined(alloc: Global, first: &Level, later: &[Level]) -> Result<Delta, AllocError>
+    ensures { IfOk result (λ change. (d : Dataset) → applied change d ≡ changed_by later.now (applied first.now d)) }
+{
+    let mut change = first.change().copied(alloc)?;
+    for level in later {
+        change = change.followed_by(alloc, level.change())?;
+    }
+    Ok(change)
+}
+
+// How many quads and names a level's change speaks of.
+fn size(level: &Level) -> usize {
+    let change = level.change();
+    let quads = change.present().len().saturating_add(change.absent().len());
+    let names = change.there().len().saturating_add(change.gone().len());
+    quads.saturating_add(names)
+}
+
+// Whether the last level but one is at most about twice as long as the last.
+fn ends_alike(levels: &[Level]) -> bool
+    ensures { IsTrue result → 2 ≤ length levels.now }
+{
+    match levels {
+        [.., earlier, later] => size(earlier) / 2 <= size(later),
+        _ => false,
+    }
+}
+
+// The last two levels become one. After want of memory they are as before.
+fn join_last(
+    alloc: Global,
+    levels: &mut Vec<Level>,
+    orders: &[Arrangement],
+) -> Result<(), AllocError>
+    requires { 2 ≤ vec_len levels.old }
+    ensures same { (d : Dataset) → changed_by levels.new.items d ≡ changed_by levels.old.items d }
+    ensures count { OnOk result (vec_len levels.new + 1 ≡ vec_len levels.old) }
+{
+    let last = levels.len() - 1;
+    let earlier = levels[last - 1].change().copied(alloc)?;
+    let change = earlier.followed_by(alloc, levels[last].change())?;
+    let level = Level::new(alloc, change, orders)?;
+    levels.pop();
+    levels[last - 1] = level;
+    Ok(())
+}
+
+// Joins the last two levels while they are alike in length, and there is memory.
+fn join_alike(alloc: Global, levels: &mut Vec<Level>, orders: &[Arrangement])
+    ensures { (d : Dataset) → changed_by levels.new.items d ≡ changed_by levels.old.items d }
+{
+    while ends_alike(levels) {
+        if join_last(alloc, levels, orders).is_err() {
+            break;
+        }
+    }
+}

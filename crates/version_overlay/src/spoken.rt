@@ -1,0 +1,80 @@
+//! Which requests may have spoken of what a read asks for, found without a look at all of them.
+//!
+//! There are two generations. Requests speak in the current one; an older one is dropped whole, once all its requests are settled, and the
+//! current one takes its place. So what is kept is of the requests that aren't settled, and of about as many more.
+ghost use Rattle.std.specs.Prelude.{◌≡◌, ◌≤◌, ◌==◌, ℕ, true, false, IfOk, OnOk};
+ghost use Rattle.std.specs.List.{list_any};
+ghost use Rattle.reads.specs.Reads.{Read as Asked, covers};
+ghost use Rattle.version_overlay.specs.Generation.{IsKept};
+
+use crate::filters::put_all;
+use crate::generation::Generation;
+use datasets::{Id, Read};
+use delta::Delta;
+use quad_index::SeenQuads;
+use std::alloc::{AllocError, Global};
+
+/// Which requests may have spoken of what. A filter stands before the generations, made once for all of them.
+#[derive(Drop)]
+pub struct Spoken {
+    seen: SeenQuads,
+    older: Generation,
+    current: Generation,
+    ghost older_kept: { IsKept seen older },
+    ghost current_kept: { IsKept seen current },
+}
+
+impl Spoken {
+    ghost use Rattle.version_overlay.specs.Spoken.{speaks};
+
+    /// Nobody has spoken. It takes no memory.
+    pub fn new(alloc: Global) -> Spoken
+        ensures { (read : Asked) (j : ℕ) → speaks result read j ≡ false }
+    {
+        Spoken {
+            seen: SeenQuads::new(alloc),
+            older: Generation::new(alloc),
+            current: Generation::new(alloc),
+        }
+    }
+
+    /// The request speaks of all that its delta covers. What was there stays, also where memory runs out.
+    pub fn put(&mut self, alloc: Global, delta: &Delta, request: usize) -> Result<(), AllocError>
+        ensures added { OnOk result ((read : Asked) → covers delta.now read ≡ true → speaks self.new read request ≡ true) }
+        ensures kept { (read : Asked) (j : ℕ) → speaks self.old read j ≡ true → speaks self.new read j ≡ true }
+    {
+        put_all(&mut self.seen, delta)?;
+        self.current.put(alloc, delta, request)
+    }
+
+    /// The requests that may have spoken of what the read asks for, in any order and with repeats: none of them is missing.
+    pub fn requests(&self, alloc: Global, read: &Read<Id>) -> Result<Vec<usize>, AllocError>
+        ensures { IfOk result (λ found. (j : ℕ) → speaks self.now read.now j ≡ true → list_any (λ r. r == j) found.items ≡ true) }
+    {
+        if let Read::Scan(pattern) = read {
+            if !self.seen.may_match(pattern) {
+                return Ok(Vec::new(alloc));
+            }
+        }
+        let mut found = self.older.requests(alloc, read)?;
+        found.append(&mut self.current.requests(alloc, read)?)?;
+        Ok(found)
+    }
+
+    /// Forgets of requests below `low` what it can. What the others spoke of stays.
+    pub fn forget_below(&mut self, alloc: Global, low: usize)
+        ensures { (read : Asked) (j : ℕ) → low ≤ j → speaks self.old read j ≡ true → speaks self.new read j ≡ true }
+    {
+        self.drop_older_below(alloc, low);
+        self.drop_older_below(alloc, low);
+    }
+
+    // Drops the older generation if all its requests are below `low`. The current one takes its place.
+    fn drop_older_below(&mut self, alloc: Global, low: usize)
+        ensures { (read : Asked) (j : ℕ) → low ≤ j → speaks self.old read j ≡ true → speaks self.new read j ≡ true }
+    {
+        if self.older.highest < low {
+            self.older = std::mem::replace(&mut self.current, Generation::new(alloc));
+        }
+    }
+}
