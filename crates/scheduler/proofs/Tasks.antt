@@ -1,13 +1,11 @@
 -- What can be done for a request is lawful, and what is lawful can be done.
-use Rattle.std.proofs.Common.{◌≡◌, ℕ, zero, suc, ◌<◌, ◌≤◌, ◌⊎◌, inl, inr, Bool, true, false, ◌&&◌, List, [], ◌∷◌, length, Option, Some, None, is_some, max, ◌+◌, refl, sym, ap, ◌∙◌, subst, arith, eq-eqb, eqb-true, leb-true}
+use Rattle.std.proofs.Common.{◌≡◌, ℕ, zero, suc, ◌<◌, ◌≤◌, ◌⊎◌, inl, inr, Bool, true, false, ◌&&◌, List, [], ◌∷◌, Option, Some, None, is_some, refl, sym, ap, ◌∙◌, subst, arith, eq-eqb, eqb-true}
 use Rattle.std.specs.Prelude.{◌==◌, ◌||◌, not, IfSome}
-use Rattle.std.specs.Cmp.{both_ways}
-use Rattle.std.proofs.lemmas.List.{get_or_default}
 use Rattle.std.proofs.lemmas.Bool.{cases_lt, false≢true, and_parts, and_from}
 use Rattle.std.proofs.lemmas.Option.{none-some, same_Some}
 use Rattle.block_machine.specs.declared.state.Status.{Status}
 use Rattle.block_machine.specs.declared.state.Status.TheVariants.{Ready, Executing, Executed, Committed}
-use Rattle.block_machine.specs.Machine.{Slot, State, fresh_slot, can_commit, is_closed, is_current, is_executed, is_stamped, slot_at, status_of}
+use Rattle.block_machine.specs.Machine.{Slot, State, can_commit, is_closed, is_executed, is_stamped, slot_at, status_of}
 use Rattle.block_machine.specs.Waiting.{can_go_on, has_work, IsLeastWork}
 use Rattle.scheduler.specs.declared.task.Task.{Task}
 use Rattle.scheduler.specs.declared.task.Task.TheVariants as task

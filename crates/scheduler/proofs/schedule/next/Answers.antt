@@ -1,6 +1,6 @@
 use Rattle.std.proofs.Common.{refl}
 use Rattle.book.specs.Run.{state_of}
-use Rattle.scheduler.proofs.Tasks.{next_none, next_some}
+use Rattle.scheduler.proofs.Tasks.{next_some}
 use Rattle.scheduler.proofs.schedule.next.Goals as goal
 
 pub returns : goal.returns
