@@ -1,15 +1,13 @@
 -- Slots are looked at by their publications alone, whatever is read of their notes.
-use Rattle.std.proofs.Common.{◌≡◌, ℕ, zero, suc, Bool, ◌&&◌, List, [], ◌∷◌, ◌++◌, map, Option, Some, None, option_map, slice_get, slice_index_or, option_to_list, length, refl, sym, ap, ◌∙◌, ◌<◌}
+use Rattle.std.proofs.Common.{◌≡◌, ℕ, zero, suc, ◌&&◌, List, [], ◌∷◌, ◌++◌, map, Some, option_map, slice_get, slice_index_or, option_to_list, length, refl, sym, ap, ◌∙◌, ◌<◌}
 use Rattle.std.specs.Prelude.{if◌then◌else◌}
 use Rattle.std.proofs.lemmas.List.{get_or_default}
-use Rattle.meaning.specs.declared.reply.Reply as request
-use Rattle.reads.specs.Reads.{View, Delta, Read, says, applied, covers}
+use Rattle.reads.specs.Reads.{View, Read, says, applied, covers}
 use Rattle.block_machine.specs.declared.state.Noted.{Noted as KeptNote}
 use Rattle.block_machine.specs.declared.state.Slot.{Slot as KeptSlot}
-use Rattle.block_machine.specs.declared.state.Status.{Status}
 use Rattle.block_machine.specs.declared.validate.Verdict.{Verdict}
 use Rattle.block_machine.specs.declared.validate.Verdict.TheVariants as verdict
-use Rattle.block_machine.specs.Machine.{Noted, Slot, fresh_slot, slot_at, status_of, view_at, blocker, touching, NoteVerdict, ListVerdict}
+use Rattle.block_machine.specs.Machine.{Noted, Slot, slot_at, status_of, view_at, blocker, touching, NoteVerdict, ListVerdict}
 use Rattle.block_machine.specs.Kept.{slot_by, plain, shown, whole, slots_of, fresh_kept}
 use Rattle.block_machine.specs.Serial.{replies_to}
 

@@ -1,12 +1,11 @@
 -- How a changed slot keeps what is kept, and changes what that stands for.
-use Rattle.std.proofs.Common.{◌≡◌, ◌≢◌, ℕ, zero, suc, ◌<◌, ◌≤◌, ◌+◌, inl, inr, Bool, true, false, ◌&&◌, List, [], ◌∷◌, ◌++◌, length, map, replicate, Option, Some, None, slice_get, slice_set, slice_index_or, refl, sym, ap, ◌∙◌, subst, arith, append_assoc}
+use Rattle.std.proofs.Common.{◌≡◌, ◌≢◌, ℕ, zero, suc, ◌<◌, ◌≤◌, ◌+◌, inl, inr, Bool, true, false, ◌&&◌, List, [], ◌∷◌, ◌++◌, length, map, replicate, Option, Some, None, slice_get, slice_set, slice_index_or, refl, sym, ap, ◌∙◌, subst, arith}
 use Rattle.std.specs.Prelude.{if◌then◌else◌, option_map}
 use Rattle.std.proofs.lemmas.Bool.{cases_lt, cases_eq, false≢true}
 use Rattle.std.proofs.lemmas.List.{length-map, length-set, map-set, map-append}
 use Rattle.std.proofs.lemmas.Option.{slice_get_within}
 use Rattle.datasets.specs.declared.read.Read.TheVariants.{Scan, GraphIs, Graphs}
-use Rattle.reads.specs.Reads.{View, Delta, Read, Answer, says, applied, covers, no_change}
-use Rattle.reads.specs.declared.note.Note.{Note}
+use Rattle.reads.specs.Reads.{View, Delta, Read, says, applied, covers, no_change}
 use Rattle.version_overlay.specs.Settled.{changed_by}
 use Rattle.block_machine.specs.declared.state.Noted.{Noted as KeptNote}
 use Rattle.block_machine.specs.declared.state.Slot.{Slot as KeptSlot}
@@ -14,7 +13,7 @@ use Rattle.block_machine.specs.declared.validate.Verdict.{Verdict}
 use Rattle.block_machine.specs.declared.state.Pass.{Pass}
 use Rattle.block_machine.specs.declared.state.Status.{Status}
 use Rattle.block_machine.specs.declared.state.Status.TheVariants.{Ready, Executing, Executed, Committed as HasCommitted}
-use Rattle.block_machine.specs.Machine.{Noted, Slot, fresh_slot, slot_at, status_of, view_at, blocker, touching, is_closed, NoteVerdict, ListVerdict, note_now, note_of, transcript_of, with_note, begun, passed, committed}
+use Rattle.block_machine.specs.Machine.{Noted, Slot, fresh_slot, slot_at, status_of, view_at, blocker, touching, is_closed, NoteVerdict, ListVerdict, note_now, transcript_of, with_note, begun, passed, committed}
 use Rattle.block_machine.specs.Lower.{Knows}
 use Rattle.block_machine.specs.Kept.{slot_by, plain, shown, whole, slots_of, kept_note_of, may_estimate, IsCalm, LowNotes, LowSlots, IsKept, fresh_kept}
 use Rattle.block_machine.proofs.Alike.{kept_at, by_at, kept_is, is_slot, at_slot, status_shown, view_shown, blocker_shown, touching_shown, answers_shown, lists_shown}

@@ -1,11 +1,11 @@
 -- How an event keeps what the machine has beside its state.
-use Rattle.std.proofs.Common.{◌≡◌, ℕ, ◌<◌, ◌+◌, false, true, List, length, map, max, Some, slice_set, slice_get, slice_index_or, refl, sym, ap, ◌∙◌, subst}
+use Rattle.std.proofs.Common.{◌≡◌, ℕ, ◌+◌, false, true, List, max, slice_set, refl, sym, ap, ◌∙◌, subst}
 use Rattle.std.proofs.lemmas.List.{get_or_default}
 use Rattle.stamp_tree.specs.declared.standing.Standing.{Standing}
 use Rattle.reads.specs.Reads.{View, Read}
 use Rattle.block_machine.specs.declared.found.Asked.{Asked}
 use Rattle.block_machine.specs.declared.found.Asked.TheVariants as asked
-use Rattle.block_machine.specs.Machine.{Noted, Slot, State, fresh_slot, slot_at, status_of, is_closed, can_commit, with_note, committed}
+use Rattle.block_machine.specs.Machine.{Slot, State, fresh_slot, slot_at, status_of, is_closed, can_commit, committed}
 use Rattle.block_machine.specs.Kept.{IsAsked}
 use Rattle.block_machine.specs.Lower.{KeepsBeside}
 use Rattle.block_machine.specs.Waiting.{standing_of}

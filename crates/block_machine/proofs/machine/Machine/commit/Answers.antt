@@ -1,4 +1,4 @@
-use Rattle.std.proofs.Common.{refl, ap, sym, ◌∙◌, max, arith}
+use Rattle.std.proofs.Common.{ap, sym, ◌∙◌, max, arith}
 use Rattle.block_machine.specs.Machine.{State, is_closed}
 use Rattle.block_machine.proofs.Keeps.{front_in}
 use Rattle.block_machine.proofs.Steps.{keeps_front}

@@ -1,4 +1,4 @@
-use Rattle.std.proofs.Common.{refl, ap, sym}
+use Rattle.std.proofs.Common.{refl}
 use Rattle.block_machine.proofs.Keeps.{keeps_new}
 use Rattle.block_machine.proofs.Standings.{standings_new}
 use Rattle.block_machine.specs.Machine.{fresh_slot}

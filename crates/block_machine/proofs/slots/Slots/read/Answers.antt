@@ -1,9 +1,8 @@
-use Rattle.std.proofs.Common.{◌≡◌, ◌∙◌, ◌++◌, ◌∷◌, [], List, Some, slice_set, refl, sym, ap, subst, arith}
-use Rattle.reads.specs.Reads.{says}
+use Rattle.std.proofs.Common.{◌∙◌, ◌++◌, ◌∷◌, [], slice_set, refl, sym, ap, subst, arith}
 use Rattle.version_overlay.specs.Spoken.{speaks}
 use Rattle.block_machine.specs.declared.state.Slot.{Slot as KeptSlot}
 use Rattle.block_machine.specs.Machine.{Noted, Slot, slot_at, with_note}
-use Rattle.block_machine.specs.Kept.{IsFound, plain, slot_by}
+use Rattle.block_machine.specs.Kept.{IsFound}
 use Rattle.block_machine.proofs.Keeping.{from_low, in_block, blocker_is, now_is, view_set, kept_set, kept_again, noted_by, low_same, low_append, lows_of}
 use Rattle.block_machine.proofs.slots.Slots.read.Goals as goal
 
