@@ -1,15 +1,17 @@
 //! What requests are refused for.
-ghost use Rattle.std.specs.Prelude.{◌≡◌, ◌||◌, ◌^◌, nat_lt, IfOk};
+ghost use Rattle.std.specs.Prelude.{◌≡◌, ◌||◌, ◌^◌, [], nat_lt, IfOk, OnOk};
 ghost use Rattle.std.specs.List.{list_any};
-ghost use Rattle.std.specs.Prelude.{[]};
-ghost use Rattle.names.specs.Numbers.{labels_of, is_label_in};
-ghost use Rattle.faults.specs.Faults.{is_lang_literal, is_lang_node, is_undeclared, is_undeclared_literal, is_undeclared_node, is_variable, is_blank, data_of, deleted_of, inserted_of, is_refused, any_refused, is_reused_after, operation_count, has_fault};
+ghost use Rattle.meaning.specs.declared.reply.Refusal.TheVariants as refusal;
+ghost use Rattle.names.specs.Numbers.{labels_of, is_label_in, with_labels};
+ghost use Rattle.nodes.specs.Nodes.{nodes_of_operation};
+ghost use Rattle.faults.specs.Faults.{is_lang_literal, is_lang_node, is_undeclared, is_undeclared_literal, is_undeclared_node, is_variable, is_blank, is_refused, inserted_labels, operation_count};
+ghost use Rattle.faults.specs.Kinds.{AreKindsAt, AreKindsIn};
 
-use meaning::Refusal;
+use crate::kinds::Kinds;
 use names::{Labels, Prefixes};
 use nodes::{block_nodes, operation_nodes};
 use std::alloc::{AllocError, Global};
-use syntax_trees::{Block, Literal, Node, Operation, Step, Syntax};
+use syntax_trees::{Literal, Node, Operation, Step, Syntax};
 
 /// How many bytes a request has at most.
 const MOST_BYTES: usize = 1 << 20;
@@ -104,80 +106,34 @@ fn any_blank(nodes: &[Node<'_>]) -> bool
     nodes.iter().any(|node| is_blank(node))
 }
 
-fn data_of<'t, 'a>(operation: &'t Operation<'a>) -> &'t [Block<'a>]
-    ensures { result.now ≡ data_of operation.now }
+// Whether data has a variable, of the nodes of an operation.
+fn has_variable_in_data<'a>(operation: &Operation<'a>, nodes: &[Node<'a>]) -> bool
+    requires { nodes.now ≡ nodes_of_operation operation.now }
+    ensures { (result ≡ is_refused refusal.VariableInData [] operation.now) }
 {
     match operation {
-        Operation::InsertData(quads) | Operation::DeleteData(quads) => quads.as_slice(),
-        _ => &[],
+        Operation::InsertData(_) | Operation::DeleteData(_) => any_variable(nodes),
+        _ => false,
     }
 }
 
-fn deleted_of<'t, 'a>(operation: &'t Operation<'a>) -> &'t [Block<'a>]
-    ensures { result.now ≡ deleted_of operation.now }
-{
-    match operation {
-        Operation::DeleteData(quads) | Operation::DeleteWhere(quads) => quads.as_slice(),
-        Operation::Modify { delete, .. } => delete.as_slice(),
-        _ => &[],
-    }
-}
-
-fn inserted_of<'t, 'a>(operation: &'t Operation<'a>) -> &'t [Block<'a>]
-    ensures { result.now ≡ inserted_of operation.now }
-{
-    match operation {
-        Operation::InsertData(quads) => quads.as_slice(),
-        _ => &[],
-    }
-}
-
-/// Whether an operation is refused for a kind of fault.
-fn is_refused<'a>(
+// Whether a deletion has a blank node, of the nodes of an operation.
+fn has_blank_in_delete<'a>(
     alloc: Global,
-    kind: Refusal,
-    prefixes: &Prefixes<'a>,
     operation: &Operation<'a>,
+    nodes: &[Node<'a>],
 ) -> Result<bool, AllocError>
-    ensures { IfOk result (λ is. is ≡ is_refused kind prefixes.now operation.now) }
+    requires { nodes.now ≡ nodes_of_operation operation.now }
+    ensures { IfOk result (λ is. is ≡ is_refused refusal.BlankInDelete [] operation.now) }
 {
-    match kind {
-        Refusal::Syntax => {
-            let nodes = operation_nodes(alloc, operation)?;
-            Ok(any_lang(prefixes, nodes.as_slice()))
+    match operation {
+        Operation::DeleteData(_) | Operation::DeleteWhere(_) => Ok(any_blank(nodes)),
+        Operation::Modify { delete, .. } => {
+            let deleted = block_nodes(alloc, delete.as_slice())?;
+            Ok(any_blank(deleted.as_slice()))
         }
-        Refusal::Prefix => {
-            let nodes = operation_nodes(alloc, operation)?;
-            Ok(any_undeclared(prefixes, nodes.as_slice()))
-        }
-        Refusal::VariableInData => {
-            let nodes = block_nodes(alloc, data_of(operation))?;
-            Ok(any_variable(nodes.as_slice()))
-        }
-        Refusal::BlankInDelete => {
-            let nodes = block_nodes(alloc, deleted_of(operation))?;
-            Ok(any_blank(nodes.as_slice()))
-        }
-        Refusal::LabelReused | Refusal::Limit => Ok(false),
+        _ => Ok(false),
     }
-}
-
-/// Whether one of the operations is refused for a kind of fault.
-fn any_refused(alloc: Global, kind: Refusal, steps: &[Step<'_>]) -> Result<bool, AllocError>
-    ensures { IfOk result (λ is. is ≡ any_refused kind [] steps.now) }
-{
-    let mut prefixes = Prefixes::new(alloc);
-    for step in steps {
-        match step {
-            Step::Declare { prefix, iri } => prefixes.declare(prefix, iri)?,
-            Step::Do(operation) => {
-                if is_refused(alloc, kind, &prefixes, operation)? {
-                    return Ok(true);
-                }
-            }
-        }
-    }
-    Ok(false)
 }
 
 /// Whether one of the labels among nodes has a number.
@@ -194,21 +150,51 @@ fn any_known<'a>(known: &Labels<'a>, nodes: &[Node<'a>]) -> bool
     false
 }
 
-/// Whether an INSERT DATA has a label of an earlier one.
-fn is_label_reused(alloc: Global, steps: &[Step<'_>]) -> Result<bool, AllocError>
-    ensures { IfOk result (λ is. is ≡ is_reused_after [] steps.now) }
+// Whether an INSERT DATA has a label of those that were seen, of the nodes of an operation.
+fn has_reused_label<'a>(seen: &Labels<'a>, operation: &Operation<'a>, nodes: &[Node<'a>]) -> bool
+    requires { nodes.now ≡ nodes_of_operation operation.now }
+    ensures { result ≡ list_any (is_label_in seen.now) (inserted_labels operation.now) }
 {
-    let mut seen = Labels::new(alloc);
-    for step in steps {
-        if let Step::Do(operation) = step {
-            let nodes = block_nodes(alloc, inserted_of(operation))?;
-            if any_known(&seen, nodes.as_slice()) {
-                return Ok(true);
-            }
-            seen.add_nodes(nodes.as_slice())?;
-        }
+    match operation {
+        Operation::InsertData(_) => any_known(seen, nodes),
+        _ => false,
     }
-    Ok(false)
+}
+
+// Adds the labels of an INSERT DATA to those that were seen.
+fn see_labels<'a>(
+    seen: &mut Labels<'a>,
+    operation: &Operation<'a>,
+    nodes: &[Node<'a>],
+) -> Result<(), AllocError>
+    requires { nodes.now ≡ nodes_of_operation operation.now }
+    ensures { OnOk result (seen.new ≡ with_labels (inserted_labels operation.now) seen.old) }
+{
+    match operation {
+        Operation::InsertData(_) => seen.add_nodes(nodes),
+        _ => Ok(()),
+    }
+}
+
+// What an operation is refused for, of its nodes, after these declarations and labels.
+fn kinds_of<'a>(
+    alloc: Global,
+    prefixes: &Prefixes<'a>,
+    seen: &Labels<'a>,
+    operation: &Operation<'a>,
+    nodes: &[Node<'a>],
+) -> Result<Kinds, AllocError>
+    requires { nodes.now ≡ nodes_of_operation operation.now }
+    ensures { IfOk result (AreKindsAt prefixes.now seen.now operation.now) }
+{
+    Ok(Kinds {
+        syntax: any_lang(prefixes, nodes),
+        prefix: any_undeclared(prefixes, nodes),
+        variable_in_data: has_variable_in_data(operation, nodes),
+        blank_in_delete: has_blank_in_delete(alloc, operation, nodes)?,
+        label_reused: has_reused_label(seen, operation, nodes),
+        limit: false,
+    })
 }
 
 /// How many operations a request has.
@@ -231,16 +217,26 @@ fn is_over(bytes: usize, operations: usize) -> bool
     bytes > MOST_BYTES || operations > MOST_OPERATIONS
 }
 
-/// Whether a request is refused for a kind of fault (SPARQL 1.1 Update, 19.8, notes 8 to 12, and the limits of this program). An error comes
-/// only where a growth was refused, or where INSERT DATA has 2^32 labels.
-pub fn has_fault(alloc: Global, kind: Refusal, syntax: &Syntax<'_>) -> Result<bool, AllocError>
-    ensures { IfOk result (λ has. has ≡ has_fault kind syntax.now) }
+/// The kinds of fault that a request is refused for (SPARQL 1.1 Update, 19.8, notes 8 to 12, and the limits of this program), found in one
+/// walk. An error comes only where a growth was refused, or where INSERT DATA has 2^32 labels.
+#[tactic(auto, using(crate::proofs::KindLaws::none_left))]
+pub fn kinds_in(alloc: Global, syntax: &Syntax<'_>) -> Result<Kinds, AllocError>
+    ensures { IfOk result (AreKindsIn syntax.now) }
 {
     let steps = syntax.steps.as_slice();
-    match kind {
-        Refusal::Syntax | Refusal::Prefix | Refusal::VariableInData | Refusal::BlankInDelete =>
-            any_refused(alloc, kind, steps),
-        Refusal::LabelReused => is_label_reused(alloc, steps),
-        Refusal::Limit => Ok(is_over(syntax.length, operation_count(steps))),
+    let mut kinds = Kinds::new(is_over(syntax.length, operation_count(steps)));
+    let mut prefixes = Prefixes::new(alloc);
+    let mut seen = Labels::new(alloc);
+    for step in steps {
+        match step {
+            Step::Declare { prefix, iri } => prefixes.declare(prefix, iri)?,
+            Step::Do(operation) => {
+                let nodes = operation_nodes(alloc, operation)?;
+                let more = kinds_of(alloc, &prefixes, &seen, operation, nodes.as_slice())?;
+                kinds = kinds.with(more);
+                see_labels(&mut seen, operation, nodes.as_slice())?;
+            }
+        }
     }
+    Ok(kinds)
 }

@@ -1,8 +1,10 @@
 //! What requests are refused for.
 //!
-//! Stands on `nodes`, `names` and `meaning`. Used above: `has_fault` says whether a kind of fault is in a request.
+//! Stands on `nodes`, `names` and `meaning`. Used above: `kinds_in` tells which kinds of fault are in a request.
 #![tactic(auto)]
 
 mod faults;
+mod kinds;
 
-pub use faults::has_fault;
+pub use faults::kinds_in;
+pub use kinds::Kinds;

@@ -3,7 +3,7 @@ ghost use Rattle.std.specs.Prelude.{IfOk};
 ghost use Rattle.rules.specs.Refusal.{IsFirstFault, IsVerdict, IsChecked, IsJudged};
 
 use algebra::Operation;
-use faults::has_fault;
+use faults::kinds_in;
 use grammar::parse;
 use meaning::{Refusal, Request};
 use sets::Items;
@@ -23,22 +23,23 @@ pub type Checked = Request<Term>;
 fn first_fault(alloc: Global, syntax: &Syntax<'_>) -> Result<Option<Refusal>, AllocError>
     ensures { IfOk result (IsFirstFault syntax.now) }
 {
-    if has_fault(alloc, Refusal::Syntax, syntax)? {
+    let kinds = kinds_in(alloc, syntax)?;
+    if kinds.syntax {
         return Ok(Some(Refusal::Syntax));
     }
-    if has_fault(alloc, Refusal::Prefix, syntax)? {
+    if kinds.prefix {
         return Ok(Some(Refusal::Prefix));
     }
-    if has_fault(alloc, Refusal::VariableInData, syntax)? {
+    if kinds.variable_in_data {
         return Ok(Some(Refusal::VariableInData));
     }
-    if has_fault(alloc, Refusal::BlankInDelete, syntax)? {
+    if kinds.blank_in_delete {
         return Ok(Some(Refusal::BlankInDelete));
     }
-    if has_fault(alloc, Refusal::LabelReused, syntax)? {
+    if kinds.label_reused {
         return Ok(Some(Refusal::LabelReused));
     }
-    if has_fault(alloc, Refusal::Limit, syntax)? {
+    if kinds.limit {
         return Ok(Some(Refusal::Limit));
     }
     Ok(None)
