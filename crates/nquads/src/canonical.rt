@@ -2,12 +2,16 @@
 ghost use Rattle.std.specs.Prelude.{◌≡◌, ◌++◌, ◌||◌, ℕ, true, not, map, filter, nat_eq, IfOk, OnOk};
 ghost use Rattle.std.specs.List.{flat_map, list_any, list_all};
 ghost use Rattle.std.specs.HashSet.{contains};
+ghost use Rattle.sets.specs.Sets.{set_of as set_of_lines};
+ghost use Rattle.terms.specs.Term.{text_cmp};
 ghost use Rattle.terms.specs.Canonical.{term_text};
 ghost use Rattle.terms.specs.Placed.{is_within, is_name_within, is_quad_within};
 ghost use Rattle.nquads.specs.Canonical.{ended, canonical as canonical_of};
 ghost use Rattle.nquads.specs.Placed.{text_at, graph_text_at, quad_text_at, graph_line_at, is_name_at, is_in_at};
 
+use crate::rising::rising_text;
 use crate::text_line::TextLine;
+use crate::text_order::{names_by_text, quads_by_text};
 use datasets::Quad;
 use sets::set_of;
 use std::alloc::{AllocError, Global};
@@ -48,19 +52,32 @@ fn push_graph(bytes: &mut Vec<u8>, texts: &[TextLine], graph: Option<u32>) -> Re
     }
 }
 
+/// Adds the line of a quad.
+pub(crate) fn push_quad(
+    bytes: &mut Vec<u8>,
+    texts: &[TextLine],
+    quad: &Quad<u32>,
+) -> Result<(), AllocError>
+    requires { is_quad_within texts.now quad.now ≡ true }
+    ensures { OnOk result (bytes.new.items ≡ bytes.old.items ++ quad_text_at texts.now quad.now) }
+{
+    push_term(bytes, texts, quad.subject)?;
+    bytes.extend_from_slice(b" ")?;
+    push_term(bytes, texts, quad.predicate)?;
+    bytes.extend_from_slice(b" ")?;
+    push_term(bytes, texts, quad.object)?;
+    push_graph(bytes, texts, quad.graph)?;
+    bytes.extend_from_slice(b" .")?;
+    Ok(())
+}
+
 /// The line of a quad.
 fn quad_line(alloc: Global, texts: &[TextLine], quad: &Quad<u32>) -> Result<TextLine, AllocError>
     requires { is_quad_within texts.now quad.now ≡ true }
     ensures { IfOk result (λ line. line ≡ quad_text_at texts.now quad.now) }
 {
     let mut bytes = Vec::new(alloc);
-    push_term(&mut bytes, texts, quad.subject)?;
-    bytes.extend_from_slice(b" ")?;
-    push_term(&mut bytes, texts, quad.predicate)?;
-    bytes.extend_from_slice(b" ")?;
-    push_term(&mut bytes, texts, quad.object)?;
-    push_graph(&mut bytes, texts, quad.graph)?;
-    bytes.extend_from_slice(b" .")?;
+    push_quad(&mut bytes, texts, quad)?;
     Ok(TextLine::new(bytes))
 }
 
@@ -80,14 +97,26 @@ fn quad_lines(
     Ok(lines)
 }
 
+/// Adds the line that declares a graph.
+pub(crate) fn push_graph_line(
+    bytes: &mut Vec<u8>,
+    texts: &[TextLine],
+    name: u32,
+) -> Result<(), AllocError>
+    requires { is_within texts.now name ≡ true }
+    ensures { OnOk result (bytes.new.items ≡ bytes.old.items ++ graph_line_at texts.now name) }
+{
+    bytes.extend_from_slice(b"#@graph ")?;
+    push_term(bytes, texts, name)
+}
+
 /// The line that declares a graph.
 fn graph_line(alloc: Global, texts: &[TextLine], name: u32) -> Result<TextLine, AllocError>
     requires { is_within texts.now name ≡ true }
     ensures { IfOk result (λ line. line ≡ graph_line_at texts.now name) }
 {
     let mut bytes = Vec::new(alloc);
-    bytes.extend_from_slice(b"#@graph ")?;
-    push_term(&mut bytes, texts, name)?;
+    push_graph_line(&mut bytes, texts, name)?;
     Ok(TextLine::new(bytes))
 }
 
@@ -143,6 +172,43 @@ fn joined(alloc: Global, lines: &[TextLine]) -> Result<Vec<u8>, AllocError>
     Ok(text)
 }
 
+/// The text of the lines of these quads and graphs, put in order.
+fn sorted_text(
+    alloc: Global,
+    texts: &[TextLine],
+    quads: &[Quad<u32>],
+    names: &[u32],
+    full: &HashSet<u32>,
+) -> Result<Vec<u8>, AllocError>
+    requires quads { list_all (is_quad_within texts.now) quads.now ≡ true }
+    requires names { list_all (is_within texts.now) names.now ≡ true }
+    ensures { IfOk result (λ text. text.items ≡ flat_map ended (set_of_lines text_cmp (map (quad_text_at texts.now) quads.now ++ map (graph_line_at texts.now) (filter (λ name. not (contains nat_eq full.now name)) names.now)))) }
+{
+    let mut lines = quad_lines(alloc, texts, quads)?;
+    push_graph_lines(alloc, &mut lines, texts, names, full)?;
+    joined(alloc, set_of(lines).as_slice())
+}
+
+/// The text of the lines of these quads and graphs. Lines in the order of their terms' texts rise, so they needn't be kept and put in order.
+fn text_of_lines(
+    alloc: Global,
+    texts: &[TextLine],
+    quads: &[Quad<u32>],
+    names: &[u32],
+    full: &HashSet<u32>,
+) -> Result<Vec<u8>, AllocError>
+    requires quads { list_all (is_quad_within texts.now) quads.now ≡ true }
+    requires names { list_all (is_within texts.now) names.now ≡ true }
+    ensures { IfOk result (λ text. text.items ≡ flat_map ended (set_of_lines text_cmp (map (quad_text_at texts.now) quads.now ++ map (graph_line_at texts.now) (filter (λ name. not (contains nat_eq full.now name)) names.now)))) }
+{
+    let quads_in_order = quads_by_text(alloc, texts, quads)?;
+    let names_in_order = names_by_text(alloc, texts, names)?;
+    match rising_text(alloc, texts, &quads_in_order, &names_in_order, full)? {
+        Some(text) => Ok(text),
+        None => sorted_text(alloc, texts, quads, names, full),
+    }
+}
+
 /// The canonical text of a dataset, where `tag` is in the labels of made nodes. It fails only where memory runs out.
 pub fn canonical_text(alloc: Global, dataset: &DataSet, tag: u32) -> Result<Vec<u8>, AllocError>
     ensures { IfOk result (λ text. text.items ≡ canonical_of dataset.now tag) }
@@ -152,8 +218,6 @@ pub fn canonical_text(alloc: Global, dataset: &DataSet, tag: u32) -> Result<Vec<
     let parts = dataset.parts();
     let texts = texts_of(alloc, parts.terms, tag)?;
     let full = full_graphs(alloc, parts.quads)?;
-    let mut lines = quad_lines(alloc, texts.as_slice(), parts.quads)?;
-    push_graph_lines(alloc, &mut lines, texts.as_slice(), parts.names, &full)?;
-    let text = joined(alloc, set_of(lines).as_slice())?;
+    let text = text_of_lines(alloc, texts.as_slice(), parts.quads, parts.names, &full)?;
     Ok(text)
 }

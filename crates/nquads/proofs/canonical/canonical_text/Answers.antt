@@ -13,29 +13,25 @@ use Rattle.nquads.proofs.CanonicalLaws.{canonical_is}
 use Rattle.nquads.proofs.PlacedLines.{quads_within, names_within, lines_are}
 use Rattle.nquads.proofs.canonical.canonical_text.Goals as goal
 
-pub quad_lines-requires : goal.quad_lines-requires
-quad_lines-requires c =
+pub text_of_lines-requires-clause-quads : goal.text_of_lines-requires-clause-quads
+text_of_lines-requires-clause-quads c =
     ap (λ ts. list_all (is_quad_within ts) c.parts-parts.result.quads.now) (c.as_slice.ensures.value ∙ c.in_ok-texts.ensures)
     ∙ quads_within c.parts-parts.result.terms.now c.args.tag c.parts-parts.result.quads.now ∙ c.parts-parts.ensures.within.0
 
-pub push_graph_lines-requires : goal.push_graph_lines-requires
-push_graph_lines-requires c =
-    ap (λ ts. list_all (is_within ts) c.parts-parts.result.names.now) (c.as_slice-2.ensures.value ∙ c.in_ok-texts.ensures)
+pub text_of_lines-requires-clause-names : goal.text_of_lines-requires-clause-names
+text_of_lines-requires-clause-names c =
+    ap (λ ts. list_all (is_within ts) c.parts-parts.result.names.now) (c.as_slice.ensures.value ∙ c.in_ok-texts.ensures)
     ∙ names_within c.parts-parts.result.terms.now c.args.tag c.parts-parts.result.names.now ∙ c.parts-parts.ensures.within.1
 
 pub returns : goal.returns
 returns c =
-    let made = c.in_ok-texts.ensures in
-    let first = c.as_slice.ensures.value ∙ made in
-    let second = c.as_slice-2.ensures.value ∙ made in
+    let texts_are = c.as_slice.ensures.value ∙ c.in_ok-texts.ensures in
     let terms = c.parts-parts.result.terms.now in
     let placed = c.parts-parts.result.quads.now in
-    let quads = c.in_ok-lines.ensures ∙ ap (λ ts. map (quad_text_at ts) placed) first in
-    let graphs_made = ap (λ ts. map (graph_line_at ts) (filter (λ p. not (contains nat_eq c.in_ok-full.full p)) c.parts-parts.result.names.now)) second in
     c.in_ok-text.ensures
-    ∙ ap (flat_map ended) (c.as_slice-3.ensures.value ∙ c.set_of.ensures ∙ ap (set_of text_cmp)
-    (c.in_ok-push_graph_lines.ensures ∙ (λ i. quads i ++ graphs_made i))
-    ∙ ap (set_of text_cmp) (lines_are terms c.args.tag c.parts-parts.ensures.once c.quads_name_their_graphs.ensures placed c.parts-parts.ensures.within.0
+    ∙ ap (flat_map ended) (ap (set_of text_cmp)
+    (ap (λ ts. map (quad_text_at ts) placed ++ map (graph_line_at ts) (filter (λ p. not (contains nat_eq c.in_ok-full.full p)) c.parts-parts.result.names.now)) texts_are
+    ∙ lines_are terms c.args.tag c.parts-parts.ensures.once c.quads_name_their_graphs.ensures placed c.parts-parts.ensures.within.0
     (λ p. contains nat_eq c.in_ok-full.full p) c.in_ok-full.ensures c.parts-parts.result.names.now c.parts-parts.ensures.within.1))
     ∙ canonical_is c.sets_pass_alike.ensures.quads c.sets_pass_alike.ensures.names c.quads_name_their_graphs.ensures c.args.dataset.now
     (map (quad_at terms) placed) (map (term_at terms) c.parts-parts.result.names.now) c.args.tag

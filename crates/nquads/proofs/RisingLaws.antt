@@ -1,0 +1,118 @@
+-- Lines that rise are the set of themselves, whatever the order in which they came before.
+use Rattle.std.specs.Prelude.{Bool, ◌&&◌, ◌||◌}
+use Rattle.std.proofs.Common.{◌≡◌, ℕ, ◌+◌, ◌<◌, true, false, cond, List, [], ◌∷◌, ◌++◌, length, get_or, take, map, filter, refl, sym, ap, ◌∙◌}
+use Rattle.std.specs.List.{list_any, list_all, flat_map, AllByRecursion}
+use Rattle.std.specs.List.Sorted.{IsPermutation, IsStrictlySortedBy}
+use Rattle.std.specs.declared.cmp.Ordering.{Ordering}
+use Rattle.std.specs.declared.cmp.Ordering.TheVariants.{Less, Equal, Greater}
+use Rattle.std.proofs.lemmas.Bool.{false≢true}
+use Rattle.std.specs.Ordering.{eq_by_cmp, is_lt}
+use Rattle.std.proofs.lemmas.List.{append-nil, append_assoc, map-append, take_more}
+use Rattle.std.proofs.lemmas.Grind.{flat_map-append}
+use Rattle.std.proofs.lemmas.List.Sorted.{list_any-IsPermutation, All-permutation}
+use Rattle.std.proofs.lemmas.List.Sums.{AllPass-from_list_all, list_all-from_AllPass}
+use Rattle.sets.specs.Sets.{set_of, has}
+use Rattle.sets.proofs.SetLaws.{list_any-append, sorted-empty, sorted-cons, All-tail_of, below_tail, sorted-set_of, has-set_of, same_set}
+use Rattle.terms.specs.Term.{text_cmp}
+use Rattle.terms.specs.TermLaws.{text_total, text_exact}
+use Rattle.nquads.specs.Canonical.{ended}
+use Rattle.nquads.specs.declared.rising.Rising.{Rising}
+use Rattle.nquads.specs.Rising.{IsRising}
+use Rattle.nquads.proofs.CanonicalLaws.{any-map, any-filter}
+
+pub less_is : (r : Ordering) → is_lt r ≡ true → r ≡ Less
+less_is Less e = refl
+less_is Equal e = absurd (false≢true e)
+less_is Greater e = absurd (false≢true e)
+
+all_push : (p : List ℕ → Type 0) (xs : List (List ℕ)) (y : List ℕ) → AllByRecursion p xs → p y → AllByRecursion p (xs ++ y ∷ [])
+all_push p [] y h k = (k, tt)
+all_push p (x ∷ xs) y h k = (h.0, all_push p xs y h.1 k)
+
+sorted_push : (xs : List (List ℕ)) (y : List ℕ) → IsStrictlySortedBy text_cmp xs → AllByRecursion (λ x. text_cmp x y ≡ Less) xs → IsStrictlySortedBy text_cmp (xs ++ y ∷ [])
+sorted_push [] y s below = sorted-cons text_cmp y [] tt (sorted-empty text_cmp)
+sorted_push (x ∷ xs) y s below =
+    sorted-cons text_cmp x (xs ++ y ∷ []) (all_push (λ z. text_cmp x z ≡ Less) xs y (below_tail text_cmp x xs s) below.0)
+    (sorted_push xs y (All-tail_of text_cmp x xs s) below.1)
+
+all_under : (xs : List (List ℕ)) (line above : List ℕ) → text_cmp line above ≡ Less → AllByRecursion (λ x. text_cmp x line ≡ Less) xs → AllByRecursion (λ x. text_cmp x above ≡ Less) xs
+all_under [] line above e h = tt
+all_under (x ∷ xs) line above e h = (text_total.trans x line above h.0 e, all_under xs line above e h.1)
+
+pub rising_none : (made : Rising) → made.text.items ≡ [] → IsRising [] made
+rising_none made e = record { text = e; rises = sorted-empty text_cmp; last = λ above lt. tt }
+
+pub rising_more : (lines : List (List ℕ)) (made new : Rising) (line : List ℕ) → text_cmp made.last.items line ≡ Less
+    → new.text.items ≡ (made.text.items ++ line) ++ 10 ∷ [] → new.last.items ≡ line → IsRising lines made → IsRising (lines ++ line ∷ []) new
+rising_more lines made new line lt text last h = record {
+  text = text ∙ append_assoc made.text.items line (10 ∷ []) ∙ ap (λ t. t ++ ended line) h.text
+      ∙ ap (λ t. flat_map ended lines ++ t) (sym (append-nil (ended line))) ∙ sym (flat_map-append ended lines (line ∷ []));
+  rises = sorted_push lines line h.rises (h.last line lt);
+  last = λ above e.
+      let under : text_cmp line above ≡ Less = ap (λ t. text_cmp t above) (sym last) ∙ e in
+      all_push (λ x. text_cmp x above ≡ Less) lines line (all_under lines line above under (h.last line lt)) under;
+}
+
+or_comm : (b c : Bool) → (b || c) ≡ (c || b)
+or_comm true true = refl
+or_comm true false = refl
+or_comm false true = refl
+or_comm false false = refl
+
+-- the text of graphs' lines and then quads' lines that rise
+pub rising_whole : (made : Rising) (graphs quads : List (List ℕ)) → IsRising (([] ++ graphs) ++ quads) made → made.text.items ≡ flat_map ended (set_of text_cmp (quads ++ graphs))
+rising_whole made graphs quads h =
+    h.text ∙ ap (flat_map ended) (same_set text_total text_exact (graphs ++ quads) (set_of text_cmp (quads ++ graphs)) h.rises (sorted-set_of text_total (quads ++ graphs))
+    (λ t. list_any-append (eq_by_cmp text_cmp t) graphs quads ∙ or_comm (list_any (eq_by_cmp text_cmp t) graphs) (list_any (eq_by_cmp text_cmp t) quads)
+    ∙ sym (list_any-append (eq_by_cmp text_cmp t) quads graphs) ∙ sym (has-set_of text_total t (quads ++ graphs))))
+
+-- in another order, quads and names have the same set of lines
+module _ {A : Type 0} (f : A → List ℕ) (g : ℕ → List ℕ) (kept : ℕ → Bool) (quads others : List A) (names those : List ℕ)
+    (moved : IsPermutation quads others) (moved_names : IsPermutation names those) where
+  alike : (t : List ℕ) → has text_cmp (map f others ++ map g (filter kept those)) t ≡ has text_cmp (map f quads ++ map g (filter kept names)) t
+  alike t =
+      let e : List ℕ → Bool = eq_by_cmp text_cmp t in
+      let quads_alike : list_any e (map f others) ≡ list_any e (map f quads) = any-map e f others ∙ sym (list_any-IsPermutation (λ q. e (f q)) quads others moved) ∙ sym (any-map e f quads) in
+      let names_alike : list_any e (map g (filter kept those)) ≡ list_any e (map g (filter kept names)) =
+      any-map e g (filter kept those) ∙ any-filter (λ n. e (g n)) kept those ∙ sym (list_any-IsPermutation (λ n. kept n && e (g n)) names those moved_names)
+      ∙ sym (any-map e g (filter kept names) ∙ any-filter (λ n. e (g n)) kept names) in
+      list_any-append e (map f others) (map g (filter kept those)) ∙ (λ i. quads_alike i || names_alike i) ∙ sym (list_any-append e (map f quads) (map g (filter kept names)))
+
+  pub same_lines : set_of text_cmp (map f others ++ map g (filter kept those)) ≡ set_of text_cmp (map f quads ++ map g (filter kept names))
+  same_lines =
+      let these = map f others ++ map g (filter kept those) in
+      let first = map f quads ++ map g (filter kept names) in
+      same_set text_total text_exact (set_of text_cmp these) (set_of text_cmp first) (sorted-set_of text_total these) (sorted-set_of text_total first)
+      (λ t. has-set_of text_total t these ∙ alike t ∙ sym (has-set_of text_total t first))
+
+pub still_all : {A : Type 0} (p : A → Bool) (xs ys : List A) → IsPermutation xs ys → list_all p xs ≡ true → list_all p ys ≡ true
+still_all p xs ys moved h = list_all-from_AllPass p ys (All-permutation (λ x. p x ≡ true) xs ys moved (AllPass-from_list_all p xs h))
+
+-- one more of a list that is gone through, and the end
+pub map_next : {A : Type 0} (f : A → List ℕ) (lines : List (List ℕ)) (xs : List A) (i : ℕ) (x : A) → i < length xs → x ≡ get_or xs i x
+    → (lines ++ map f (take i xs)) ++ f x ∷ [] ≡ lines ++ map f (take (i + 1) xs)
+map_next f lines xs i x lt is =
+    append_assoc lines (map f (take i xs)) (f x ∷ [])
+    ∙ ap (λ ys. lines ++ ys) (sym (ap (map f) (take_more xs i x lt ∙ ap (λ y. take i xs ++ y ∷ []) (sym is)) ∙ map-append f (take i xs) (x ∷ [])))
+
+filter_append : {A : Type 0} (p : A → Bool) (xs ys : List A) → filter p (xs ++ ys) ≡ filter p xs ++ filter p ys
+filter_append p [] ys = refl
+filter_append {A} p (x ∷ xs) ys =
+    elim (p x) as (λ b. cond b (x ∷ filter p (xs ++ ys)) (filter p (xs ++ ys)) ≡ cond b (x ∷ filter p xs) (filter p xs) ++ filter p ys) [
+      | true ↦ ap (λ (zs : List A). x ∷ zs) (filter_append p xs ys)
+      | false ↦ filter_append p xs ys
+    ]
+
+filter_one : {A : Type 0} (p : A → Bool) (x : A) (b : Bool) → p x ≡ b → filter p (x ∷ []) ≡ cond b (x ∷ []) []
+filter_one p x b e = ap (λ c. cond c (x ∷ []) []) e
+
+filter_next : {A : Type 0} (p : A → Bool) (xs : List A) (i : ℕ) (x : A) (b : Bool) → i < length xs → x ≡ get_or xs i x → p x ≡ b
+    → filter p (take (i + 1) xs) ≡ filter p (take i xs) ++ cond b (x ∷ []) []
+filter_next p xs i x b lt is e =
+    ap (filter p) (take_more xs i x lt ∙ ap (λ y. take i xs ++ y ∷ []) (sym is)) ∙ filter_append p (take i xs) (x ∷ []) ∙ ap (λ ys. filter p (take i xs) ++ ys) (filter_one p x b e)
+
+pub kept_next : {A : Type 0} (f : A → List ℕ) (p : A → Bool) (lines : List (List ℕ)) (xs : List A) (i : ℕ) (x : A) → i < length xs → x ≡ get_or xs i x → p x ≡ true
+    → (lines ++ map f (filter p (take i xs))) ++ f x ∷ [] ≡ lines ++ map f (filter p (take (i + 1) xs))
+kept_next f p lines xs i x lt is e =
+    append_assoc lines (map f (filter p (take i xs))) (f x ∷ [])
+    ∙ ap (λ ys. lines ++ ys) (sym (ap (map f) (filter_next p xs i x true lt is e) ∙ map-append f (filter p (take i xs)) (x ∷ [])))
