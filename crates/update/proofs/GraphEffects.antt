@@ -1,8 +1,6 @@
 -- What operations on whole graphs change by themselves leads where they lead.
-use Rattle.std.specs.Prelude.{Bool, true, false, not, ◌||◌, filter, map, if◌then◌else◌, is_some, is_none}
-use Rattle.std.specs.Ordering.{eq_by_cmp, is_eq}
-use Rattle.std.specs.Option.{option_cmp}
-use Rattle.std.proofs.Common.{◌≡◌, List, [], ◌∷◌, ◌++◌, Option, Some, None, Result, Ok, Err, refl, sym, ap, ◌∙◌}
+use Rattle.std.specs.Prelude.{Bool, true, false, not, filter, map, if◌then◌else◌, is_some, is_none}
+use Rattle.std.proofs.Common.{◌≡◌, List, [], ◌∷◌, ◌++◌, Option, Some, None, Ok, Err, refl, sym, ap, ◌∙◌}
 use Rattle.std.proofs.lemmas.Bool.{false≢true}
 use Rattle.sets.specs.Sets.{has, set_of, union, with, without}
 use Rattle.sets.proofs.SetLaws.{sorted-set_of, exact_by}
@@ -17,8 +15,7 @@ use Rattle.algebra.specs.declared.update.Target.TheVariants as target
 use Rattle.algebra.specs.declared.update.Transfer.{Transfer}
 use Rattle.algebra.specs.declared.update.Transfer.TheVariants as transfer
 use Rattle.algebra.specs.declared.update.GraphOperation.TheVariants as graphs
-use Rattle.meaning.specs.GraphOperations.{graphs_after, in_graph, moved_to, transferred, outside, with_name, without_name, dropped, cleared, copied, added}
-use Rattle.meaning.specs.declared.reply.Cause.{Cause}
+use Rattle.meaning.specs.GraphOperations.{graphs_after, in_graph, moved_to, transferred, with_name, without_name, dropped, cleared}
 use Rattle.meaning.specs.declared.reply.Cause.TheVariants.{GraphExists, GraphMissing}
 use Rattle.reads.specs.Reads.{View, Delta, no_change, applied}
 use Rattle.update.specs.Graphs.{target_of, is_among, quads_of, names_of, is_target_there, place_of, whole, leaving, name_list, name_leaving}

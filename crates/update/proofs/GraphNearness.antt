@@ -1,5 +1,5 @@
 -- What operations on whole graphs ask for is near them, and so is what their changes speak of.
-use Rattle.std.specs.Prelude.{Bool, true, false, not, ◌||◌, ◌&&◌, filter, map, is_some, is_none, if◌then◌else◌}
+use Rattle.std.specs.Prelude.{Bool, true, false, not, ◌||◌, ◌&&◌, filter, map, if◌then◌else◌}
 use Rattle.std.specs.List.{AllByRecursion}
 use Rattle.std.specs.Ordering.{eq_by_cmp, is_eq}
 use Rattle.std.specs.Cmp.{IsTotalOrder, tied_itself}
@@ -12,14 +12,13 @@ use Rattle.sets.specs.Sets.{has, set_of, union, without}
 use Rattle.sets.proofs.SetLaws.{exact_by}
 use Rattle.datasets.specs.declared.id.Id.{Id}
 use Rattle.datasets.specs.declared.quad.Quad.{Quad}
-use Rattle.datasets.specs.declared.read.Read.TheVariants.{Scan, GraphIs, Graphs}
-use Rattle.datasets.specs.Dataset.{quad_order, same_graph}
+use Rattle.datasets.specs.declared.read.Read.TheVariants.{Scan, GraphIs}
+use Rattle.datasets.specs.Dataset.{quad_order}
 use Rattle.datasets.specs.Id.{id_order, id_total, id_exact, quad_total, quad_exact}
 use Rattle.algebra.specs.declared.update.Target.{Target}
 use Rattle.algebra.specs.declared.update.Target.TheVariants as target
 use Rattle.algebra.specs.declared.update.Transfer.{Transfer}
 use Rattle.algebra.specs.declared.update.Transfer.TheVariants as transfer
-use Rattle.algebra.specs.declared.update.GraphOperation.{GraphOperation}
 use Rattle.algebra.specs.declared.update.GraphOperation.TheVariants as graphs
 use Rattle.meaning.specs.GraphOperations.{in_graph}
 use Rattle.asking.specs.Near.{is_of_graph, is_near_target, is_near_graphs}
@@ -29,7 +28,7 @@ use Rattle.update.specs.Graphs.{target_of, is_among, quads_of, place_of, whole, 
 use Rattle.update.proofs.Differences.{has_after}
 use Rattle.update.proofs.GraphLaws.{or_cases}
 use Rattle.update.proofs.GraphEffects.{among_one}
-use Rattle.update.proofs.Members.{all-append, all-set_of, always}
+use Rattle.update.proofs.Members.{all-append, all-set_of}
 
 -- ---- reads
 

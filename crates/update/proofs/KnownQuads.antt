@@ -1,73 +1,22 @@
--- What notes tell of whole graphs is what there is.
-use Rattle.std.specs.Prelude.{Bool, true, false, ◌&&◌, ◌||◌, is_none, filter, filter_map, if◌then◌else◌}
-use Rattle.std.specs.List.{list_any, cons_option, flat_map}
-use Rattle.std.proofs.Common.{◌≡◌, ℕ, zero, suc, ◌<◌, List, [], ◌∷◌, ◌++◌, length, get_or, Option, Some, None, refl, sym, ap, subst, ◌∙◌, arith}
+-- What notes tell is what there is.
+use Rattle.std.specs.Prelude.{Bool, true, false, IfSome, drop, take, if◌then◌else◌}
+use Rattle.std.proofs.Common.{◌≡◌, ℕ, zero, suc, ◌<◌, List, [], ◌∷◌, length, get_or, Some, None, refl, sym, ap, subst, arith}
 use Rattle.std.proofs.lemmas.Bool.{false≢true}
 use Rattle.sets.specs.Sets.{has, set_of}
-use Rattle.sets.proofs.SetLaws.{sorted-set_of, has-set_of, has-filter, list_any-append}
+use Rattle.sets.proofs.SetLaws.{sorted-set_of}
 use Rattle.std.specs.List.Sorted.{IsStrictlySortedBy}
-use Rattle.std.specs.Ordering.{eq_by_cmp}
-use Rattle.change_laws.specs.Laws.{IsRising}
 use Rattle.datasets.specs.declared.id.Id.{Id}
 use Rattle.datasets.specs.declared.quad.Quad.{Quad}
-use Rattle.datasets.specs.declared.read.GraphPlace.{GraphPlace}
-use Rattle.datasets.specs.declared.read.GraphPlace.TheVariants.{Any, Only}
-use Rattle.datasets.specs.declared.read.QuadPattern.{QuadPattern}
 use Rattle.datasets.specs.declared.read.Read.TheVariants.{Scan, GraphIs, Graphs}
-use Rattle.datasets.specs.Dataset.{Quads, quad_order, matches, free_or, in_place}
-use Rattle.datasets.specs.Id.{id_order, id_total, id_exact, quad_total, quad_exact}
-use Rattle.reads.specs.Reads.{View, Read, Answer, told_quads, says}
+use Rattle.datasets.specs.Dataset.{quad_order}
+use Rattle.datasets.specs.Id.{id_order, id_total}
+use Rattle.reads.specs.Reads.{View, Read, Answer, says}
 use Rattle.reads.specs.Runs.{Agrees}
 use Rattle.reads.specs.declared.note.Note.{Note}
-use Rattle.update.specs.Known.{is_whole, whole_place, places_told, told_at, quads_told, is_any, is_default, name_at, is_of_graphs, names_in, WholeGraphs, is_known, Knows}
-
--- ---- Bool
-
-or_true : (a : Bool) → (a || true) ≡ true
-or_true true = refl
-or_true false = refl
-
-and_false : (a : Bool) → (a && false) ≡ false
-and_false true = refl
-and_false false = refl
-
-and_or : (a b c : Bool) → ((a && b) || (a && c)) ≡ (a && (b || c))
-and_or true b c = refl
-and_or false b c = refl
-
-or_between : (a b c : Bool) → (a || (b || c)) ≡ (b || (a || c))
-or_between true true c = refl
-or_between true false c = refl
-or_between false b c = refl
-
--- ---- one note
-
--- whether a graph is in the place, where there is one
-in_some : Option (GraphPlace Id) → Option Id → Bool
-in_some None g = false
-in_some (Some place) g = in_place id_order place g
-
-all_free : (s p o : Option Id) (a b c : Id) (here : Bool) → (is_none s && (is_none p && is_none o)) ≡ true → (free_or id_order s a && (free_or id_order p b && (free_or id_order o c && here))) ≡ here
-all_free None None None a b c here e = refl
-all_free None None (Some o) a b c here e = absurd (false≢true e)
-all_free None (Some p) o a b c here e = absurd (false≢true e)
-all_free (Some s) p o a b c here e = absurd (false≢true e)
-
-scan_told : (p : QuadPattern Id) (d : View) (a : Answer) (q : Quad Id) (b : Bool) → is_whole p ≡ b → a ≡ Quads (filter (matches id_order p) d.quads)
-    → has (quad_order id_order) (told_at (if b then Some p.graph else None) (told_quads a)) q ≡ (has (quad_order id_order) d.quads q && in_some (if b then Some p.graph else None) q.graph)
-unfolding in_some
-scan_told p d a q true e is =
-    ap (λ z. has (quad_order id_order) (told_at (Some p.graph) (told_quads z)) q) is
-    ∙ has-filter (quad_total id_total) (quad_exact id_order id_exact) (matches id_order p) q d.quads
-    ∙ ap (λ b. has (quad_order id_order) d.quads q && b) (all_free p.subject p.predicate p.object q.subject q.predicate q.object (in_place id_order p.graph q.graph) e)
-scan_told p d a q false e is = sym (and_false (has (quad_order id_order) d.quads q))
-
-note_told : (r : Read) (d : View) (a : Answer) (q : Quad Id) → a ≡ says r d
-    → has (quad_order id_order) (quads_told r a) q ≡ (has (quad_order id_order) d.quads q && in_some (whole_place r) q.graph)
-unfolding in_some says
-note_told (Scan p) d a q e = scan_told p d a q (is_whole p) refl e
-note_told (GraphIs g) d a q e = sym (and_false (has (quad_order id_order) d.quads q))
-note_told Graphs d a q e = sym (and_false (has (quad_order id_order) d.quads q))
+use Rattle.update.specs.Told.{first_told}
+use Rattle.update.specs.Whole.{WholeGraphs, is_known, told_in, KnowsWhole}
+use Rattle.update.specs.Known.{is_of_graphs, names_in, WhatIsKnown, told_of, Knows}
+use Rattle.update.proofs.ToldScans.{first_is, or_is}
 
 -- the names of all graphs, where they were asked for
 pub told_graphs : (r : Read) (a : Answer) (d : View) → is_of_graphs r ≡ true → a ≡ says r d → names_in a ≡ d.names
@@ -76,74 +25,33 @@ told_graphs (Scan p) a d h e = absurd (false≢true h)
 told_graphs (GraphIs g) a d h e = absurd (false≢true h)
 told_graphs Graphs a d h e = ap names_in e
 
--- ---- all notes
-
 pub agrees_at : (notes : List Note) (i : ℕ) (n : Note) (d : View) → i < length notes → Agrees notes d → (get_or notes i n).answer ≡ says (get_or notes i n).read d
 agrees_at [] i n d lt a = absurd (omega (arith, lt))
 agrees_at (m ∷ ms) zero n d lt a = a.0
 agrees_at (m ∷ ms) (suc i) n d lt a = agrees_at ms i n d (omega (arith, lt)) a.1
 
-any_in : (g : Option Id) (o : Option (GraphPlace Id)) (places : List (GraphPlace Id))
-    → list_any (λ place. in_place id_order place g) (cons_option o places) ≡ (in_some o g || list_any (λ place. in_place id_order place g) places)
-unfolding in_some
-any_in g None places = refl
-any_in g (Some place) places = refl
+-- what holds of all notes holds of some that follow on each other
+agrees_first : (n : ℕ) (notes : List Note) (d : View) → Agrees notes d → Agrees (take n notes) d
+agrees_first zero notes d a = tt
+agrees_first (suc n) [] d a = tt
+agrees_first (suc n) (m ∷ ms) d a = (a.0, agrees_first n ms d a.1)
 
-pub notes_told : (notes : List Note) (d : View) (q : Quad Id) → Agrees notes d
-    → has (quad_order id_order) (flat_map (λ n. quads_told n.read n.answer) notes) q
-    ≡ (has (quad_order id_order) d.quads q && list_any (λ place. in_place id_order place q.graph) (places_told notes))
-notes_told [] d q a = sym (and_false (has (quad_order id_order) d.quads q))
-notes_told (n ∷ ns) d q a =
-    let D = has (quad_order id_order) d.quads q in
-    list_any-append (eq_by_cmp (quad_order id_order) q) (quads_told n.read n.answer) (flat_map (λ m. quads_told m.read m.answer) ns)
-    ∙ (λ i. note_told n.read d n.answer q a.0 i || notes_told ns d q a.1 i)
-    ∙ and_or D (in_some (whole_place n.read) q.graph) (list_any (λ place. in_place id_order place q.graph) (places_told ns))
-    ∙ ap (λ b. D && b) (sym (any_in q.graph (whole_place n.read) (places_told ns)))
+pub agrees_part : (n i : ℕ) (notes : List Note) (d : View) → Agrees notes d → Agrees (take n (drop i notes)) d
+agrees_part n zero notes d a = agrees_first n notes d a
+agrees_part n (suc i) [] d a = agrees_first n [] d tt
+agrees_part n (suc i) (m ∷ ms) d a = agrees_part n i ms d a.1
 
--- ---- which graphs are known
+whole_is : (w : WholeGraphs) (d : View) (q : Quad Id) (b : Bool) → is_known w q.graph ≡ b → KnowsWhole w d
+    → IfSome (if b then Some (has (quad_order id_order) w.quads q) else None) (λ so. so ≡ has (quad_order id_order) d.quads q)
+whole_is w d q true e h = h q e
+whole_is w d q false e h = tt
 
-default_known : (places : List (GraphPlace Id)) → (list_any is_any places || list_any is_default places) ≡ list_any (λ place. in_place id_order place None) places
-default_known [] = refl
-default_known (Any ∷ places) = refl
-default_known (Only None ∷ places) = or_true (list_any is_any places)
-default_known (Only (Some g) ∷ places) = default_known places
+known_is_so : (k : WhatIsKnown) (q : Quad Id) (d : View) → Knows k d → IfSome (told_of k q) (λ so. so ≡ has (quad_order id_order) d.quads q)
+known_is_so k q d h =
+    or_is (λ so. so ≡ has (quad_order id_order) d.quads q) (first_told k.scans q) (told_in k.whole q) (first_is k.scans q d h.scans) (whole_is k.whole d q (is_known k.whole q.graph) refl h.whole)
 
-name_known : (g : Id) (places : List (GraphPlace Id)) → (list_any is_any places || has id_order (filter_map name_at places) g) ≡ list_any (λ place. in_place id_order place (Some g)) places
-name_known g [] = refl
-name_known g (Any ∷ places) = refl
-name_known g (Only None ∷ places) = name_known g places
-name_known g (Only (Some h) ∷ places) =
-    or_between (list_any is_any places) (eq_by_cmp id_order g h) (has id_order (filter_map name_at places) g) ∙ ap (λ b. eq_by_cmp id_order g h || b) (name_known g places)
-
-known_is : (k : WholeGraphs) (places : List (GraphPlace Id)) → k.is_all ≡ list_any is_any places → k.has_default ≡ list_any is_default places → k.names ≡ set_of id_order (filter_map name_at places)
-    → (g : Option Id) → is_known k g ≡ list_any (λ place. in_place id_order place g) places
-known_is k places all default names None = (λ i. all i || default i) ∙ default_known places
-known_is k places all default names (Some g) =
-    (λ i. all i || has id_order (names i) g) ∙ ap (λ b. list_any is_any places || b) (has-set_of id_total g (filter_map name_at places)) ∙ name_known g places
-
-pub known_of_notes : (k : WholeGraphs) (notes : List Note) → k.is_all ≡ list_any is_any (places_told notes) → k.has_default ≡ list_any is_default (places_told notes)
-    → k.names ≡ set_of id_order (filter_map name_at (places_told notes)) → k.quads ≡ set_of (quad_order id_order) (flat_map (λ n. quads_told n.read n.answer) notes)
-    → (told : List Id) → k.graphs ≡ set_of id_order told → (d : View) → (k.has_graphs ≡ true → told ≡ d.names) → Agrees notes d → Knows k d
-known_of_notes k notes all default names quads told graphs d is_told a = record {
-  quads = λ q known.
-      ap (λ qs. has (quad_order id_order) qs q) quads
-      ∙ has-set_of (quad_total id_total) q (flat_map (λ n. quads_told n.read n.answer) notes)
-      ∙ notes_told notes d q a
-      ∙ ap (λ b. has (quad_order id_order) d.quads q && b) (sym (known_is k (places_told notes) all default names q.graph) ∙ known)
-      ∙ and_true (has (quad_order id_order) d.quads q);
-  graphs = λ h g. ap (λ ns. has id_order ns g) graphs ∙ has-set_of id_total g told ∙ ap (λ ns. has id_order ns g) (is_told h);
-}
-  where
-    and_true : (b : Bool) → (b && true) ≡ b
-    and_true true = refl
-    and_true false = refl
-
-pub rising_sets : (quads : List (Quad Id)) (names : List Id) (qs : List (Quad Id)) (ns : List Id) → quads ≡ set_of (quad_order id_order) qs → names ≡ set_of id_order ns
-    → IsRising id_order (record { quads = quads; names = names })
-rising_sets quads names qs ns e f = record {
-  quads = subst (λ xs. IsStrictlySortedBy (quad_order id_order) xs) (sym e) (sorted-set_of (quad_total id_total) qs);
-  names = subst (λ xs. IsStrictlySortedBy id_order xs) (sym f) (sorted-set_of id_total ns);
-}
+pub known_so : (k : WhatIsKnown) (q : Quad Id) (d : View) (so : Bool) → Knows k d → Some so ≡ told_of k q → so ≡ has (quad_order id_order) d.quads q
+known_so k q d so h e = subst (λ o. IfSome o (λ b. b ≡ has (quad_order id_order) d.quads q)) (sym e) (known_is_so k q d h)
 
 pub rising_set : (graphs told : List Id) → graphs ≡ set_of id_order told → IsStrictlySortedBy id_order graphs
 rising_set graphs told e = subst (λ xs. IsStrictlySortedBy id_order xs) (sym e) (sorted-set_of id_total told)

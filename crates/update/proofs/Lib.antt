@@ -8,4 +8,6 @@ pub mod Executions
 pub mod GraphLaws
 pub mod GraphEffects
 pub mod GraphNearness
+pub mod WholeGraphs
+pub mod ToldScans
 pub mod KnownQuads

@@ -1,40 +1,15 @@
--- What notes tell of whole graphs.
-use Rattle.std.specs.Prelude.{◌≡◌, Bool, true, false, ◌&&◌, ◌||◌, List, [], Option, Some, None, is_none, filter_map, if◌then◌else◌}
-use Rattle.std.specs.List.{list_any}
+-- What notes tell of quads, and of the names of all graphs.
+use Rattle.std.specs.Prelude.{◌≡◌, Bool, true, false, List, [], Option}
+use Rattle.std.specs.Option.{option_or}
 use Rattle.sets.specs.Sets.{has}
 use Rattle.datasets.specs.declared.id.Id.{Id}
 use Rattle.datasets.specs.declared.quad.Quad.{Quad}
-use Rattle.datasets.specs.declared.read.GraphPlace.{GraphPlace}
-use Rattle.datasets.specs.declared.read.GraphPlace.TheVariants.{Any, Only}
-use Rattle.datasets.specs.declared.read.QuadPattern.{QuadPattern}
 use Rattle.datasets.specs.declared.read.Read.TheVariants.{Scan, GraphIs, Graphs}
-use Rattle.datasets.specs.Dataset.{Quads, Is, Names, quad_order}
+use Rattle.datasets.specs.Dataset.{Quads, Is, Names}
 use Rattle.datasets.specs.Id.{id_order}
-use Rattle.reads.specs.Reads.{View, Read, Answer, told_quads}
-use Rattle.reads.specs.declared.note.Note.{Note}
-
--- whether a pattern asks for each quad of its graph place
-abbrev pub is_whole : QuadPattern Id → Bool
-is_whole p = is_none p.subject && (is_none p.predicate && is_none p.object)
-
--- the graph place of which a read asks for each quad, if it does so
-abbrev pub whole_place : Read → Option (GraphPlace Id)
-whole_place (Scan p) = if is_whole p then Some p.graph else None
-whole_place (GraphIs g) = None
-whole_place Graphs = None
-
-abbrev pub places_told : List Note → List (GraphPlace Id)
-places_told notes = filter_map (λ n. whole_place n.read) notes
-
--- the quads of an answer to a scan, where a place is asked for
-abbrev pub told_at : Option (GraphPlace Id) → Option (List (Quad Id)) → List (Quad Id)
-told_at None quads = []
-told_at (Some place) None = []
-told_at (Some place) (Some quads) = quads
-
--- the quads that are told of a whole graph place
-abbrev pub quads_told : Read → Answer → List (Quad Id)
-quads_told r a = told_at (whole_place r) (told_quads a)
+use Rattle.reads.specs.Reads.{View, Read, Answer}
+use Rattle.update.specs.Told.{ToldScan, AreTold, first_told}
+use Rattle.update.specs.Whole.{WholeGraphs, KnowsWhole, told_in}
 
 -- whether a read asks for the names of all graphs
 abbrev pub is_of_graphs : Read → Bool
@@ -48,34 +23,19 @@ names_in (Quads quads) = []
 names_in (Is so) = []
 names_in (Names names) = names
 
-abbrev pub is_any : GraphPlace Id → Bool
-is_any Any = true
-is_any (Only g) = false
-
-abbrev pub is_default : GraphPlace Id → Bool
-is_default Any = false
-is_default (Only g) = is_none g
-
-abbrev pub name_at : GraphPlace Id → Option Id
-name_at Any = None
-name_at (Only g) = g
-
--- all graphs, the default graph and the named graphs of which each quad was told, and these quads; whether the names of all graphs were
--- told, and these names
-pub record WholeGraphs : Type 0 where
-  pub is_all : Bool
-  pub has_default : Bool
-  pub names : List Id
-  pub quads : List (Quad Id)
+-- a few scans and what they tell; what others tell of whole graphs; whether the names of all graphs were told, and these names
+pub record WhatIsKnown : Type 0 where
+  pub scans : List ToldScan
+  pub whole : WholeGraphs
   pub has_graphs : Bool
   pub graphs : List Id
 
--- whether each quad of a graph was told
-abbrev pub is_known : WholeGraphs → Option Id → Bool
-is_known k None = k.is_all || k.has_default
-is_known k (Some g) = k.is_all || has id_order k.names g
+-- whether a quad is there, where that was told
+abbrev pub told_of : WhatIsKnown → Quad Id → Option Bool
+told_of k q = option_or (first_told k.scans q) (told_in k.whole q)
 
--- what was told of a graph that is known is what there is, and so are the names of all graphs, where they were told
-pub record Knows (k : WholeGraphs) (d : View) : Type 0 where
-  pub quads : (q : Quad Id) → is_known k q.graph ≡ true → has (quad_order id_order) k.quads q ≡ has (quad_order id_order) d.quads q
+-- what was told is what there is
+pub record Knows (k : WhatIsKnown) (d : View) : Type 0 where
+  pub scans : AreTold d k.scans
+  pub whole : KnowsWhole k.whole d
   pub graphs : k.has_graphs ≡ true → (g : Id) → has id_order k.graphs g ≡ has id_order d.names g

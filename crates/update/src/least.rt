@@ -14,7 +14,7 @@ use reads::{Note, Source, Stop};
 use std::alloc::Global;
 
 /// What a change really changes, in each dataset that agrees with the notes: each quad that it speaks of is asked for, unless the notes
-/// tell all of its graph, and each graph name, unless they tell those of all graphs.
+/// tell of it, and each graph name, unless they tell those of all graphs.
 pub fn least_of<S: Source>(
     alloc: Global,
     changes: &Delta,

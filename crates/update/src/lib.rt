@@ -1,7 +1,7 @@
 //! One request, from what a source answers: its finished run.
 //!
 //! Operations take effect in order, each reading through the changes of those before it. At the end the run asks for each quad that
-//! it changes, by a scan with all four places bound, unless it was told all of the quad's graph, and for the name of each graph that
+//! it changes, by a scan with all four places bound, unless an earlier answer tells of the quad, and for the name of each graph that
 //! would come or go; its delta has what really changes and nothing else, so that what changes nothing conflicts with nobody. Stands on
 //! `eval`, `dict` and `meaning`. Used above: whatever was answered, the finished run is sound, and each of its reads is near the
 //! request.
@@ -17,5 +17,7 @@ mod operations;
 mod presence;
 mod targets;
 mod template;
+mod told_scan;
+mod whole;
 
 pub use execution::{Execution, execute};

@@ -89,10 +89,10 @@ fn is_known_or_present<S: Source>(
     ensures goes { (allowed : Reading → Bool) → allowed (the_scan_for quad) ≡ true → Goes S.asks allowed source.old source.new notes.old.items notes.new.items (stop_of result) }
     ensures told { IfOk result (λ so. (d : View) → Knows known.now d → Agrees notes.new.items d → so ≡ has (quad_order id_order) d.quads quad) }
 {
-    if known.is_known(quad.graph) {
-        return Ok(known.has(&quad));
+    match known.tells(&quad) {
+        Some(so) => Ok(so),
+        None => is_present(alloc, quad, source, notes),
     }
-    is_present(alloc, quad, source, notes)
 }
 
 // Whether a graph name is there, in each dataset that agrees with the notes and with what is known. It is asked for only where it isn't

@@ -1,11 +1,11 @@
 use Rattle.std.proofs.Common.{◌≡◌, Ok, map, sym, ap, subst, ◌∙◌}
 use Rattle.sets.specs.Sets.{set_of}
 use Rattle.datasets.specs.Id.{id_order}
-use Rattle.datasets.specs.Dataset.{quad_order, quads_in}
+use Rattle.datasets.specs.Dataset.{quad_order}
 use Rattle.algebra.specs.declared.update.GraphOperation.TheVariants as graphs
 use Rattle.meaning.specs.GraphOperations.{in_graph}
 use Rattle.asking.specs.Near.{is_near_graphs, is_near_target}
-use Rattle.reads.specs.Reads.{Delta, Read, applied}
+use Rattle.reads.specs.Reads.{Delta, applied}
 use Rattle.update.specs.Asked.{AskedNames, AskedQuads, IsWithin}
 use Rattle.update.specs.Graphs.{quads_of, leaving, is_target_there}
 use Rattle.update.proofs.GraphEffects.{rises_after, nothing_happens, same_is, not_transferred, transferred_is, transfer_change, quads_of_one}

@@ -1,21 +1,17 @@
-use Rattle.std.proofs.Common.{sym, ap, ◌∙◌, filter_map}
-use Rattle.std.specs.List.{list_any}
-use Rattle.sets.specs.Sets.{set_of}
-use Rattle.datasets.specs.Id.{id_order}
-use Rattle.datasets.specs.Dataset.{quad_order}
-use Rattle.update.specs.Known.{is_any, is_default, name_at}
-use Rattle.update.proofs.KnownQuads.{known_of_notes, rising_sets, rising_set}
+use Rattle.std.proofs.Common.{ap, ◌∙◌}
+use Rattle.sets.specs.Sets.{has}
+use Rattle.sets.proofs.SetLaws.{has-set_of}
+use Rattle.datasets.specs.Id.{id_order, id_total}
+use Rattle.update.proofs.KnownQuads.{rising_set, agrees_part}
 use Rattle.update.proofs.known.known_of.Goals as goal
 
 pub invariant_of-result : goal.invariant_of-result
-invariant_of-result c = (rising_sets _ _ c.in_ok-quads.quads.items c.in_ok-names.names.items c.set_of-2.ensures c.set_of.ensures, rising_set _ c.in_ok-has_graphs.graphs.items c.set_of-3.ensures)
+invariant_of-result c = rising_set _ c.in_ok-has_graphs.graphs.items c.set_of.ensures
 
 pub returns : goal.returns
-returns c d a =
-    let places = c.in_ok-places.ensures in
-    known_of_notes (record { is_all = c.has_any.result; has_default = c.has_default.result; names = c.set_of.result.items; quads = c.set_of-2.result.items; has_graphs = c.in_ok-has_graphs.has_graphs; graphs = c.set_of-3.result.items }) c.args.notes.now
-    (c.has_any.ensures ∙ ap (list_any is_any) (c.deref-2.ensures.value ∙ places))
-    (c.has_default.ensures ∙ ap (list_any is_default) (c.deref-3.ensures.value ∙ places))
-    (c.set_of.ensures ∙ ap (set_of id_order) (c.in_ok-names.ensures ∙ ap (filter_map name_at) (c.deref.ensures.value ∙ places)))
-    (c.set_of-2.ensures ∙ ap (set_of (quad_order id_order)) c.in_ok-quads.ensures)
-    c.in_ok-has_graphs.graphs.items c.set_of-3.ensures d (c.in_ok-has_graphs.ensures d a) a
+returns c d a = record {
+  scans = c.in_ok-scans.ensures.told d a;
+  whole = c.in_ok-whole.ensures d (agrees_part _ c.in_ok-scans.place c.args.notes.now d a);
+  graphs = λ so g.
+      ap (λ ns. has id_order ns g) c.set_of.ensures ∙ has-set_of id_total g c.in_ok-has_graphs.graphs.items ∙ ap (λ ns. has id_order ns g) (c.in_ok-has_graphs.ensures d a so);
+}

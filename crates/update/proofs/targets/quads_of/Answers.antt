@@ -6,7 +6,7 @@ use Rattle.std.specs.Prelude.{filter}
 use Rattle.asking.specs.Near.{is_near_target}
 use Rattle.reads.specs.Reads.{applied}
 use Rattle.update.specs.Asked.{AskedQuads}
-use Rattle.update.specs.Graphs.{quads_of, place_of, whole}
+use Rattle.update.specs.Graphs.{quads_of, whole}
 use Rattle.update.proofs.GraphEffects.{scanned_of}
 use Rattle.update.proofs.GraphNearness.{scan_near, quads_near}
 use Rattle.asking.proofs.Notes.{goes_as}

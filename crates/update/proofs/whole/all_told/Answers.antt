@@ -1,8 +1,8 @@
 use Rattle.std.proofs.Common.{◌++◌, ap, ◌∙◌}
 use Rattle.reads.specs.declared.note.Note.{Note}
-use Rattle.update.specs.Known.{quads_told}
+use Rattle.update.specs.Whole.{quads_told}
 use Rattle.update.proofs.Members.{listed_more}
-use Rattle.update.proofs.known.all_told.Goals as goal
+use Rattle.update.proofs.whole.all_told.Goals as goal
 
 pub loop-note-preserved : goal.loop-note-preserved
 loop-note-preserved c =

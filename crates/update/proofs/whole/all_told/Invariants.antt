@@ -3,8 +3,8 @@ use Rattle.std.specs.List.{flat_map}
 use Rattle.datasets.specs.declared.id.Id.{Id}
 use Rattle.datasets.specs.declared.quad.Quad.{Quad}
 use Rattle.reads.specs.declared.note.Note.{Note}
-use Rattle.update.specs.Known.{quads_told}
-use Rattle.update.proofs.known.all_told.Given as goal
+use Rattle.update.specs.Whole.{quads_told}
+use Rattle.update.proofs.whole.all_told.Given as goal
 
 -- what was told so far, with what the notes that are left tell, is what all tell
 abbrev pub invariant-loop-note : goal.invariant-loop-note

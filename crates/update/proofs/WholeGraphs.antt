@@ -1,0 +1,131 @@
+-- What notes tell of whole graphs is what there is.
+use Rattle.std.specs.Prelude.{Bool, true, false, ◌&&◌, ◌||◌, is_none, filter, filter_map, if◌then◌else◌}
+use Rattle.std.specs.List.{list_any, cons_option, flat_map}
+use Rattle.std.proofs.Common.{◌≡◌, List, [], ◌∷◌, Option, Some, None, refl, sym, ap, subst, ◌∙◌}
+use Rattle.std.proofs.lemmas.Bool.{false≢true}
+use Rattle.sets.specs.Sets.{has, set_of}
+use Rattle.sets.proofs.SetLaws.{sorted-set_of, has-set_of, has-filter, list_any-append}
+use Rattle.std.specs.List.Sorted.{IsStrictlySortedBy}
+use Rattle.std.specs.Ordering.{eq_by_cmp}
+use Rattle.change_laws.specs.Laws.{IsRising}
+use Rattle.datasets.specs.declared.id.Id.{Id}
+use Rattle.datasets.specs.declared.quad.Quad.{Quad}
+use Rattle.datasets.specs.declared.read.GraphPlace.{GraphPlace}
+use Rattle.datasets.specs.declared.read.GraphPlace.TheVariants.{Any, Only}
+use Rattle.datasets.specs.declared.read.QuadPattern.{QuadPattern}
+use Rattle.datasets.specs.declared.read.Read.TheVariants.{Scan, GraphIs, Graphs}
+use Rattle.datasets.specs.Dataset.{Quads, quad_order, matches, free_or, in_place}
+use Rattle.datasets.specs.Id.{id_order, id_total, id_exact, quad_total, quad_exact}
+use Rattle.reads.specs.Reads.{View, Read, Answer, told_quads, says}
+use Rattle.reads.specs.Runs.{Agrees}
+use Rattle.reads.specs.declared.note.Note.{Note}
+use Rattle.update.specs.Whole.{is_whole, whole_place, places_told, told_at, quads_told, is_any, is_default, name_at, WholeGraphs, is_known, KnowsWhole}
+
+-- ---- Bool
+
+or_true : (a : Bool) → (a || true) ≡ true
+or_true true = refl
+or_true false = refl
+
+pub and_true : (b : Bool) → (b && true) ≡ b
+and_true true = refl
+and_true false = refl
+
+and_false : (a : Bool) → (a && false) ≡ false
+and_false true = refl
+and_false false = refl
+
+and_or : (a b c : Bool) → ((a && b) || (a && c)) ≡ (a && (b || c))
+and_or true b c = refl
+and_or false b c = refl
+
+or_between : (a b c : Bool) → (a || (b || c)) ≡ (b || (a || c))
+or_between true true c = refl
+or_between true false c = refl
+or_between false b c = refl
+
+-- ---- one note
+
+-- whether a graph is in the place, where there is one
+in_some : Option (GraphPlace Id) → Option Id → Bool
+in_some None g = false
+in_some (Some place) g = in_place id_order place g
+
+all_free : (s p o : Option Id) (a b c : Id) (here : Bool) → (is_none s && (is_none p && is_none o)) ≡ true → (free_or id_order s a && (free_or id_order p b && (free_or id_order o c && here))) ≡ here
+all_free None None None a b c here e = refl
+all_free None None (Some o) a b c here e = absurd (false≢true e)
+all_free None (Some p) o a b c here e = absurd (false≢true e)
+all_free (Some s) p o a b c here e = absurd (false≢true e)
+
+scan_told : (p : QuadPattern Id) (d : View) (a : Answer) (q : Quad Id) (b : Bool) → is_whole p ≡ b → a ≡ Quads (filter (matches id_order p) d.quads)
+    → has (quad_order id_order) (told_at (if b then Some p.graph else None) (told_quads a)) q ≡ (has (quad_order id_order) d.quads q && in_some (if b then Some p.graph else None) q.graph)
+unfolding in_some
+scan_told p d a q true e is =
+    ap (λ z. has (quad_order id_order) (told_at (Some p.graph) (told_quads z)) q) is
+    ∙ has-filter (quad_total id_total) (quad_exact id_order id_exact) (matches id_order p) q d.quads
+    ∙ ap (λ b. has (quad_order id_order) d.quads q && b) (all_free p.subject p.predicate p.object q.subject q.predicate q.object (in_place id_order p.graph q.graph) e)
+scan_told p d a q false e is = sym (and_false (has (quad_order id_order) d.quads q))
+
+note_told : (r : Read) (d : View) (a : Answer) (q : Quad Id) → a ≡ says r d
+    → has (quad_order id_order) (quads_told r a) q ≡ (has (quad_order id_order) d.quads q && in_some (whole_place r) q.graph)
+unfolding in_some says
+note_told (Scan p) d a q e = scan_told p d a q (is_whole p) refl e
+note_told (GraphIs g) d a q e = sym (and_false (has (quad_order id_order) d.quads q))
+note_told Graphs d a q e = sym (and_false (has (quad_order id_order) d.quads q))
+
+-- ---- all notes
+
+any_in : (g : Option Id) (o : Option (GraphPlace Id)) (places : List (GraphPlace Id))
+    → list_any (λ place. in_place id_order place g) (cons_option o places) ≡ (in_some o g || list_any (λ place. in_place id_order place g) places)
+unfolding in_some
+any_in g None places = refl
+any_in g (Some place) places = refl
+
+pub notes_told : (notes : List Note) (d : View) (q : Quad Id) → Agrees notes d
+    → has (quad_order id_order) (flat_map (λ n. quads_told n.read n.answer) notes) q
+    ≡ (has (quad_order id_order) d.quads q && list_any (λ place. in_place id_order place q.graph) (places_told notes))
+notes_told [] d q a = sym (and_false (has (quad_order id_order) d.quads q))
+notes_told (n ∷ ns) d q a =
+    let D = has (quad_order id_order) d.quads q in
+    list_any-append (eq_by_cmp (quad_order id_order) q) (quads_told n.read n.answer) (flat_map (λ m. quads_told m.read m.answer) ns)
+    ∙ (λ i. note_told n.read d n.answer q a.0 i || notes_told ns d q a.1 i)
+    ∙ and_or D (in_some (whole_place n.read) q.graph) (list_any (λ place. in_place id_order place q.graph) (places_told ns))
+    ∙ ap (λ b. D && b) (sym (any_in q.graph (whole_place n.read) (places_told ns)))
+
+-- ---- which graphs are known
+
+default_known : (places : List (GraphPlace Id)) → (list_any is_any places || list_any is_default places) ≡ list_any (λ place. in_place id_order place None) places
+default_known [] = refl
+default_known (Any ∷ places) = refl
+default_known (Only None ∷ places) = or_true (list_any is_any places)
+default_known (Only (Some g) ∷ places) = default_known places
+
+name_known : (g : Id) (places : List (GraphPlace Id)) → (list_any is_any places || has id_order (filter_map name_at places) g) ≡ list_any (λ place. in_place id_order place (Some g)) places
+name_known g [] = refl
+name_known g (Any ∷ places) = refl
+name_known g (Only None ∷ places) = name_known g places
+name_known g (Only (Some h) ∷ places) =
+    or_between (list_any is_any places) (eq_by_cmp id_order g h) (has id_order (filter_map name_at places) g) ∙ ap (λ b. eq_by_cmp id_order g h || b) (name_known g places)
+
+known_is : (k : WholeGraphs) (places : List (GraphPlace Id)) → k.is_all ≡ list_any is_any places → k.has_default ≡ list_any is_default places → k.names ≡ set_of id_order (filter_map name_at places)
+    → (g : Option Id) → is_known k g ≡ list_any (λ place. in_place id_order place g) places
+known_is k places all default names None = (λ i. all i || default i) ∙ default_known places
+known_is k places all default names (Some g) =
+    (λ i. all i || has id_order (names i) g) ∙ ap (λ b. list_any is_any places || b) (has-set_of id_total g (filter_map name_at places)) ∙ name_known g places
+
+pub known_of_notes : (w : WholeGraphs) (notes : List Note) → w.is_all ≡ list_any is_any (places_told notes) → w.has_default ≡ list_any is_default (places_told notes)
+    → w.names ≡ set_of id_order (filter_map name_at (places_told notes)) → w.quads ≡ set_of (quad_order id_order) (flat_map (λ n. quads_told n.read n.answer) notes)
+    → (d : View) → Agrees notes d → KnowsWhole w d
+known_of_notes w notes all default names quads d a q known =
+    ap (λ qs. has (quad_order id_order) qs q) quads
+    ∙ has-set_of (quad_total id_total) q (flat_map (λ n. quads_told n.read n.answer) notes)
+    ∙ notes_told notes d q a
+    ∙ ap (λ b. has (quad_order id_order) d.quads q && b) (sym (known_is w (places_told notes) all default names q.graph) ∙ known)
+    ∙ and_true (has (quad_order id_order) d.quads q)
+
+pub rising_sets : (quads : List (Quad Id)) (names : List Id) (qs : List (Quad Id)) (ns : List Id) → quads ≡ set_of (quad_order id_order) qs → names ≡ set_of id_order ns
+    → IsRising id_order (record { quads = quads; names = names })
+rising_sets quads names qs ns e f = record {
+  quads = subst (λ xs. IsStrictlySortedBy (quad_order id_order) xs) (sym e) (sorted-set_of (quad_total id_total) qs);
+  names = subst (λ xs. IsStrictlySortedBy id_order xs) (sym f) (sorted-set_of id_total ns);
+}

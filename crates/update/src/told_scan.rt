@@ -1,0 +1,163 @@
+//! What the answer to one scan tells of each quad that its pattern lets through.
+ghost use Rattle.std.specs.Prelude.{◌≡◌, ◌≤◌, length, IsTrue, IfOk, IfSome, OnOk};
+ghost use Rattle.std.specs.List.Sorted.{IsStrictlySortedBy};
+ghost use Rattle.datasets.specs.Id.{id_order};
+ghost use Rattle.datasets.specs.Dataset.{quad_order, matches, free_or, in_place};
+ghost use Rattle.reads.specs.Reads.{View, says};
+ghost use Rattle.reads.specs.Runs.{Agrees};
+ghost use Rattle.update.specs.Told.{quads_in as the_quads_in, told_by, first_told as the_first_told, IsTold, AreTold};
+
+use datasets::{GraphPlace, Id, Quad, QuadPattern, Read};
+use reads::{Answered, Note};
+use sets::is_member;
+use std::alloc::{AllocError, Global};
+use std::marker::Model;
+
+/// A scan and its answer, which is shared and not copied. The quads of the answer rise.
+#[derive(Drop)]
+pub struct ToldScan {
+    pattern: QuadPattern<Id>,
+    answer: Answered,
+}
+
+impl Model for ToldScan {
+    ghost use Rattle.std.specs.List.Sorted.{IsStrictlySortedBy};
+    ghost use Rattle.datasets.specs.Id.{id_order};
+    ghost use Rattle.datasets.specs.Dataset.{quad_order};
+    ghost use Rattle.update.specs.Told.{quads_in, ToldScan as TheToldScan};
+
+    ghost Value = { TheToldScan };
+
+    ghost view = { λ s. record { pattern = s.pattern; quads = quads_in s.answer } };
+
+    ghost invariant = { λ s. IsStrictlySortedBy (quad_order id_order) (quads_in s.answer) };
+}
+
+fn is_free_or(place: Option<Id>, term: Id) -> bool
+    ensures { result ≡ free_or id_order place term }
+{
+    match place {
+        None => true,
+        Some(wanted) => term == wanted,
+    }
+}
+
+fn is_in_place(place: GraphPlace<Id>, graph: Option<Id>) -> bool
+    ensures { result ≡ in_place id_order place graph }
+{
+    match place {
+        GraphPlace::Any => true,
+        GraphPlace::Only(wanted) => graph == wanted,
+    }
+}
+
+// Whether a pattern lets a quad through.
+fn lets_through(pattern: &QuadPattern<Id>, quad: &Quad<Id>) -> bool
+    ensures { result ≡ matches id_order pattern.now quad.now }
+{
+    is_free_or(pattern.subject, quad.subject)
+        && is_free_or(pattern.predicate, quad.predicate)
+        && is_free_or(pattern.object, quad.object)
+        && is_in_place(pattern.graph, quad.graph)
+}
+
+// The quads that an answer tells. An answer of another kind tells none.
+fn quads_in(answer: &Answered) -> &[Quad<Id>]
+    ensures { result.now ≡ the_quads_in answer.now }
+{
+    match answer.quads() {
+        Some(quads) => quads,
+        None => &[],
+    }
+}
+
+// Whether each quad is below the next.
+fn is_rising(quads: &[Quad<Id>]) -> bool
+    ensures { IsTrue result → IsStrictlySortedBy (quad_order id_order) quads.now }
+{
+    for i in 1..quads.len() {
+        if !quads[i - 1].cmp(&quads[i]).is_lt() {
+            return false;
+        }
+    }
+    true
+}
+
+// Whether a pattern lets one quad through at most.
+fn is_of_one(pattern: &QuadPattern<Id>) -> bool {
+    pattern.subject.is_some()
+        && pattern.predicate.is_some()
+        && pattern.object.is_some()
+        && matches!(pattern.graph, GraphPlace::Only(_))
+}
+
+// The scan that a note tells of. One for a single quad is left out.
+fn told_scan(alloc: Global, note: &Note) -> Result<Option<ToldScan>, AllocError>
+    ensures { IfOk result (λ told. IfSome told (λ scan. (d : View) → note.now.answer ≡ says note.now.read d → IsTold d scan)) }
+{
+    let Read::Scan(pattern) = &note.read else {
+        return Ok(None);
+    };
+    if is_of_one(pattern) || !is_rising(quads_in(&note.answer)) {
+        return Ok(None);
+    }
+    let answer = note.answer.copied(alloc)?;
+    Ok(Some(ToldScan {
+        pattern: *pattern,
+        answer,
+    }))
+}
+
+// One more at the end, if the note tells of one.
+fn push_told(alloc: Global, scans: &mut Vec<ToldScan>, note: &Note) -> Result<(), AllocError>
+    ensures { OnOk result ((d : View) → note.now.answer ≡ says note.now.read d → AreTold d scans.old.items → AreTold d scans.new.items) }
+{
+    if let Some(scan) = told_scan(alloc, note)? {
+        scans.push(scan)?;
+    }
+    Ok(())
+}
+
+/// So many scans are kept. To test a quad by a pattern takes a few nanoseconds, to ask for it some microseconds, so all the tests that may
+/// be in vain are still much less than a question.
+const MOST_SCANS: usize = 64;
+
+/// The first scans that the notes tell of, and the place of the first note that was not looked at.
+pub fn first_scans(alloc: Global, notes: &[Note]) -> Result<(Vec<ToldScan>, usize), AllocError>
+    ensures told { IfOk result (λ first. (d : View) → Agrees notes.now d → AreTold d first.0.items) }
+    ensures place { IfOk result (λ first. first.1 ≤ length notes.now) }
+{
+    let mut scans = Vec::new(alloc);
+    for i in 0..notes.len() {
+        if scans.len() == MOST_SCANS {
+            return Ok((scans, i));
+        }
+        push_told(alloc, &mut scans, &notes[i])?;
+    }
+    Ok((scans, notes.len()))
+}
+
+impl ToldScan {
+    // Whether the quad is there, where the pattern lets it through.
+    fn tells(&self, quad: &Quad<Id>) -> Option<bool>
+        ensures { result ≡ told_by self.now quad.now }
+    {
+        if lets_through(&self.pattern, quad) {
+            Some(is_member(quads_in(&self.answer), quad))
+        } else {
+            None
+        }
+    }
+}
+
+/// Whether the quad is there, as the first of the scans tells that lets it through.
+pub fn first_told(scans: &[ToldScan], quad: &Quad<Id>) -> Option<bool>
+    ensures { result ≡ the_first_told scans.now quad.now }
+{
+    for scan in scans {
+        if let Some(so) = scan.tells(quad) {
+            return Some(so);
+        }
+    }
+    None
+}
