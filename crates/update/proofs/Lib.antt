@@ -4,6 +4,7 @@ pub mod Told
 pub mod Differences
 pub mod Effects
 pub mod Nearness
+pub mod TemplatesNear
 pub mod Executions
 pub mod GraphLaws
 pub mod GraphEffects

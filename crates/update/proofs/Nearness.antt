@@ -35,6 +35,9 @@ use Rattle.update.proofs.Members.{all-append, all-filter, all-set_of, all-union,
 some_is : {A : Type 0} (x y : A) → Some x ≡ Some y → x ≡ y
 some_is x y e = cc
 
+pub all_true : (a b c d : Bool) → a ≡ true → b ≡ true → c ≡ true → d ≡ true → (a && (b && (c && d))) ≡ true
+all_true a b c d e f g h = λ i. e i && (f i && (g i && h i))
+
 module _ (terms : List Term) (node : ℕ → Id) (m : Mapping Id) where
   slot_near : (s : Slot Id) (x : Id) → term_at (numbers terms) node m s ≡ Some x → is_written id_order s (Some x) ≡ true
   slot_near (slot.Term t) x e = ap (λ z. is_eq (id_order z t)) (sym (some_is t x e)) ∙ ap is_eq (tied_itself id_total t)
@@ -66,9 +69,6 @@ module _ (terms : List Term) (node : ℕ → Id) (m : Mapping Id) where
   made_of (Some s) (Some p) None g q e = absurd (cc)
   made_of (Some s) None o g q e = absurd (cc)
   made_of None p o g q e = absurd (cc)
-
-  all_true : (a b c d : Bool) → a ≡ true → b ≡ true → c ≡ true → d ≡ true → (a && (b && (c && d))) ≡ true
-  all_true a b c d e f g h = λ i. e i && (f i && (g i && h i))
 
   pub instance_near : (t : QuadTemplate Id) (q : Quad Id) → instance_of (numbers terms) node m t ≡ Some q
       → is_near_quad id_order t (record { subject = Some q.subject; predicate = Some q.predicate; object = Some q.object; graph = Only q.graph }) ≡ true

@@ -6,3 +6,4 @@ pub mod Graphs
 pub mod Told
 pub mod Whole
 pub mod Known
+pub mod TemplateScans

@@ -14,6 +14,7 @@ ghost use Rattle.update.specs.Asked.{IsWithin};
 ghost use Rattle.update.specs.Changed.{changed};
 
 use crate::template::instances;
+use crate::template_scans::ask_templates;
 use algebra::Modify;
 use delta::Delta;
 use dict::{Dict, Id};
@@ -28,7 +29,7 @@ use std::alloc::Global;
 const MOST_SOLUTIONS: usize = 1_000_000;
 
 // The solutions of WHERE, where the operations before it led, unless they are too many.
-fn solutions_of<S: Source>(
+fn solved<S: Source>(
     alloc: Global,
     dict: &Dict,
     modify: &Modify<Id>,
@@ -56,6 +57,43 @@ fn solutions_of<S: Source>(
         source,
         notes,
     )
+}
+
+/// From more solutions on, what they insert is asked for by one scan of its template. A question costs as much as some hundred quads of an
+/// answer, so that a scan which tells of 10,000,000 quads is still cheaper, and the request is one that others wait for anyway.
+const MANY_SOLUTIONS: usize = 100_000;
+
+// Whether there are very many solutions.
+fn are_many(found: &Option<Solutions>) -> bool {
+    match found {
+        Some(few) => few.as_slice().len() > MANY_SOLUTIONS,
+        None => false,
+    }
+}
+
+// The solutions of WHERE, where the operations before it led, unless they are too many. Of very many it asks for the scans of what they
+// insert too, so that no quad of these is asked for by itself.
+fn solutions_of<S: Source>(
+    alloc: Global,
+    dict: &Dict,
+    modify: &Modify<Id>,
+    changes: &Delta,
+    source: &mut S,
+    notes: &mut Vec<Note>,
+) -> Result<Option<Solutions>, Stop>
+    ensures goes { Goes S.asks (is_near id_order (operation.Modify modify.now)) source.old source.new notes.old.items notes.new.items (stop_of result) }
+    ensures solved { IfOk result (λ found. (d : View) → Agrees notes.new.items d → found ≡ up_to 1000000 (solutions id_order (numbers dict.now).passes modify.now.width modify.now.pattern (applied changes.now d) modify.now.active)) }
+    ensures few { IfOk result (λ found. IfSome found (λ few. length few ≤ 1000000)) }
+{
+    let found = solved(alloc, dict, modify, changes, source, notes)?;
+    ask_templates(
+        alloc,
+        are_many(&found),
+        modify.insert.as_slice(),
+        source,
+        notes,
+    )?;
+    Ok(found)
 }
 
 /// The change that goes on with an operation, or why the operation fails, from a change to which the operations before it led. WHERE is

@@ -1,0 +1,13 @@
+use Rattle.std.proofs.Common.{◌≡◌, true}
+use Rattle.update.specs.TemplateScans.{template_scan}
+use Rattle.update.proofs.Members.{all_at}
+use Rattle.asking.proofs.Notes.{goes_on, goes_as}
+use Rattle.update.proofs.template_scans.ask_templates.Goals as goal
+
+pub returns-in_err-ask_template : goal.returns-in_err-ask_template
+returns-in_err-ask_template g c allowed h =
+    goes_as _ c.from_residual.ensures.1 (goes_on (c.loop-template.invariant allowed h) (c.in_err-ask_template.ensures allowed (all_at (λ t. allowed (template_scan t) ≡ true) _ _ _ h c.loop-template-test.true)))
+
+pub loop-template-preserved : goal.loop-template-preserved
+loop-template-preserved g c allowed h =
+    goes_on (c.loop-template.invariant allowed h) (c.in_ok-ask_template.ensures allowed (all_at (λ t. allowed (template_scan t) ≡ true) _ _ _ h c.loop-template-test.true))
