@@ -1,1 +1,2 @@
 pub mod SeeingLaws
+pub mod RunLaws

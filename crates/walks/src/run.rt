@@ -1,10 +1,16 @@
 //! The steps of workers at a book.
+ghost use Rattle.std.specs.Prelude.{◌≡◌, ◌<◌, Some, slice_get, IfSome};
+ghost use Rattle.update.specs.Asked.{IsShort};
+ghost use Rattle.book.specs.Run.{IsSoundEvent};
+
 use crate::lines::Step;
 use crate::numbers::request_at;
 use block_machine::{Event, Reply};
 use book::Book;
 use datasets::Read;
+use delta::Finished;
 use dict::Id;
+use meaning::Request;
 use reads::{Answered, Source, Stop};
 use std::alloc::{AllocError, Global};
 use std::marker::Model;
@@ -40,10 +46,9 @@ impl<'a> Model for Asking<'a> {
 }
 
 impl<'a> Source for Asking<'a> {
-    ghost use Rattle.std.specs.Prelude.{◌≡◌};
+    ghost use Rattle.walks.specs.Seeing.{Follows};
 
-    // The book is about the same.
-    ghost asks = { λ before read told after. after ≡ record before { history = after.history } };
+    ghost asks = { λ before read told after. Follows before after };
 
     fn ask(&mut self, read: &Read<Id>) -> Result<Answered, Stop> {
         let turn = self.turn;
@@ -56,23 +61,47 @@ impl<'a> Source for Asking<'a> {
     }
 }
 
+impl<'a> Asking<'a> {
+    // The book again.
+    fn into_book(self) -> Book<'a>
+        ensures { result ≡ self.entry }
+    {
+        self.book
+    }
+}
+
+// The book that answered the reads of a run of the request of a turn, and the run, if it came to its end.
+fn executed<'a>(
+    alloc: Global,
+    book: Book<'a>,
+    turn: Turn,
+    request: &Request<Id>,
+) -> (Book<'a>, Option<Finished>)
+    requires place { turn.place < 1000 }
+    requires is { slice_get book.block turn.place ≡ Some request.now }
+    requires short { IsShort request.now }
+    ensures { IfSome result.1 (λ run. IsSoundEvent result.0 (Event.Publish turn.place turn.incarnation (Some run))) }
+{
+    let terms = book.terms();
+    let mut asking = Asking { alloc, book, turn };
+    let execution = execute(alloc, terms, turn.place as u32, request, &mut asking);
+    let book = asking.into_book();
+    match execution {
+        Ok(execution) => (book, Some(execution.into_finished())),
+        Err(_) => (book, None),
+    }
+}
+
 // Runs the request of a turn and publishes the run.
 fn publish<'a>(alloc: Global, book: Book<'a>, turn: Turn) -> Result<(Book<'a>, Reply), AllocError> {
-    let terms = book.terms();
     let Some(request) = request_at(book.block(), turn.place) else {
         return Ok((book, Reply::Stale));
     };
-    let mut asking = Asking { alloc, book, turn };
-    let execution = execute(alloc, terms, turn.place as u32, request, &mut asking);
-    let mut book = asking.book;
-    let Ok(execution) = execution else {
+    let (mut book, run) = executed(alloc, book, turn, request);
+    let Some(run) = run else {
         return Ok((book, Reply::Stale));
     };
-    let event = Event::Publish(
-        turn.place,
-        turn.incarnation,
-        Some(execution.into_finished()),
-    );
+    let event = Event::Publish(turn.place, turn.incarnation, Some(run));
     let reply = book.step_owned(alloc, turn.worker, event)?;
     Ok((book, reply))
 }
