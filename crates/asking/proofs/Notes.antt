@@ -1,22 +1,29 @@
 -- Notes, one after another.
-use Rattle.std.proofs.Common.{◌≡◌, Bool, true, List, [], ◌∷◌, ◌++◌, subst, sym}
+use Rattle.std.proofs.Common.{◌≡◌, Bool, true, List, [], ◌∷◌, ◌++◌, Option, Some, None, Result, Ok, Err, ◌⊎◌, inl, inr, refl, ap, subst, sym, ◌∙◌, append_assoc}
 use Rattle.std.specs.List.{AllByRecursion}
+use Rattle.std.specs.Result.{IfErr, IsErrAnd}
 use Rattle.reads.specs.Reads.{View, Read, Answer, says}
 use Rattle.reads.specs.Runs.{Agrees}
 use Rattle.reads.specs.declared.note.Note.{Note}
-use Rattle.asking.specs.Goes.{Goes}
+use Rattle.reads.specs.declared.source.Stop.{Stop}
+use Rattle.reads.specs.declared.source.Stop.TheVariants.{Memory}
+use Rattle.asking.specs.Goes.{AllAllowed, Asked, Ends, Goes, Stops, stop_of}
 
-agrees_before : (ns : List Note) (n : Note) (d : View) → Agrees (ns ++ n ∷ []) d → Agrees ns d
-agrees_before [] n d a = tt
-agrees_before (m ∷ ns) n d a = (a.0, agrees_before ns n d a.1)
+append_none : (ns : List Note) → ns ++ [] ≡ ns
+append_none [] = refl
+append_none (n ∷ ns) = ap (λ ms. n ∷ ms) (append_none ns)
+
+agrees_before : (ns ms : List Note) (d : View) → Agrees (ns ++ ms) d → Agrees ns d
+agrees_before [] ms d a = tt
+agrees_before (n ∷ ns) ms d a = (a.0, agrees_before ns ms d a.1)
 
 agrees_last : (ns : List Note) (n : Note) (d : View) → Agrees (ns ++ n ∷ []) d → n.answer ≡ says n.read d
 agrees_last [] n d a = a.0
 agrees_last (m ∷ ns) n d a = agrees_last ns n d a.1
 
-all_more : (P : Note → Type 0) (ns : List Note) (n : Note) → P n → AllByRecursion P ns → AllByRecursion P (ns ++ n ∷ [])
-all_more P [] n h all = (h, tt)
-all_more P (m ∷ ns) n h all = (all.0, all_more P ns n h all.1)
+all_both : (P : Note → Type 0) (ns ms : List Note) → AllByRecursion P ns → AllByRecursion P ms → AllByRecursion P (ns ++ ms)
+all_both P [] ms all more = more
+all_both P (n ∷ ns) ms all more = (all.0, all_both P ns ms all.1 more)
 
 all_weaker : (P Q : Note → Type 0) → ((n : Note) → P n → Q n) → (ns : List Note) → AllByRecursion P ns → AllByRecursion Q ns
 all_weaker P Q f [] all = tt
@@ -26,41 +33,101 @@ all_weaker P Q f (n ∷ ns) all = (f n all.0, all_weaker P Q f ns all.1)
 pub told_last : (ns ns' : List Note) (n : Note) (d : View) → ns' ≡ ns ++ n ∷ [] → Agrees ns' d → n.answer ≡ says n.read d
 told_last ns ns' n d e a = agrees_last ns n d (subst (λ z. Agrees z d) e a)
 
-module _ (allowed : Read → Bool) (may : Read → Answer → Type 0) where
+module _ {S : Type 0} (asks : S → Read → Result Answer Stop → S → Type 0) where
+  asked_both : (ns ms : List Note) (s1 s2 s3 : S) → Asked asks s1 ns s2 → Asked asks s2 ms s3 → Asked asks s1 (ns ++ ms) s3
+  asked_both [] ms s1 s2 s3 a b = subst (λ s. Asked asks s ms s3) (sym a) b
+  asked_both (n ∷ ns) ms s1 s2 s3 a b = (a.0, a.1, asked_both ns ms a.0 s2 s3 a.2 b)
+
+  ends_within : {allowed more : Read → Bool} → ((r : Read) → allowed r ≡ true → more r ≡ true) → (s s' : S) (stop : Option Stop)
+      → Ends asks allowed s stop s' → Ends asks more s stop s'
+  ends_within f s s' None e = e
+  ends_within f s s' (Some stop) (inl e) = inl e
+  ends_within f s s' (Some stop) (inr e) = inr (e.0, f e.0 e.1, e.2)
+
+  -- Where each answer keeps a fact of the source, and brings one of the read and the answer, a run of them does.
+  pub asked_all : (Is : S → Type 0) (Tells : Read → Answer → Type 0)
+      → ((s s' : S) (r : Read) (a : Answer) → Is s → asks s r (Ok a) s' → Is s' × Tells r a)
+      → (ns : List Note) (s s' : S) → Is s → Asked asks s ns s' → Is s' × AllByRecursion (λ n. Tells n.read n.answer) ns
+  asked_all Is Tells step [] s s' is a = (subst Is a is, tt)
+  asked_all Is Tells step (n ∷ ns) s s' is a =
+      let one = step s a.0 n.read n.answer is a.1 in
+      let rest = asked_all Is Tells step ns a.0 s' one.0 a.2 in
+      (rest.0, (one.1, rest.1))
+
+module _ {S : Type 0} {asks : S → Read → Result Answer Stop → S → Type 0} where
+  -- what agrees with the notes now agreed with those before
+  pub agreed : {ns ns' : List Note} {allowed : Read → Bool} {s s' : S} {stop : Option Stop}
+      → Goes asks allowed s s' ns ns' stop → (d : View) → Agrees ns' d → Agrees ns d
+  agreed {ns} {ns'} g d a = agrees_before ns g.more d (subst (λ z. Agrees z d) g.noted a)
+
+  pub goes_nowhere : (allowed : Read → Bool) (s : S) (ns : List Note) → Goes asks allowed s s ns ns None
+  goes_nowhere allowed s ns = record { more = []; noted = sym (append_none ns); near = tt; last = s; asked = refl; ends = refl }
+
   -- the source was asked, and what it answered was noted
-  pub goes_noted : (may' : Read → Answer → Type 0) → ((r : Read) (a : Answer) → may' r a → may r a) → ((r : Read) (a : Answer) → may r a → may' r a)
-      → (ns ns' : List Note) (n : Note) → ns' ≡ ns ++ n ∷ [] → may n.read n.answer → allowed n.read ≡ true → Goes allowed may may' ns ns'
-  goes_noted may' f g ns ns' n e h near =
-      subst (Goes allowed may may' ns) (sym e) (record {
-        later = f;
-        before = g;
-        agrees = agrees_before ns n;
-        meets = all_more (λ m. may m.read m.answer) ns n h;
-        near = λ more f. all_more (λ m. more m.read ≡ true) ns n (f n.read near);
-      })
+  pub goes_noted : (allowed : Read → Bool) (s s' : S) (ns ns' : List Note) (n : Note)
+      → ns' ≡ ns ++ n ∷ [] → asks s n.read (Ok n.answer) s' → allowed n.read ≡ true → Goes asks allowed s s' ns ns' None
+  goes_noted allowed s s' ns ns' n e a near =
+      record { more = n ∷ []; noted = e; near = (near, tt); last = s'; asked = (s', a, refl); ends = refl }
 
-pub goes_on : {allowed : Read → Bool} {may may1 may2 : Read → Answer → Type 0} {ns ns1 ns2 : List Note}
-    → Goes allowed may may1 ns ns1 → Goes allowed may1 may2 ns1 ns2 → Goes allowed may may2 ns ns2
-goes_on {allowed} {may} {may1} {may2} {ns} {ns1} {ns2} a b = record {
-  later = λ r x h. a.later r x (b.later r x h);
-  before = λ r x h. b.before r x (a.before r x h);
-  agrees = λ d h. a.agrees d (b.agrees d h);
-  meets = λ h.
-      all_weaker (λ n. may1 n.read n.answer) (λ n. may n.read n.answer) (λ n. a.later n.read n.answer) ns2
-      (b.meets (all_weaker (λ n. may n.read n.answer) (λ n. may1 n.read n.answer) (λ n. a.before n.read n.answer) ns1 (a.meets h)));
-  near = λ more f h. b.near more f (a.near more f h);
-}
+  -- the source was asked, and it stopped
+  pub goes_stopped : (allowed : Read → Bool) (s s' : S) (ns ns' : List Note) (r : Read) (stop : Stop)
+      → ns' ≡ ns → asks s r (Err stop) s' → allowed r ≡ true → Goes asks allowed s s' ns ns' (Some stop)
+  goes_stopped allowed s s' ns ns' r stop e a near =
+      record { more = []; noted = e ∙ sym (append_none ns); near = tt; last = s; asked = refl; ends = inr (r, near, a) }
 
--- a test that allows more
-pub goes_within : {allowed more : Read → Bool} {may may' : Read → Answer → Type 0} {ns ns' : List Note}
-    → ((r : Read) → allowed r ≡ true → more r ≡ true) → Goes allowed may may' ns ns' → Goes more may may' ns ns'
-goes_within {allowed} {more} {may} {may'} {ns} {ns'} f a = record {
-  later = a.later;
-  before = a.before;
-  agrees = a.agrees;
-  meets = a.meets;
-  near = λ most h. a.near most (λ r e. h r (f r e));
-}
+  pub goes_on : {allowed : Read → Bool} {s s1 s2 : S} {ns ns1 ns2 : List Note} {stop : Option Stop}
+      → Goes asks allowed s s1 ns ns1 None → Goes asks allowed s1 s2 ns1 ns2 stop → Goes asks allowed s s2 ns ns2 stop
+  goes_on {allowed} {s} {s1} {s2} {ns} {ns1} {ns2} {stop} a b = record {
+    more = a.more ++ b.more;
+    noted = b.noted ∙ ap (λ ms. ms ++ b.more) a.noted ∙ append_assoc ns a.more b.more;
+    near = all_both (λ n. allowed n.read ≡ true) a.more b.more a.near b.near;
+    last = b.last;
+    asked = asked_both asks a.more b.more s s1 b.last (subst (λ m. Asked asks s a.more m) a.ends a.asked) b.asked;
+    ends = b.ends;
+  }
 
-pub goes_nowhere : (allowed : Read → Bool) (may : Read → Answer → Type 0) (ns : List Note) → Goes allowed may may ns ns
-goes_nowhere allowed may ns = record { later = λ r a h. h; before = λ r a h. h; agrees = λ d h. h; meets = λ h. h; near = λ more f h. h }
+  -- a test that allows more
+  pub goes_within : {allowed more : Read → Bool} {s s' : S} {ns ns' : List Note} {stop : Option Stop}
+      → ((r : Read) → allowed r ≡ true → more r ≡ true) → Goes asks allowed s s' ns ns' stop → Goes asks more s s' ns ns' stop
+  goes_within {allowed} {more} {s} {s'} {ns} {ns'} {stop} f a = record {
+    more = a.more;
+    noted = a.noted;
+    near = all_weaker (λ n. allowed n.read ≡ true) (λ n. more n.read ≡ true) (λ n. f n.read) a.more a.near;
+    last = a.last;
+    asked = a.asked;
+    ends = ends_within asks f a.last s' stop a.ends;
+  }
+
+  -- then memory runs out, for which the call stops
+  pub goes_short : {A : Type 0} {allowed : Read → Bool} {s s' : S} {ns ns' : List Note} (result : Result A Stop)
+      → IsErrAnd result (λ stop. stop ≡ Memory) → Goes asks allowed s s' ns ns' None → Goes asks allowed s s' ns ns' (stop_of result)
+  goes_short (Ok x) e a = absurd e
+  goes_short (Err stop) e a =
+      record { more = a.more; noted = a.noted; near = a.near; last = a.last; asked = a.asked; ends = inl (e, a.ends) }
+
+  -- the call stops as one within it did
+  pub goes_as : {A : Type 0} {allowed : Read → Bool} {s s' : S} {ns ns' : List Note} {stop : Stop} (result : Result A Stop)
+      → IsErrAnd result (λ it. it ≡ stop) → Goes asks allowed s s' ns ns' (Some stop) → Goes asks allowed s s' ns ns' (stop_of result)
+  goes_as (Ok x) e a = absurd e
+  goes_as {A} {allowed} {s} {s'} {ns} {ns'} (Err it) e a = subst (λ z. Goes asks allowed s s' ns ns' (Some z)) (sym e) a
+
+  -- ---- calls that begin with no notes
+
+  module _ {allowed : Read → Bool} {s s' : S} {ns ns' : List Note} (none : ns ≡ []) where
+    pub all_near : {stop : Option Stop} → Goes asks allowed s s' ns ns' stop → AllAllowed allowed ns'
+    all_near a = subst (AllAllowed allowed) (sym (a.noted ∙ ap (λ ms. ms ++ a.more) none)) a.near
+
+    pub all_asked : Goes asks allowed s s' ns ns' None → Asked asks s ns' s'
+    all_asked a =
+        subst (λ m. Asked asks s ns' m) a.ends (subst (λ ms. Asked asks s ms a.last) (sym (a.noted ∙ ap (λ ms. ms ++ a.more) none)) a.asked)
+
+    pub stops_as : {A : Type 0} {stop : Stop} (result : Result A Stop) → IsErrAnd result (λ it. it ≡ stop)
+        → Goes asks allowed s s' ns ns' (Some stop) → IfErr result (λ it. Stops asks allowed s s' it)
+    stops_as (Ok x) e a = tt
+    stops_as {A} {stop} (Err it) e a =
+        (ns', subst (λ z. Goes asks allowed s s' [] ns' (Some z)) (sym e) (subst (λ ms. Goes asks allowed s s' ms ns' (Some stop)) none a))
+
+    pub stops_short : {A : Type 0} (result : Result A Stop) → IsErrAnd result (λ it. it ≡ Memory)
+        → Goes asks allowed s s' ns ns' None → IfErr result (λ it. Stops asks allowed s s' it)
+    stops_short (Ok x) e a = tt
+    stops_short {A} (Err it) e a = (ns', subst (λ ms. Goes asks allowed s s' ms ns' (Some it)) none (goes_short {A = A} (Err it) e a))

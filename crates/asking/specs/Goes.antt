@@ -1,24 +1,44 @@
--- What asking a source changes.
-use Rattle.std.specs.Prelude.{◌≡◌, Bool, true, List}
+-- What asking a source comes to.
+use Rattle.std.specs.Prelude.{◌≡◌, Bool, true, List, [], ◌∷◌, ◌++◌, Option, Some, None, Result, Ok, Err, ◌⊎◌}
 use Rattle.std.specs.List.{AllByRecursion}
-use Rattle.reads.specs.Reads.{View, Read, Answer}
-use Rattle.reads.specs.Runs.{Agrees}
+use Rattle.reads.specs.Reads.{Read, Answer}
 use Rattle.reads.specs.declared.note.Note.{Note}
-
--- each noted answer is one that may come
-abbrev pub AllMay : (Read → Answer → Type 0) → List Note → Type 0
-AllMay may notes = AllByRecursion (λ n. may n.read n.answer) notes
+use Rattle.reads.specs.declared.source.Stop.{Stop}
+use Rattle.reads.specs.declared.source.Stop.TheVariants.{Memory}
 
 -- each noted read is allowed
 abbrev pub AllAllowed : (Read → Bool) → List Note → Type 0
 AllAllowed allowed notes = AllByRecursion (λ n. allowed n.read ≡ true) notes
 
--- From some notes to more of them: the source may answer what it might before, what agrees with the notes now agreed with those
--- before, each answer that came is one that may come, and each read that was asked is allowed, by this test and by each that allows
--- more.
-pub record Goes (allowed : Read → Bool) (may may' : Read → Answer → Type 0) (notes notes' : List Note) : Type 0 where
-  pub later : (r : Read) (a : Answer) → may' r a → may r a
-  pub before : (r : Read) (a : Answer) → may r a → may' r a
-  pub agrees : (d : View) → Agrees notes' d → Agrees notes d
-  pub meets : AllMay may notes → AllMay may notes'
-  pub near : (more : Read → Bool) → ((r : Read) → allowed r ≡ true → more r ≡ true) → AllAllowed more notes → AllAllowed more notes'
+-- why a call stopped, if it did
+abbrev pub stop_of : {A : Type 0} → Result A Stop → Option Stop
+stop_of (Ok a) = None
+stop_of (Err stop) = Some stop
+
+-- what asking a source of this type for a read may come to
+module _ {S : Type 0} (asks : S → Read → Result Answer Stop → S → Type 0) where
+  -- the source was asked for the read of each note in turn, answered what is noted, and so came from one state to another
+  abbrev pub Asked : S → List Note → S → Type 0
+  Asked before [] after = before ≡ after
+  Asked before (n ∷ ns) after = (next : S) × asks before n.read (Ok n.answer) next × Asked next ns after
+
+  -- A call that has asked so far ends: with its value, for want of memory, or by asking for one allowed read more, at which the source
+  -- stopped, as the call does.
+  abbrev pub Ends : (Read → Bool) → S → Option Stop → S → Type 0
+  Ends allowed before None after = before ≡ after
+  Ends allowed before (Some stop) after =
+      ((stop ≡ Memory) × (before ≡ after)) ⊎ ((r : Read) × (allowed r ≡ true) × asks before r (Err stop) after)
+
+  -- A call that a source was passed to, with notes: it asked for what it noted, in order, and for nothing else but at most one read at
+  -- which the source stopped, and each is allowed. It stops where the source does, so as that did, and for want of memory.
+  pub record Goes (allowed : Read → Bool) (before after : S) (notes notes' : List Note) (stop : Option Stop) : Type 0 where
+    pub more : List Note
+    pub noted : notes' ≡ notes ++ more
+    pub near : AllAllowed allowed more
+    pub last : S
+    pub asked : Asked before more last
+    pub ends : Ends allowed last stop after
+
+  -- A call that stops: it asked for some allowed reads, which were answered, and then memory ran out, or the source stopped as the call does.
+  abbrev pub Stops : (Read → Bool) → S → S → Stop → Type 0
+  Stops allowed before after stop = (notes : List Note) × Goes allowed before after [] notes (Some stop)

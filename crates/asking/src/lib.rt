@@ -1,3 +1,8 @@
-//! What asking a source changes: notes, one after another, and what they keep. Definitions and laws alone, which the layers that ask
-//! cite; there is no code in it. Stands on `reads`.
+//! Asking a source: what that comes to, and the one call that asks and notes.
+//!
+//! The contract used above: what was noted is what was asked and answered, in order. Stands on `reads`.
 #![tactic(auto)]
+
+mod noting;
+
+pub use noting::ask;

@@ -16,7 +16,7 @@ use Rattle.algebra.specs.declared.plan.Link.TheVariants as link
 use Rattle.algebra.specs.declared.plan.Plan.{Plan as Kept}
 use Rattle.algebra.specs.declared.template.Slot.{Slot}
 use Rattle.algebra.specs.declared.template.Slot.TheVariants as slot
-use Rattle.meaning.specs.Near.{is_for_plan, is_graph_written}
+use Rattle.asking.specs.Near.{is_for_plan, is_graph_written}
 use Rattle.reads.specs.Reads.{Read}
 
 -- a named graph is written by its name
@@ -79,16 +79,20 @@ module _ (written : Option (Slot Id)) where
   pub filtered_near : (es : List (Expression Id)) (p : Plan Id) (r : Read) → for p r ≡ true → for (filtered es p) r ≡ true
   filtered_near [] p r h = h
   filtered_near (e ∷ es) p (Scan q) h = h
-  filtered_near (e ∷ es) p (GraphIs g) h = refl
+  filtered_near (e ∷ es) p (GraphIs g) h = h
   filtered_near (e ∷ es) p Graphs h = h
+
+  -- the name of the graph that a pattern goes into
+  pub name_asked : (t : Id) (p : Plan Id) → for (InGraph (place.Term t) p) (GraphIs t) ≡ true
+  name_asked t p = or_left _ _ (ap is_eq (tied_itself id_total t))
 
   -- a read for a pattern that is asked of a named graph, or of each
   pub named_near : (t : Id) (p : Plan Id) (r : Read) → is_for_plan id_order (Some (slot.Term t)) p r ≡ true → for (InGraph (place.Term t) p) r ≡ true
   named_near t p (Scan q) h = h
-  named_near t p (GraphIs g) h = refl
+  named_near t p (GraphIs g) h = or_right _ _ h
   named_near t p Graphs h = h
 
   pub each_near : (v : ℕ) (p : Plan Id) (r : Read) → is_for_plan id_order (Some (slot.Variable v)) p r ≡ true → for (InGraph (place.Variable v) p) r ≡ true
   each_near v p (Scan q) h = h
-  each_near v p (GraphIs g) h = refl
+  each_near v p (GraphIs g) h = h
   each_near v p Graphs h = refl

@@ -18,7 +18,7 @@ use Rattle.algebra.specs.declared.pattern.Place.TheVariants.{Term, Variable}
 use Rattle.algebra.specs.declared.pattern.TriplePattern.{TriplePattern}
 use Rattle.algebra.specs.declared.template.Slot.{Slot}
 use Rattle.meaning.specs.Mapping.{Mapping, mapping_cmp, fitted, empty_mapping}
-use Rattle.meaning.specs.Near.{is_written, is_graph_written, is_near_quad, is_for_plan, slot_of, quad_of}
+use Rattle.asking.specs.Near.{is_written, is_graph_written, is_near_quad, is_for_plan, slot_of, quad_of}
 use Rattle.meaning.specs.Solutions.{mapping_onto, solutions_among}
 use Rattle.eval.specs.Scans.{scan_of, term_of, AskedPatterns}
 use Rattle.eval.proofs.Maps.{filter_map-filter_alike}

@@ -8,7 +8,7 @@ ghost use Rattle.meaning.specs.Operators.{join as the_join};
 ghost use Rattle.meaning.specs.Solutions.{solutions_among, basic_solutions, passes_all};
 ghost use Rattle.reads.specs.Reads.{View, Read as Reading, applied};
 ghost use Rattle.reads.specs.Runs.{Agrees};
-ghost use Rattle.asking.specs.Goes.{Goes};
+ghost use Rattle.asking.specs.Goes.{Goes, stop_of};
 ghost use Rattle.solution.specs.Limits.{up_to};
 ghost use Rattle.eval.specs.Scans.{scan_of as the_scan_of, term_of as the_term_of, AskedPatterns};
 
@@ -49,8 +49,7 @@ fn solve_triple<S: Source, F>(
     source: &mut S,
     notes: &mut Vec<Note>,
 ) -> Result<Solutions, Stop>
-    ensures about { S.subject source.new ≡ S.subject source.old }
-    ensures goes { (allowed : Reading → Bool) → allowed (Scan (the_scan_of pattern.now graph)) ≡ true → Goes allowed (S.may source.old) (S.may source.new) notes.old.items notes.new.items }
+    ensures goes { (allowed : Reading → Bool) → allowed (Scan (the_scan_of pattern.now graph)) ≡ true → Goes S.asks allowed source.old source.new notes.old.items notes.new.items (stop_of result) }
     ensures solved { IfOk result (λ found. (d : View) → Agrees notes.new.items d → found ≡ solutions_among id_order query.now.width pattern.now (quads_in id_order graph (applied query.now.changes.now d).quads)) }
 {
     let wanted = scan_of(pattern, graph);
@@ -68,8 +67,7 @@ fn join_scanned<S: Source, F>(
     source: &mut S,
     notes: &mut Vec<Note>,
 ) -> Result<Solutions, Stop>
-    ensures about { S.subject source.new ≡ S.subject source.old }
-    ensures goes { (allowed : Reading → Bool) → allowed (Scan (the_scan_of pattern.now graph)) ≡ true → Goes allowed (S.may source.old) (S.may source.new) notes.old.items notes.new.items }
+    ensures goes { (allowed : Reading → Bool) → allowed (Scan (the_scan_of pattern.now graph)) ≡ true → Goes S.asks allowed source.old source.new notes.old.items notes.new.items (stop_of result) }
     ensures solved { IfOk result (λ found. (d : View) → Agrees notes.new.items d → found ≡ the_join id_order before.now (solutions_among id_order query.now.width pattern.now (quads_in id_order graph (applied query.now.changes.now d).quads))) }
 {
     let found = solve_triple(query, pattern, graph, source, notes)?;
@@ -86,8 +84,7 @@ pub fn solve_basic<S: Source, F>(
     source: &mut S,
     notes: &mut Vec<Note>,
 ) -> Result<Solutions, Stop>
-    ensures about { S.subject source.new ≡ S.subject source.old }
-    ensures goes { (allowed : Reading → Bool) → AskedPatterns allowed graph patterns.now → Goes allowed (S.may source.old) (S.may source.new) notes.old.items notes.new.items }
+    ensures goes { (allowed : Reading → Bool) → AskedPatterns allowed graph patterns.now → Goes S.asks allowed source.old source.new notes.old.items notes.new.items (stop_of result) }
     ensures solved { IfOk result (λ found. (d : View) → Agrees notes.new.items d → found ≡ basic_solutions id_order query.now.width patterns.now (quads_in id_order graph (applied query.now.changes.now d).quads)) }
 {
     let mut found = Solutions::empty_mapping(query.alloc, query.width)?;
@@ -109,8 +106,7 @@ pub fn solve_basic_up_to<S: Source, F: Filters>(
     source: &mut S,
     notes: &mut Vec<Note>,
 ) -> Result<Option<Solutions>, Stop>
-    ensures about { S.subject source.new ≡ S.subject source.old }
-    ensures goes { (allowed : Reading → Bool) → AskedPatterns allowed graph patterns.now → Goes allowed (S.may source.old) (S.may source.new) notes.old.items notes.new.items }
+    ensures goes { (allowed : Reading → Bool) → AskedPatterns allowed graph patterns.now → Goes S.asks allowed source.old source.new notes.old.items notes.new.items (stop_of result) }
     ensures solved { IfOk result (λ found. (d : View) → Agrees notes.new.items d → found ≡ up_to limit (filter (passes_all (F.passes query.now.filters.now) (map expression_of filters.now)) (basic_solutions id_order query.now.width patterns.now (quads_in id_order graph (applied query.now.changes.now d).quads)))) }
     ensures few { IfOk result (λ found. IfSome found (λ few. length few ≤ limit)) }
 {

@@ -7,11 +7,11 @@ ghost use Rattle.algebra.specs.declared.template.Slot.{Slot};
 ghost use Rattle.datasets.specs.Id.{id_order};
 ghost use Rattle.datasets.specs.declared.id.Id.{Id as Number};
 ghost use Rattle.datasets.specs.declared.read.GraphPlace.TheVariants as graph_place;
-ghost use Rattle.meaning.specs.Near.{is_for_plan, is_graph_written};
+ghost use Rattle.asking.specs.Near.{is_for_plan, is_graph_written};
 ghost use Rattle.meaning.specs.Solutions.{passes_all, solutions};
 ghost use Rattle.reads.specs.Reads.{View, applied};
 ghost use Rattle.reads.specs.Runs.{Agrees};
-ghost use Rattle.asking.specs.Goes.{Goes};
+ghost use Rattle.asking.specs.Goes.{Goes, stop_of};
 ghost use Rattle.solution.specs.Limits.{up_to};
 ghost use Rattle.eval.specs.Groups.{combined as the_combined};
 
@@ -81,8 +81,7 @@ fn solve_whole_up_to<S: Source, F: Filters>(
     source: &mut S,
     notes: &mut Vec<Note>,
 ) -> Result<Option<Solutions>, Stop>
-    ensures about { S.subject source.new ≡ S.subject source.old }
-    ensures goes { (written : Option (Slot Number)) → is_graph_written id_order written (graph_place.Only active) ≡ true → Goes (is_for_plan id_order written (plan_of plan.now)) (S.may source.old) (S.may source.new) notes.old.items notes.new.items }
+    ensures goes { (written : Option (Slot Number)) → is_graph_written id_order written (graph_place.Only active) ≡ true → Goes S.asks (is_for_plan id_order written (plan_of plan.now)) source.old source.new notes.old.items notes.new.items (stop_of result) }
     ensures solved { IfOk result (λ found. (d : View) → Agrees notes.new.items d → found ≡ up_to limit (filter (passes_all (F.passes query.now.filters.now) (map expression_of filters.now)) (solutions id_order (F.passes query.now.filters.now) query.now.width (plan_of plan.now) (applied query.now.changes.now d) active))) }
     ensures few { IfOk result (λ found. IfSome found (λ few. length few ≤ limit)) }
 {
@@ -95,7 +94,7 @@ fn solve_whole_up_to<S: Source, F: Filters>(
 /// unless there are more than the limit. The last join of the pattern ends as soon as there are, and so does its last OPTIONAL where no
 /// filters stand over it.
 #[cycle(solve_up_to)]
-#[tactic(auto, using(asking::proofs::Notes::goes_on))]
+#[tactic(auto, using(asking::proofs::Notes::goes_on, asking::proofs::Notes::goes_short, asking::proofs::Notes::goes_as))]
 pub fn solve_up_to<S: Source, F: Filters>(
     query: &Query<'_, F>,
     plan: &Plan<Id>,
@@ -105,8 +104,7 @@ pub fn solve_up_to<S: Source, F: Filters>(
     source: &mut S,
     notes: &mut Vec<Note>,
 ) -> Result<Option<Solutions>, Stop>
-    ensures about { S.subject source.new ≡ S.subject source.old }
-    ensures goes { (written : Option (Slot Number)) → is_graph_written id_order written (graph_place.Only active) ≡ true → Goes (is_for_plan id_order written (plan_of plan.now)) (S.may source.old) (S.may source.new) notes.old.items notes.new.items }
+    ensures goes { (written : Option (Slot Number)) → is_graph_written id_order written (graph_place.Only active) ≡ true → Goes S.asks (is_for_plan id_order written (plan_of plan.now)) source.old source.new notes.old.items notes.new.items (stop_of result) }
     ensures solved { IfOk result (λ found. (d : View) → Agrees notes.new.items d → found ≡ up_to limit (filter (passes_all (F.passes query.now.filters.now) (map expression_of filters.now)) (solutions id_order (F.passes query.now.filters.now) query.now.width (plan_of plan.now) (applied query.now.changes.now d) active))) }
     ensures few { IfOk result (λ found. IfSome found (λ few. length few ≤ limit)) }
 {
@@ -141,7 +139,7 @@ fn is_join(link: &Link<Id>) -> bool
 
 // The same for the patterns of a group. A group of one pattern is that pattern.
 #[cycle(solve_up_to)]
-#[tactic(auto, using(asking::proofs::Notes::goes_on))]
+#[tactic(auto, using(asking::proofs::Notes::goes_on, asking::proofs::Notes::goes_short, asking::proofs::Notes::goes_as))]
 fn solve_parts_up_to<S: Source, F: Filters>(
     query: &Query<'_, F>,
     parts: &[(Link<Id>, Plan<Id>)],
@@ -151,8 +149,7 @@ fn solve_parts_up_to<S: Source, F: Filters>(
     source: &mut S,
     notes: &mut Vec<Note>,
 ) -> Result<Option<Solutions>, Stop>
-    ensures about { S.subject source.new ≡ S.subject source.old }
-    ensures goes { (written : Option (Slot Number)) → is_graph_written id_order written (graph_place.Only active) ≡ true → Goes (is_for_plan id_order written (linked_all nothing (parts_of parts.now))) (S.may source.old) (S.may source.new) notes.old.items notes.new.items }
+    ensures goes { (written : Option (Slot Number)) → is_graph_written id_order written (graph_place.Only active) ≡ true → Goes S.asks (is_for_plan id_order written (linked_all nothing (parts_of parts.now))) source.old source.new notes.old.items notes.new.items (stop_of result) }
     ensures solved { IfOk result (λ found. (d : View) → Agrees notes.new.items d → found ≡ up_to limit (filter (passes_all (F.passes query.now.filters.now) (map expression_of filters.now)) (solutions id_order (F.passes query.now.filters.now) query.now.width (linked_all nothing (parts_of parts.now)) (applied query.now.changes.now d) active))) }
     ensures few { IfOk result (λ found. IfSome found (λ few. length few ≤ limit)) }
 {
@@ -172,7 +169,7 @@ fn solve_parts_up_to<S: Source, F: Filters>(
 
 // The same for a pattern in the graph of this name, or in each. A name is asked for first, and where it is absent nothing within.
 #[cycle(solve_up_to)]
-#[tactic(auto, using(asking::proofs::Notes::goes_on))]
+#[tactic(auto, using(asking::proofs::Notes::goes_on, asking::proofs::Notes::goes_short, asking::proofs::Notes::goes_as))]
 fn solve_in_up_to<S: Source, F: Filters>(
     query: &Query<'_, F>,
     place: Place<Id>,
@@ -182,14 +179,13 @@ fn solve_in_up_to<S: Source, F: Filters>(
     source: &mut S,
     notes: &mut Vec<Note>,
 ) -> Result<Option<Solutions>, Stop>
-    ensures about { S.subject source.new ≡ S.subject source.old }
-    ensures goes { (written : Option (Slot Number)) → Goes (is_for_plan id_order written (InGraph place (plan_of plan.now))) (S.may source.old) (S.may source.new) notes.old.items notes.new.items }
+    ensures goes { (written : Option (Slot Number)) → Goes S.asks (is_for_plan id_order written (InGraph place (plan_of plan.now))) source.old source.new notes.old.items notes.new.items (stop_of result) }
     ensures solved { IfOk result (λ found. (d : View) (active : Option Number) → Agrees notes.new.items d → found ≡ up_to limit (filter (passes_all (F.passes query.now.filters.now) (map expression_of filters.now)) (solutions id_order (F.passes query.now.filters.now) query.now.width (InGraph place (plan_of plan.now)) (applied query.now.changes.now d) active))) }
     ensures few { IfOk result (λ found. IfSome found (λ few. length few ≤ limit)) }
 {
     match place {
         Place::Term(name) => {
-            if is_graph(name, query.changes, source, notes)? {
+            if is_graph(query.alloc, name, query.changes, source, notes)? {
                 solve_up_to(query, plan, filters, Some(name), limit, source, notes)
             } else {
                 Ok(Some(Solutions::none(query.alloc)))

@@ -6,10 +6,10 @@ ghost use Rattle.datasets.specs.declared.id.Id.{Id as Name};
 ghost use Rattle.datasets.specs.declared.read.Read.TheVariants as reading;
 ghost use Rattle.reads.specs.Reads.{View, Read as Reading, applied, told_is, told_names};
 ghost use Rattle.reads.specs.Runs.{Agrees};
-ghost use Rattle.asking.specs.Goes.{Goes};
+ghost use Rattle.asking.specs.Goes.{Goes, stop_of};
 
 use crate::changes::{is_named_after, names_after};
-use crate::scanning::note;
+use asking::ask;
 use datasets::{Id, Read};
 use delta::Delta;
 use reads::{Answered, Note, Source, Stop};
@@ -37,19 +37,17 @@ fn names_of(answer: &Answered) -> &[Id]
 
 /// Whether there is a graph of this name, in each changed dataset that agrees with the notes. It asks for the name and nothing else.
 pub fn is_graph<S: Source>(
+    alloc: Global,
     name: Id,
     changes: &Delta,
     source: &mut S,
     notes: &mut Vec<Note>,
 ) -> Result<bool, Stop>
-    ensures about { S.subject source.new ≡ S.subject source.old }
-    ensures goes { (allowed : Reading → Bool) → allowed (reading.GraphIs name) ≡ true → Goes allowed (S.may source.old) (S.may source.new) notes.old.items notes.new.items }
+    ensures goes { (allowed : Reading → Bool) → allowed (reading.GraphIs name) ≡ true → Goes S.asks allowed source.old source.new notes.old.items notes.new.items (stop_of result) }
     ensures seen { IfOk result (λ so. (d : View) → Agrees notes.new.items d → so ≡ has id_order (applied changes.now d).names name) }
 {
-    let read = Read::GraphIs(name);
-    let answer = source.ask(&read)?;
+    let answer = ask(alloc, Read::GraphIs(name), source, notes)?;
     let was_there = tells_name(&answer);
-    note(notes, read, answer)?;
     Ok(is_named_after(changes, name, was_there))
 }
 
@@ -60,13 +58,10 @@ pub fn graphs<S: Source>(
     source: &mut S,
     notes: &mut Vec<Note>,
 ) -> Result<Vec<Id>, Stop>
-    ensures about { S.subject source.new ≡ S.subject source.old }
-    ensures goes { (allowed : Reading → Bool) → allowed reading.Graphs ≡ true → Goes allowed (S.may source.old) (S.may source.new) notes.old.items notes.new.items }
+    ensures goes { (allowed : Reading → Bool) → allowed reading.Graphs ≡ true → Goes S.asks allowed source.old source.new notes.old.items notes.new.items (stop_of result) }
     ensures seen { IfOk result (λ names. (d : View) → Agrees notes.new.items d → names.items ≡ (applied changes.now d).names) }
 {
-    let read = Read::Graphs;
-    let answer = source.ask(&read)?;
+    let answer = ask(alloc, Read::Graphs, source, notes)?;
     let names = names_after(alloc, changes, names_of(&answer))?;
-    note(notes, read, answer)?;
     Ok(names)
 }

@@ -7,26 +7,14 @@ ghost use Rattle.datasets.specs.declared.quad.Quad.{Quad as QuadOf};
 ghost use Rattle.datasets.specs.declared.read.Read.TheVariants.{Scan};
 ghost use Rattle.reads.specs.Reads.{View, Read as Reading, applied, told_quads};
 ghost use Rattle.reads.specs.Runs.{Agrees};
-ghost use Rattle.asking.specs.Goes.{Goes};
+ghost use Rattle.asking.specs.Goes.{Goes, stop_of};
 
 use crate::changes::quads_after;
+use asking::ask;
 use datasets::{Id, Quad, QuadPattern, Read};
 use delta::Delta;
 use reads::{Answered, Note, Source, Stop};
-use std::alloc::{AllocError, Global};
-
-/// Puts a read with its answer at the end.
-pub(crate) fn note(
-    notes: &mut Vec<Note>,
-    read: Read<Id>,
-    answer: Answered,
-) -> Result<(), AllocError>
-    ensures ok { OnOk result (notes.new.items ≡ notes.old.items ++ record { read = read; answer = answer } ∷ []) }
-    ensures err { OnErr result (notes.new.items ≡ notes.old.items) }
-{
-    notes.push(Note { read, answer })?;
-    Ok(())
-}
+use std::alloc::Global;
 
 // The quads of an answer. An answer of another kind counts as none.
 fn quads_of(answer: &Answered) -> &[Quad<Id>]
@@ -46,13 +34,10 @@ pub fn scan<S: Source>(
     source: &mut S,
     notes: &mut Vec<Note>,
 ) -> Result<Vec<Quad<Id>>, Stop>
-    ensures about { S.subject source.new ≡ S.subject source.old }
-    ensures goes { (allowed : Reading → Bool) → allowed (Scan pattern.now) ≡ true → Goes allowed (S.may source.old) (S.may source.new) notes.old.items notes.new.items }
+    ensures goes { (allowed : Reading → Bool) → allowed (Scan pattern.now) ≡ true → Goes S.asks allowed source.old source.new notes.old.items notes.new.items (stop_of result) }
     ensures seen { IfOk result (λ quads. (d : View) → Agrees notes.new.items d → quads.items ≡ filter (matches id_order pattern.now) (applied changes.now d).quads) }
 {
-    let read = Read::Scan(*pattern);
-    let answer = source.ask(&read)?;
+    let answer = ask(alloc, Read::Scan(*pattern), source, notes)?;
     let quads = quads_after(alloc, changes, pattern, quads_of(&answer))?;
-    note(notes, read, answer)?;
     Ok(quads)
 }

@@ -8,11 +8,11 @@ ghost use Rattle.datasets.specs.Id.{id_order};
 ghost use Rattle.datasets.specs.declared.id.Id.{Id as Number};
 ghost use Rattle.datasets.specs.declared.read.GraphPlace.TheVariants as graph_place;
 ghost use Rattle.meaning.specs.Mapping.{mapping_cmp};
-ghost use Rattle.meaning.specs.Near.{is_for_plan, is_graph_written};
+ghost use Rattle.asking.specs.Near.{is_for_plan, is_graph_written};
 ghost use Rattle.meaning.specs.Solutions.{solutions};
 ghost use Rattle.reads.specs.Reads.{View, applied};
 ghost use Rattle.reads.specs.Runs.{Agrees};
-ghost use Rattle.asking.specs.Goes.{Goes};
+ghost use Rattle.asking.specs.Goes.{Goes, stop_of};
 ghost use Rattle.eval.specs.Groups.{combined as the_combined, in_graphs};
 
 use crate::basic::solve_basic;
@@ -42,7 +42,7 @@ fn combined<F: Filters>(
 
 /// The solutions of a pattern, with this graph as the active one, in each changed dataset that agrees with the notes.
 #[cycle(solve)]
-#[tactic(auto, using(asking::proofs::Notes::goes_on))]
+#[tactic(auto, using(asking::proofs::Notes::goes_on, asking::proofs::Notes::goes_short, asking::proofs::Notes::goes_as))]
 pub fn solve<S: Source, F: Filters>(
     query: &Query<'_, F>,
     plan: &Plan<Id>,
@@ -50,8 +50,7 @@ pub fn solve<S: Source, F: Filters>(
     source: &mut S,
     notes: &mut Vec<Note>,
 ) -> Result<Solutions, Stop>
-    ensures about { S.subject source.new ≡ S.subject source.old }
-    ensures goes { (written : Option (Slot Number)) → is_graph_written id_order written (graph_place.Only active) ≡ true → Goes (is_for_plan id_order written (plan_of plan.now)) (S.may source.old) (S.may source.new) notes.old.items notes.new.items }
+    ensures goes { (written : Option (Slot Number)) → is_graph_written id_order written (graph_place.Only active) ≡ true → Goes S.asks (is_for_plan id_order written (plan_of plan.now)) source.old source.new notes.old.items notes.new.items (stop_of result) }
     ensures solved { IfOk result (λ found. (d : View) → Agrees notes.new.items d → found ≡ solutions id_order (F.passes query.now.filters.now) query.now.width (plan_of plan.now) (applied query.now.changes.now d) active) }
 {
     match plan {
@@ -68,7 +67,7 @@ pub fn solve<S: Source, F: Filters>(
 
 /// The solutions of a group's patterns, each as the group goes on with it.
 #[cycle(solve)]
-#[tactic(auto, using(asking::proofs::Notes::goes_on))]
+#[tactic(auto, using(asking::proofs::Notes::goes_on, asking::proofs::Notes::goes_short, asking::proofs::Notes::goes_as))]
 pub(crate) fn solve_parts<S: Source, F: Filters>(
     query: &Query<'_, F>,
     parts: &[(Link<Id>, Plan<Id>)],
@@ -76,8 +75,7 @@ pub(crate) fn solve_parts<S: Source, F: Filters>(
     source: &mut S,
     notes: &mut Vec<Note>,
 ) -> Result<Solutions, Stop>
-    ensures about { S.subject source.new ≡ S.subject source.old }
-    ensures goes { (written : Option (Slot Number)) → is_graph_written id_order written (graph_place.Only active) ≡ true → Goes (is_for_plan id_order written (linked_all nothing (parts_of parts.now))) (S.may source.old) (S.may source.new) notes.old.items notes.new.items }
+    ensures goes { (written : Option (Slot Number)) → is_graph_written id_order written (graph_place.Only active) ≡ true → Goes S.asks (is_for_plan id_order written (linked_all nothing (parts_of parts.now))) source.old source.new notes.old.items notes.new.items (stop_of result) }
     ensures solved { IfOk result (λ found. (d : View) → Agrees notes.new.items d → found ≡ solutions id_order (F.passes query.now.filters.now) query.now.width (linked_all nothing (parts_of parts.now)) (applied query.now.changes.now d) active) }
 {
     let mut found = Solutions::empty_mapping(query.alloc, query.width)?;
@@ -90,7 +88,7 @@ pub(crate) fn solve_parts<S: Source, F: Filters>(
 
 // The solutions of any of these patterns; of none, the empty mapping.
 #[cycle(solve)]
-#[tactic(auto, using(asking::proofs::Notes::goes_on))]
+#[tactic(auto, using(asking::proofs::Notes::goes_on, asking::proofs::Notes::goes_short, asking::proofs::Notes::goes_as))]
 fn solve_union<S: Source, F: Filters>(
     query: &Query<'_, F>,
     plans: &[Plan<Id>],
@@ -98,8 +96,7 @@ fn solve_union<S: Source, F: Filters>(
     source: &mut S,
     notes: &mut Vec<Note>,
 ) -> Result<Solutions, Stop>
-    ensures about { S.subject source.new ≡ S.subject source.old }
-    ensures goes { (written : Option (Slot Number)) → is_graph_written id_order written (graph_place.Only active) ≡ true → Goes (is_for_plan id_order written (united (map plan_of plans.now))) (S.may source.old) (S.may source.new) notes.old.items notes.new.items }
+    ensures goes { (written : Option (Slot Number)) → is_graph_written id_order written (graph_place.Only active) ≡ true → Goes S.asks (is_for_plan id_order written (united (map plan_of plans.now))) source.old source.new notes.old.items notes.new.items (stop_of result) }
     ensures solved { IfOk result (λ found. (d : View) → Agrees notes.new.items d → found ≡ solutions id_order (F.passes query.now.filters.now) query.now.width (united (map plan_of plans.now)) (applied query.now.changes.now d) active) }
 {
     let [first, rest @ ..] = plans else {
@@ -116,7 +113,7 @@ fn solve_union<S: Source, F: Filters>(
 /// The solutions of a pattern in the graph of this name, or in each. A name is asked for first, and where it is absent nothing within; for
 /// a variable all names are asked for.
 #[cycle(solve)]
-#[tactic(auto, using(asking::proofs::Notes::goes_on))]
+#[tactic(auto, using(asking::proofs::Notes::goes_on, asking::proofs::Notes::goes_short, asking::proofs::Notes::goes_as))]
 pub(crate) fn solve_in<S: Source, F: Filters>(
     query: &Query<'_, F>,
     place: Place<Id>,
@@ -124,13 +121,12 @@ pub(crate) fn solve_in<S: Source, F: Filters>(
     source: &mut S,
     notes: &mut Vec<Note>,
 ) -> Result<Solutions, Stop>
-    ensures about { S.subject source.new ≡ S.subject source.old }
-    ensures goes { (written : Option (Slot Number)) → Goes (is_for_plan id_order written (InGraph place (plan_of plan.now))) (S.may source.old) (S.may source.new) notes.old.items notes.new.items }
+    ensures goes { (written : Option (Slot Number)) → Goes S.asks (is_for_plan id_order written (InGraph place (plan_of plan.now))) source.old source.new notes.old.items notes.new.items (stop_of result) }
     ensures solved { IfOk result (λ found. (d : View) (active : Option Number) → Agrees notes.new.items d → found ≡ solutions id_order (F.passes query.now.filters.now) query.now.width (InGraph place (plan_of plan.now)) (applied query.now.changes.now d) active) }
 {
     match place {
         Place::Term(name) => {
-            if is_graph(name, query.changes, source, notes)? {
+            if is_graph(query.alloc, name, query.changes, source, notes)? {
                 solve(query, plan, Some(name), source, notes)
             } else {
                 Ok(Solutions::none(query.alloc))
@@ -145,7 +141,7 @@ pub(crate) fn solve_in<S: Source, F: Filters>(
 
 // The solutions of a pattern in each of these graphs, with a variable bound to the graph's name.
 #[cycle(solve)]
-#[tactic(auto, using(asking::proofs::Notes::goes_on))]
+#[tactic(auto, using(asking::proofs::Notes::goes_on, asking::proofs::Notes::goes_short, asking::proofs::Notes::goes_as))]
 fn solve_graphs<S: Source, F: Filters>(
     query: &Query<'_, F>,
     variable: u32,
@@ -154,8 +150,7 @@ fn solve_graphs<S: Source, F: Filters>(
     source: &mut S,
     notes: &mut Vec<Note>,
 ) -> Result<Solutions, Stop>
-    ensures about { S.subject source.new ≡ S.subject source.old }
-    ensures goes { Goes (is_for_plan id_order (Some (slot.Variable variable)) (plan_of plan.now)) (S.may source.old) (S.may source.new) notes.old.items notes.new.items }
+    ensures goes { Goes S.asks (is_for_plan id_order (Some (slot.Variable variable)) (plan_of plan.now)) source.old source.new notes.old.items notes.new.items (stop_of result) }
     ensures solved { IfOk result (λ found. (d : View) → Agrees notes.new.items d → found ≡ the_set_of (mapping_cmp id_order) (in_graphs (F.passes query.now.filters.now) query.now.width variable (plan_of plan.now) (applied query.now.changes.now d) names.now)) }
 {
     let mut found = Vec::new(query.alloc);

@@ -1,5 +1,5 @@
 -- A pass that made a call is still for its duty.
-use Rattle.std.proofs.Common.{◌≡◌, ◌<◌, ◌≤◌, ℕ, List, [], ◌∷◌, ◌++◌, ◌+◌, length, length-append, take, drop, All, IfOk, Result, Ok, Err, refl, sym, ap, ◌∙◌, subst, arith}
+use Rattle.std.proofs.Common.{◌≡◌, ◌<◌, ◌≤◌, ℕ, List, [], ◌∷◌, ◌++◌, ◌+◌, length, length-append, take, drop, All, Bool, IfOk, Option, Some, ◌⊎◌, inl, inr, Result, Ok, Err, refl, sym, ap, ◌∙◌, subst, arith}
 use Rattle.std.proofs.lemmas.List.{take_all}
 use Rattle.std.proofs.lemmas.List.Elements.{All-append, All-take, All-drop}
 use Rattle.datasets.specs.declared.id.Id.{Id}
@@ -7,13 +7,19 @@ use Rattle.terms.specs.declared.term.Term.{Term}
 use Rattle.dict.specs.Dictionary.{numbers}
 use Rattle.meaning.specs.Run.{Request, run, run_of_first}
 use Rattle.meaning.specs.declared.reply.Reply.{Reply}
-use Rattle.reads.specs.Reads.{View}
+use Rattle.reads.specs.Reads.{View, Read, Answer}
 use Rattle.block_machine.specs.declared.state.Event.{Event}
 use Rattle.block_machine.specs.declared.state.Reply.{Reply as Told}
 use Rattle.blocklock.specs.Passes.{Includes}
 use Rattle.book.specs.Run.{Run, front_run, state_of}
 use Rattle.shared.specs.Calls.{Viewed, Made, owner, history_of, run_of}
 use Rattle.shared.specs.Duty.{Duty, IsPassFor}
+use Rattle.shared.specs.Asks.{Asker, Asks}
+use Rattle.shared.proofs.Asking.{asks_sees}
+use Rattle.asking.specs.Goes.{Asked, Ends, Stops}
+use Rattle.asking.proofs.Notes.{asked_all}
+use Rattle.reads.specs.declared.note.Note.{Note}
+use Rattle.reads.specs.declared.source.Stop.{Stop}
 use Rattle.pool.specs.Duty.{MayBegin, IsDone, AreDone}
 
 pub still_for : {E : Type 0} (d : Duty) (old new : Viewed) (event : Event) (r : Result Told E) → IsPassFor d old → Made old new event r → IsPassFor d new
@@ -25,15 +31,41 @@ still_for d old new event (Ok reply) h made =
     }
 still_for d old new event (Err e) h made =
     record {
-      table = ap (λ (p : Viewed). p.table) made.sees ∙ h.table;
-      subject = ap (λ (p : Viewed). p.subject) made.sees ∙ h.subject;
-      holds = ap (λ (p : Viewed). p.holds) made.sees ∙ h.holds;
+      table = ap (λ (p : Viewed). p.table) made.watches.sees ∙ h.table;
+      subject = ap (λ (p : Viewed). p.subject) made.watches.sees ∙ h.subject;
+      holds = ap (λ (p : Viewed). p.holds) made.watches.sees ∙ h.holds;
     }
 
 -- a call changes of a pass only what it has seen
 pub sees_more : {E : Type 0} (old new : Viewed) (event : Event) (r : Result Told E) → Made old new event r → new ≡ record old { seen = new.seen }
 sees_more old new event (Ok reply) made = made.sees
-sees_more old new event (Err e) made = made.sees
+sees_more old new event (Err e) made = made.watches.sees
+
+-- ---- a run whose reads a pass answers
+
+asked_for : (d : Duty) (a a' : Asker) (r : Read) (told : Result Answer Stop) → IsPassFor d a.pass → Asks a r told a' → IsPassFor d a'.pass
+asked_for d a a' r told h asks =
+    let sees = asks_sees a a' r told asks in
+    record {
+      table = ap (λ (p : Viewed). p.table) sees ∙ h.table;
+      subject = ap (λ (p : Viewed). p.subject) sees ∙ h.subject;
+      holds = ap (λ (p : Viewed). p.holds) sees ∙ h.holds;
+    }
+
+-- the run came to its end
+pub ran_for : (d : Duty) (notes : List Note) (a a' : Asker) → IsPassFor d a.pass → Asked Asks a notes a' → IsPassFor d a'.pass
+ran_for d notes a a' h asked =
+    (asked_all Asks (λ b. IsPassFor d b.pass) (λ r x. Unit {0}) (λ b b' r x k asks. (asked_for d b b' r (Ok x) k asks, tt)) notes a a' h asked).0
+
+-- it was stopped
+pub stopped_for : (d : Duty) (allowed : Read → Bool) (stop : Stop) (a a' : Asker) → IsPassFor d a.pass → Stops Asks allowed a a' stop → IsPassFor d a'.pass
+stopped_for d allowed stop a a' h stops =
+    let went = stops.1 in
+    ended went.last (ran_for d went.more a went.last h went.asked) went.ends
+  where
+    ended : (b : Asker) → IsPassFor d b.pass → Ends Asks allowed b (Some stop) a' → IsPassFor d a'.pass
+    ended b k (inl (short, same)) = subst (λ z. IsPassFor d z.pass) same k
+    ended b k (inr (r, near, asks)) = asked_for d b a' r (Err stop) k asks
 
 -- ---- the book that is closed with passes that are done
 

@@ -3,15 +3,15 @@ ghost use Rattle.std.specs.Prelude.{◌≡◌};
 
 use crate::gate::Gate;
 use crate::worker::{Turn, Workers};
-use block_machine::{Event, Reply, scans_of};
+use block_machine::{Event, scans_of};
 use datasets::{Id, Read};
 use reads::{Answered, Source, Stop};
-use shared::Pass;
+use shared::{Pass, told};
 use std::marker::Model;
 use std::sync::Wait;
 
 /// What answers the reads of one incarnation of a request: a shared book, by a pass, which it keeps until the run ends. To a contract it is
-/// its pass.
+/// its pass, with the place of the request and the incarnation.
 #[derive(Drop)]
 pub struct Asking<'w, 's, 'a, R: Wait, G: Gate> {
     workers: &'w Workers<'s, 'a, R, G>,
@@ -24,13 +24,13 @@ impl<'w, 's, 'a, R: Wait, G: Gate> Model for Asking<'w, 's, 'a, R, G> {
     ghost use Rattle.std.specs.Prelude.{◌≡◌};
     ghost use Rattle.algebra.specs.Codes.{plan_code};
     ghost use Rattle.datasets.specs.declared.id.Id.{Id as Number};
-    ghost use Rattle.shared.specs.Calls.{Viewed};
+    ghost use Rattle.shared.specs.Asks.{Asker};
 
-    ghost Value = { Viewed };
+    ghost Value = { Asker };
 
     ghost coded = { Prim.hlevel (codes, plan_code {K = Number} (Prim.hlevel codes)) };
 
-    ghost view = { λ a. a.pass };
+    ghost view = { λ a. record { pass = a.pass; place = a.turn.place; incarnation = a.turn.incarnation } };
 
     ghost invariant = { λ a. (a.pass.table ≡ a.workers.now.table) × (a.pass.subject ≡ a.workers.now.subject) };
 }
@@ -40,7 +40,7 @@ impl<'w, 's, 'a, R: Wait, G: Gate> Asking<'w, 's, 'a, R, G> {
     pub fn new(workers: &'w Workers<'s, 'a, R, G>, pass: Pass<'a>, turn: Turn) -> Self
         requires table { pass.table ≡ workers.now.table }
         requires subject { pass.subject ≡ workers.now.subject }
-        ensures { result ≡ pass.entry }
+        ensures { result ≡ record { pass = pass.entry; place = turn.place; incarnation = turn.incarnation } }
     {
         Asking {
             workers,
@@ -51,23 +51,16 @@ impl<'w, 's, 'a, R: Wait, G: Gate> Asking<'w, 's, 'a, R, G> {
 
     /// The pass again.
     pub fn into_pass(self) -> Pass<'a>
-        ensures { result ≡ self.entry }
+        ensures { result ≡ self.entry.pass }
     {
         self.pass
     }
 }
 
 impl<'w, 's, 'a, R: Wait, G: Gate> Source for Asking<'w, 's, 'a, R, G> {
-    ghost use Rattle.std.specs.Prelude.{[]};
-    ghost use Rattle.shared.specs.Calls.{Viewed};
+    ghost use Rattle.shared.specs.Asks.{Asks};
 
-    // What a shared book may answer depends on the moment.
-    ghost may = { λ asking read answer. Unit {0} };
-
-    // The pass, but for what it has seen.
-    ghost Subject = { Viewed };
-
-    ghost subject = { λ asking. record asking { seen = [] } };
+    ghost asks = { Asks };
 
     fn ask(&mut self, read: &Read<Id>) -> Result<Answered, Stop> {
         let Turn { place, incarnation } = self.turn;
@@ -83,10 +76,6 @@ impl<'w, 's, 'a, R: Wait, G: Gate> Source for Asking<'w, 's, 'a, R, G> {
             read,
             &scans,
         )?;
-        match workers.shown(&self.pass, event, reply) {
-            Reply::Answered(answer) => Ok(answer),
-            Reply::Blocked(lower) => Err(Stop::Blocked(lower)),
-            _ => Err(Stop::Stale),
-        }
+        told(workers.shown(&self.pass, event, reply))
     }
 }

@@ -3,3 +3,4 @@ pub mod Same
 pub mod Runs
 pub mod Shared
 pub mod Questions
+pub mod Tells

@@ -1,5 +1,5 @@
 //! What answers the reads of a run.
-ghost use Rattle.std.specs.Prelude.{◌≡◌, IfOk};
+ghost use Rattle.std.specs.Prelude.{◌≡◌};
 ghost use Rattle.reads.specs.declared.source.Stop.TheVariants.{Memory as OfMemory};
 
 use crate::answered::Answered;
@@ -35,20 +35,14 @@ impl<T: Drop> From<AllocFailed<T>> for Stop {
 
 /// What answers the reads of a run, or stops it. Nothing says that its answers agree with one another.
 pub trait Source {
-    ghost use Rattle.reads.specs.Reads.{Answer};
-    ghost use Rattle.reads.specs.Reads.{Read as Reading};
+    ghost use Rattle.std.specs.Prelude.{Result};
+    ghost use Rattle.reads.specs.Reads.{Answer as Answering, Read as Reading};
+    ghost use Rattle.reads.specs.declared.source.Stop.{Stop as Stopping};
 
-    /// What it may answer to a read.
-    ghost may: { Self → Reading → Answer → Type 0 };
-    /// What kind of thing it is about, and what.
-    ghost Subject: { Type 0 };
+    /// What asking for a read may come to: the source before, the read, the answer or why it stops, and the source after.
+    ghost asks: { Self → Reading → Result Answering Stopping → Self → Type 0 };
 
-    ghost subject: { Self → Subject };
-
-    /// The answer to a read. What the source may answer and what it is about stay as they are, also where it stops.
+    /// The answer to a read.
     fn ask(&mut self, read: &Read<Id>) -> Result<Answered, Stop>
-        ensures about { subject self.new ≡ subject self.old }
-        ensures meets { IfOk result (λ answer. may self.old read.now answer) }
-        ensures later { (r : Reading) (a : Answer) → may self.new r a → may self.old r a }
-        ensures before { (r : Reading) (a : Answer) → may self.old r a → may self.new r a };
+        ensures { asks self.old read.now result self.new };
 }

@@ -2,3 +2,4 @@ pub mod Lines
 pub mod Found
 pub mod Replays
 pub mod Following
+pub mod Noted

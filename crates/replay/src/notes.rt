@@ -21,15 +21,10 @@ struct Answering<'n> {
 }
 
 impl<'n> Source for Answering<'n> {
-    ghost use Rattle.std.specs.Prelude.{List};
-    ghost use Rattle.block_machine.specs.declared.state.Noted.{Noted as Described};
+    ghost use Rattle.std.specs.Prelude.{◌≡◌};
+    ghost use Rattle.replay.specs.Noted.{IsNext};
 
-    ghost may = { λ answering read answer. Unit {0} };
-
-    // The notes.
-    ghost Subject = { List Described };
-
-    ghost subject = { λ answering. answering.notes.now };
+    ghost asks = { λ before read told after. (after.notes.now ≡ before.notes.now) × IsNext before.notes.now before.next read told after.next };
 
     fn ask(&mut self, read: &Read<Id>) -> Result<Answered, Stop> {
         match self.notes.get(self.next) {

@@ -1,5 +1,6 @@
 -- What a finished run makes of the dataset that answered it.
 use Rattle.std.proofs.Common.{◌≡◌, ℕ, List, [], ◌∷◌, sym, ◌∙◌, subst}
+use Rattle.std.specs.List.{AllByRecursion}
 use Rattle.terms.specs.declared.term.Term.{Term}
 use Rattle.datasets.specs.declared.id.Id.{Id}
 use Rattle.dict.specs.Dictionary.{numbers}
@@ -9,19 +10,18 @@ use Rattle.reads.specs.Runs.{Agrees}
 use Rattle.delta.specs.Sound.{IsSoundFor}
 use Rattle.delta.specs.declared.finished.Finished.{Finished}
 use Rattle.reads.specs.declared.note.Note.{Note}
-use Rattle.asking.specs.Goes.{AllMay}
 use Rattle.update.specs.Executed.{Executed}
 
-agrees : (notes : List Note) (d : View) → AllMay (λ r a. a ≡ says r d) notes → Agrees notes d
+agrees : (notes : List Note) (d : View) → AllByRecursion (λ n. n.answer ≡ says n.read d) notes → Agrees notes d
 agrees [] d h = tt
 agrees (n ∷ ns) d h = (h.0, agrees ns d h.1)
 
 pub answered : (e : Executed) (terms : List Term) (place : ℕ) (request : Request Id) (run : Finished) (d : View)
     → (e.terms ≡ terms) × (e.place ≡ place) × (e.request ≡ request) → IsSoundFor (answer_of (numbers e.terms) e.place e.request) run
-    → run ≡ e.finished → AllMay (λ r a. a ≡ says r d) e.finished.transcript → IsDataset d
+    → run ≡ e.finished → AllByRecursion (λ n. n.answer ≡ says n.read d) e.finished.transcript → IsDataset d
     → (applied run.delta d, run.reply) ≡ answer_of (numbers terms) place request d
 unfolding IsSoundFor
 answered e terms place request run d is sound same meets dataset =
-    let agreed = agrees run.transcript d (subst (λ (f : Finished). AllMay (λ r a. a ≡ says r d) f.transcript) (sym same) meets) in
+    let agreed = agrees run.transcript d (subst (λ (f : Finished). AllByRecursion (λ n. n.answer ≡ says n.read d) f.transcript) (sym same) meets) in
     let made = sound d dataset agreed in
     (λ t. (made.0 t, made.1 t)) ∙ (λ t. answer_of (numbers (is.0 t)) (is.1 t) (is.2 t) d)

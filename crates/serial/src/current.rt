@@ -170,13 +170,9 @@ pub(crate) struct Reader<'s, 'a> {
 
 impl<'s, 'a> Source for Reader<'s, 'a> {
     ghost use Rattle.std.specs.Prelude.{◌≡◌};
-    ghost use Rattle.reads.specs.Reads.{View as Dataset, says};
+    ghost use Rattle.reads.specs.Tells.{Tells};
 
-    ghost may = { λ reader read answer. answer ≡ says read reader.current.now };
-
-    ghost Subject = { Dataset };
-
-    ghost subject = { λ reader. reader.current.now };
+    ghost asks = { λ reader read told reader'. (reader'.current.now ≡ reader.current.now) × Tells reader.current.now read told };
 
     fn ask(&mut self, read: &Read<Id>) -> Result<Answered, Stop> {
         Ok(self.current.answer(self.alloc, read)?)

@@ -1,5 +1,5 @@
 -- A pass that took the book and gave it back with one more entry.
-use Rattle.std.proofs.Common.{◌≡◌, ℕ, eqb, false, List, [], ◌∷◌, ◌++◌, length, length-append, refl, sym, ap, subst, ◌∙◌, arith, Some, Result, Ok, Err, IfOk, OnErr}
+use Rattle.std.proofs.Common.{◌≡◌, ℕ, eqb, false, List, [], ◌∷◌, ◌++◌, length, length-append, refl, sym, ap, subst, ◌∙◌, arith, append-nil, Some, Result, Ok, Err, IfOk, OnErr}
 use Rattle.std.proofs.lemmas.List.Elements.{filter-append}
 use Rattle.block_machine.specs.declared.state.Entry.{Entry}
 use Rattle.block_machine.specs.declared.state.Event.{Event}
@@ -11,7 +11,7 @@ use Rattle.book.specs.Run.{Run, state_of, setting_of, IsSoundEvent}
 use Rattle.blocklock.specs.History.{of_worker}
 use Rattle.blocklock.specs.Passes.{Takes, Watches}
 use Rattle.shared.specs.declared.kept.Subject.{Subject}
-use Rattle.shared.specs.Calls.{Viewed, owner, history_of, run_of, entry, Answers, Made, Has}
+use Rattle.shared.specs.Calls.{Viewed, owner, history_of, run_of, entry, Answers, Unmade, Made, Has}
 
 -- the earlier journal's entries of the worker are all of the later one's, so what lies between has none
 none_between : (w : ℕ) (before between : List Entry) → of_worker owner w (before ++ between) ≡ of_worker owner w before → of_worker owner w between ≡ []
@@ -86,8 +86,20 @@ module _ (old mid : Viewed) (book : Run) (takes : Takes owner old (history_of bo
         mine = (λ i. of_worker owner (by i) (now i)) ∙ takes.includes.mine;
       }
 
+  -- and what it has seen is a history
+  pub unmade : (new : Viewed) → new ≡ record mid { holds = false } → IsHistory (setting_of (run_of mid.subject new.seen)) new.seen → Unmade old new
+  unmade new gave lawful =
+      record { watches = watches new gave; lawful = λ h. subst (λ (s : Subject). IsHistory (setting_of (run_of s new.seen)) new.seen) subject lawful }
+
   pub made : {X : Type 0} (new : Viewed) (event : Event) (r : Result Reply X) → IfOk r (λ reply. new ≡ record mid { seen = mid.seen ++ entry mid.worker event reply ∷ []; holds = false })
       → IfOk r (λ reply. IsAllowed mid.subject.base (state_of (run_of mid.subject mid.seen)) mid.worker event reply) → IsHistory (setting_of (run_of mid.subject new.seen)) new.seen
       → OnErr r (new ≡ record mid { holds = false }) → Made old new event r
   made new event (Ok reply) gave allowed lawful err = answers new event reply gave allowed lawful
-  made new event (Err e) gave allowed lawful err = watches new err
+  made new event (Err e) gave allowed lawful err = unmade new err lawful
+
+-- a call that left the pass as it was
+pub unmade_so : (p q : Viewed) → q ≡ p → Unmade p q
+unmade_so p q same = subst (Unmade p) (sym same) (record {
+  watches = record { sees = refl; begins = ([], sym (append-nil p.seen)); mine = refl };
+  lawful = λ h. h;
+})

@@ -51,16 +51,22 @@ pub record Answers (old new : Viewed) (event : Event) (reply : Reply) : Type 0 w
   pub allowed : IsAllowed old.subject.base (state_of (run_of old.subject (old.seen ++ between))) old.worker event reply
   pub lawful : IsHistory (setting_of (run_of old.subject new.seen)) new.seen
 
--- a call that may wait: answered, or a growth was refused and the pass has at most seen more
+-- A call was not made, since a growth was refused: the pass has at most seen more, with no new entry of its worker, and what it has
+-- seen is a history if what it had seen is one.
+pub record Unmade (old new : Viewed) : Type 0 where
+  pub watches : Watches owner old new
+  pub lawful : IsHistory (setting_of (run_of old.subject old.seen)) old.seen → IsHistory (setting_of (run_of old.subject new.seen)) new.seen
+
+-- a call that may wait: answered, or a growth was refused
 abbrev pub Made : {E : Type 0} → Viewed → Viewed → Event → Result Reply E → Type 0
 Made old new event (Ok reply) = Answers old new event reply
-Made old new event (Err e) = Watches owner old new
+Made old new event (Err e) = Unmade old new
 
 -- a call that does not wait: the same, or the book was out and the pass is as it was
 abbrev pub Tried : Viewed → Viewed → Event → Result Reply Refused → Type 0
 Tried old new event (Ok reply) = Answers old new event reply
 Tried old new event (Err Busy) = new ≡ old
-Tried old new event (Err OutOfMemory) = Watches owner old new
+Tried old new event (Err OutOfMemory) = Unmade old new
 
 -- the pass holds this book, and has seen its journal
 pub record Has (p : Viewed) (book : Run) : Type 0 where

@@ -12,6 +12,6 @@ mod trying;
 mod waiting;
 
 pub use kept::{Kept, Pass, Subject};
-pub use reader::Reader;
+pub use reader::{Reader, told};
 pub use refused::Refused;
 pub use shared_block::SharedBlock;

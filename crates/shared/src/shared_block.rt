@@ -162,8 +162,13 @@ impl<'a> SharedBlock<'a> {
         requires { pass.old.table ≡ self.now }
         ensures front { result ≡ (state_of (run_of pass.new.subject pass.new.seen)).front }
         ensures pass { Watches owner pass.old pass.new }
+        ensures lawful { IsHistory (setting_of (run_of pass.new.subject pass.new.seen)) pass.new.seen }
     {
-        self.lock.front(rt, pass)
+        let taken = self.lock.hold(rt, pass);
+        let front = taken.book.book.front();
+        let _journal = taken.book.book.journal();
+        taken.give(pass);
+        front
     }
 
     /// What a worker can do next where all stands that the pass has then seen. It makes no event.
@@ -171,9 +176,11 @@ impl<'a> SharedBlock<'a> {
         requires { pass.old.table ≡ self.now }
         ensures next { IsNext (state_of (run_of pass.new.subject pass.new.seen)) result }
         ensures pass { Watches owner pass.old pass.new }
+        ensures lawful { IsHistory (setting_of (run_of pass.new.subject pass.new.seen)) pass.new.seen }
     {
         let taken = self.lock.hold(rt, pass);
         let task = next(&taken.book.book);
+        let _journal = taken.book.book.journal();
         taken.give(pass);
         task
     }

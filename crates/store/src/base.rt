@@ -106,13 +106,9 @@ impl Base {
 /// It answers what a read says of its dataset. It waits for nobody, and stops for want of memory alone.
 impl<'a> Source for &'a Base {
     ghost use Rattle.std.specs.Prelude.{◌≡◌};
-    ghost use Rattle.reads.specs.Reads.{View as Dataset, says};
+    ghost use Rattle.reads.specs.Tells.{Tells};
 
-    ghost may = { λ base read answer. answer ≡ says read base.now.dataset };
-
-    ghost Subject = { Dataset };
-
-    ghost subject = { λ base. base.now.dataset };
+    ghost asks = { λ base read told base'. (base'.now ≡ base.now) × Tells base.now.dataset read told };
 
     fn ask(&mut self, read: &Read<Id>) -> Result<Answered, Stop> {
         let base: &Base = self;

@@ -4,7 +4,7 @@ use Rattle.datasets.specs.declared.id.Id.{Id}
 use Rattle.datasets.specs.Id.{id_order, id_total, id_exact}
 use Rattle.dict.specs.Dictionary.{numbers}
 use Rattle.terms.specs.declared.term.Term.{Term}
-use Rattle.meaning.specs.Near.{is_near_request}
+use Rattle.asking.specs.Near.{is_near_request}
 use Rattle.meaning.specs.Run.{Request, answer_of}
 use Rattle.meaning.specs.declared.reply.Reply.{Reply}
 use Rattle.meaning_laws.specs.Answers.{IsExactOrder}

@@ -22,10 +22,10 @@ use Rattle.algebra.specs.declared.update.Transfer.TheVariants as transfer
 use Rattle.algebra.specs.declared.update.GraphOperation.{GraphOperation}
 use Rattle.algebra.specs.declared.update.GraphOperation.TheVariants as graphs
 use Rattle.meaning.specs.GraphOperations.{in_graph}
-use Rattle.meaning.specs.Near.{is_of_graph, is_near_target, is_near_graphs}
+use Rattle.asking.specs.Near.{is_of_graph, is_near_target, is_near_graphs}
 use Rattle.reads.specs.Reads.{View, Read, Delta, no_change, applied}
 use Rattle.update.specs.Asked.{scan_for, AskedQuads, AskedNames, IsWithin}
-use Rattle.update.specs.Graphs.{target_of, is_among, quads_of, place_of, whole}
+use Rattle.update.specs.Graphs.{target_of, is_among, quads_of, place_of, whole, name_list, name_leaving}
 use Rattle.update.proofs.Differences.{has_after}
 use Rattle.update.proofs.GraphLaws.{or_cases}
 use Rattle.update.proofs.GraphEffects.{among_one}
@@ -40,24 +40,12 @@ scan_near target.Default = refl
 scan_near target.Named = refl
 scan_near target.All = refl
 
--- whether a name is there
-pub name_near : (t : Target Id) (g : Id) → is_near_target id_order t (GraphIs g) ≡ true
-name_near (target.Graph h) g = refl
-name_near target.Default g = refl
-name_near target.Named g = refl
-name_near target.All g = refl
+-- whether a graph that is named by itself is there
+pub name_near : (g : Id) → is_near_target id_order (target.Graph g) (GraphIs g) ≡ true
+name_near g = ap is_eq (tied_itself (options_total id_total) (Some g))
 
-pub name_near_graphs : (operation : GraphOperation Id) (g : Id) → is_near_graphs id_order operation (GraphIs g) ≡ true
-name_near_graphs (graphs.Create h) g = refl
-name_near_graphs (graphs.Drop t) g = name_near t g
-name_near_graphs (graphs.Clear t) g = name_near t g
-name_near_graphs (graphs.Transfer how from to) g = refl
-
-pub names_near : (operation : GraphOperation Id) (names : List Id) → AskedNames (is_near_graphs id_order operation) names
-names_near operation names = always (λ g. is_near_graphs id_order operation (GraphIs g) ≡ true) (name_near_graphs operation) names
-
-pub target_names_near : (t : Target Id) (names : List Id) → AskedNames (is_near_target id_order t) names
-target_names_near t names = always (λ g. is_near_target id_order t (GraphIs g) ≡ true) (name_near t) names
+pub name_near_at : (t : Target Id) (g : Id) → t ≡ target.Graph g → is_near_target id_order t (GraphIs g) ≡ true
+name_near_at t g e = ap (λ u. is_near_target id_order u (GraphIs g)) e ∙ name_near g
 
 -- what is near a graph by itself
 one_near : (g : Option Id) (r : Read) → is_near_target id_order (target_of g) r ≡ is_of_graph id_order g r
@@ -69,6 +57,25 @@ first_near how from to r e = or_left _ _ (sym (one_near from r) ∙ e)
 
 pub second_near : (how : Transfer) (from to : Option Id) (r : Read) → is_near_target id_order (target_of to) r ≡ true → is_near_graphs id_order (graphs.Transfer how from to) r ≡ true
 second_near how from to r e = or_right _ _ (sym (one_near to r) ∙ e)
+
+-- ---- names
+
+named_more : (allowed more : Read → Bool) → ((r : Read) → allowed r ≡ true → more r ≡ true) → (names : List Id) → AskedNames allowed names → AskedNames more names
+named_more allowed more f [] h = tt
+named_more allowed more f (g ∷ names) h = (f (GraphIs g) h.0, named_more allowed more f names h.1)
+
+list_near : (g : Option Id) → AskedNames (is_of_graph id_order g) (name_list g)
+list_near None = tt
+list_near (Some g) = (name_near g, tt)
+
+-- the name of the graph that triples come to, and of the one that they leave
+pub come_near : (how : Transfer) (from to : Option Id) → AskedNames (is_near_graphs id_order (graphs.Transfer how from to)) (name_list to)
+come_near how from to = named_more (is_of_graph id_order to) (is_near_graphs id_order (graphs.Transfer how from to)) (λ r e. or_right _ _ e) (name_list to) (list_near to)
+
+pub leaving_near : (how : Transfer) (from to : Option Id) → AskedNames (is_near_graphs id_order (graphs.Transfer how from to)) (name_leaving how from)
+leaving_near transfer.Add from to = tt
+leaving_near transfer.Copy from to = tt
+leaving_near transfer.Move from to = named_more (is_of_graph id_order from) (is_near_graphs id_order (graphs.Transfer transfer.Move from to)) (λ r e. or_left _ _ e) (name_list from) (list_near from)
 
 -- ---- quads
 
@@ -93,10 +100,6 @@ quads_near t quads = all_kept (λ q. is_near_target id_order t (scan_for q) ≡ 
 pub asked_more : (allowed more : Read → Bool) → ((r : Read) → allowed r ≡ true → more r ≡ true) → (quads : List (Quad Id)) → AskedQuads allowed quads → AskedQuads more quads
 asked_more allowed more f [] h = tt
 asked_more allowed more f (q ∷ quads) h = (f (scan_for q) h.0, asked_more allowed more f quads h.1)
-
-named_more : (allowed more : Read → Bool) → ((r : Read) → allowed r ≡ true → more r ≡ true) → (names : List Id) → AskedNames allowed names → AskedNames more names
-named_more allowed more f [] h = tt
-named_more allowed more f (g ∷ names) h = (f (GraphIs g) h.0, named_more allowed more f names h.1)
 
 pub within_more : (allowed more : Read → Bool) → ((r : Read) → allowed r ≡ true → more r ≡ true) → (c : Delta) → IsWithin allowed c → IsWithin more c
 within_more allowed more f c h = record {

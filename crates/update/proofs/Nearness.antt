@@ -1,21 +1,23 @@
 -- The instances of an operation's templates are near it.
-use Rattle.std.specs.Prelude.{◌&&◌, if◌then◌else◌, is_none, filter_map}
+use Rattle.std.specs.Prelude.{◌&&◌, ◌||◌, if◌then◌else◌, is_none, filter_map}
 use Rattle.std.specs.List.{AllByRecursion, list_any}
 use Rattle.std.specs.Option.{option_map}
 use Rattle.std.specs.Ordering.{is_eq}
 use Rattle.std.specs.Cmp.{tied_itself}
 use Rattle.std.proofs.Common.{◌≡◌, ℕ, zero, suc, ◌+◌, ◌<◌, Bool, true, false, List, [], ◌∷◌, length, get_or, Option, Some, None, refl, sym, ap, ◌∙◌, arith}
-use Rattle.std.proofs.lemmas.Bool.{or_left, or_right}
+use Rattle.std.proofs.lemmas.Bool.{false≢true, or_left, or_right}
+use Rattle.update.proofs.GraphLaws.{or_cases}
 use Rattle.datasets.specs.declared.id.Id.{Id}
 use Rattle.datasets.specs.declared.quad.Quad.{Quad}
 use Rattle.datasets.specs.declared.read.GraphPlace.TheVariants.{Only}
+use Rattle.datasets.specs.declared.read.QuadPattern.{QuadPattern}
 use Rattle.datasets.specs.declared.read.Read.TheVariants.{GraphIs}
-use Rattle.datasets.specs.Dataset.{quad_order}
+use Rattle.datasets.specs.Dataset.{quad_order, graph_name, names_of}
 use Rattle.datasets.specs.Id.{id_order, id_total}
 use Rattle.dict.specs.Dictionary.{numbers}
 use Rattle.terms.specs.declared.term.Term.{Term}
 use Rattle.meaning.specs.Mapping.{Mapping}
-use Rattle.meaning.specs.Near.{is_written, is_graph_written, is_near_quad, is_for_plan, is_near, is_near_request}
+use Rattle.asking.specs.Near.{is_written, is_graph_written, is_near_quad, is_near_deleted, is_near_inserted, is_for_plan, is_near, is_near_request}
 use Rattle.meaning.specs.Template.{term_at, graph_at, is_legal, legal_quad, instance_of, instances_from, instances}
 use Rattle.algebra.specs.declared.update.Modify.{Modify}
 use Rattle.algebra.specs.declared.update.Operation.{Operation}
@@ -25,8 +27,8 @@ use Rattle.algebra.specs.declared.template.Slot.{Slot}
 use Rattle.algebra.specs.declared.template.Slot.TheVariants as slot
 use Rattle.eval.specs.Changes.{replaced_change}
 use Rattle.reads.specs.Reads.{Read, Delta, no_change}
-use Rattle.update.specs.Asked.{scan_for, AskedQuads, IsWithin}
-use Rattle.update.proofs.Members.{all-append, all-filter, all-set_of, all-union, all-cons_option, always}
+use Rattle.update.specs.Asked.{scan_for, AskedQuads, AskedNames, IsWithin}
+use Rattle.update.proofs.Members.{all-append, all-filter, all-set_of, all-union, all-cons_option, all-filter_map}
 
 -- ---- one quad
 
@@ -76,8 +78,24 @@ module _ (terms : List Term) (node : ℕ → Id) (m : Mapping Id) where
 
 -- ---- all instances
 
+last_true : (a b c d : Bool) → (a && (b && (c && d))) ≡ true → d ≡ true
+last_true true true true d e = e
+last_true true true false d e = absurd (false≢true e)
+last_true true false c d e = absurd (false≢true e)
+last_true false b c d e = absurd (false≢true e)
+
 near_template : List (QuadTemplate Id) → Quad Id → Bool
 near_template ts q = list_any (λ t. is_near_quad id_order t (record { subject = Some q.subject; predicate = Some q.predicate; object = Some q.object; graph = Only q.graph })) ts
+
+-- what is near a template's quad is in a graph that it writes
+graph_any : (q : Quad Id) (ts : List (QuadTemplate Id)) → near_template ts q ≡ true → list_any (λ t. is_graph_written id_order t.graph (Only q.graph)) ts ≡ true
+unfolding near_template
+graph_any q [] e = e
+graph_any q (t ∷ ts) e =
+    let p : QuadPattern Id = record { subject = Some q.subject; predicate = Some q.predicate; object = Some q.object; graph = Only q.graph } in
+    or_cases (is_near_quad id_order t p) (near_template ts q) e
+    (λ h. or_left _ _ (last_true (is_written id_order t.subject (Some q.subject)) (is_written id_order t.predicate (Some q.predicate)) (is_written id_order t.object (Some q.object)) (is_graph_written id_order t.graph (Only q.graph)) h))
+    (λ h. or_right _ _ (graph_any q ts h))
 
 module _ (terms : List Term) (request op : ℕ) (P : Quad Id → Type 0) where
   mapped_near : (node : ℕ → Id) (m : Mapping Id) (ts : List (QuadTemplate Id)) → ((q : Quad Id) → near_template ts q ≡ true → P q) → AllByRecursion P (filter_map (instance_of (numbers terms) node m) ts)
@@ -103,6 +121,19 @@ module _ (terms : List Term) (request op : ℕ) (m : Modify Id) (allowed : Read 
   unfolding near_template
   inserted_near found = from_near terms request op (λ q. allowed (scan_for q) ≡ true) m.insert (λ q e. near (scan_for q) (or_right _ _ (or_left _ _ e))) 0 found
 
+  -- the graphs that quads are inserted into
+  inserted_in : (q : Quad Id) → near_template m.insert q ≡ true → (g : Id) → q.graph ≡ Some g → allowed (GraphIs g) ≡ true
+  inserted_in q e g is =
+      let written = ap (λ x. list_any (λ t. is_graph_written id_order t.graph (Only x)) m.insert) (sym is) ∙ graph_any q m.insert e in
+      near (GraphIs g)
+      (or_right (is_near_deleted id_order m.delete (GraphIs g)) (is_near_inserted id_order m.insert (GraphIs g) || is_for_plan id_order (option_map slot.Term m.active) m.pattern (GraphIs g))
+      (or_left (is_near_inserted id_order m.insert (GraphIs g)) (is_for_plan id_order (option_map slot.Term m.active) m.pattern (GraphIs g)) written))
+
+  inserted_named : (found : List (Mapping Id)) → AskedNames allowed (names_of (instances (numbers terms) request op m.insert found))
+  inserted_named found =
+      all-filter_map (λ g. allowed (GraphIs g) ≡ true) graph_name (instances (numbers terms) request op m.insert found)
+      (from_near terms request op (λ q. (g : Id) → q.graph ≡ Some g → allowed (GraphIs g) ≡ true) m.insert inserted_in 0 found)
+
   pub replaced_within : (c : Delta) (found : List (Mapping Id)) → IsWithin allowed c
       → IsWithin allowed (replaced_change c (instances (numbers terms) request op m.delete found) (instances (numbers terms) request op m.insert found))
   replaced_within c found h =
@@ -111,7 +142,7 @@ module _ (terms : List Term) (request op : ℕ) (m : Modify Id) (allowed : Read 
       record {
         present = all-union P (quad_order id_order) _ _ (all-filter P _ c.present h.present) (inserted_near found);
         absent = all-union P (quad_order id_order) _ _ h.absent (deleted_near found);
-        there = all-union N id_order _ _ h.there (always N (λ g. near (GraphIs g) refl) _);
+        there = all-union N id_order _ _ h.there (inserted_named found);
         gone = all-set_of N id_order _ h.gone;
       }
 

@@ -3,7 +3,7 @@ use Rattle.std.specs.Prelude.{◌≡◌, ℕ, List}
 use Rattle.datasets.specs.declared.id.Id.{Id}
 use Rattle.datasets.specs.Id.{id_order}
 use Rattle.dict.specs.Dictionary.{numbers}
-use Rattle.meaning.specs.Near.{is_near_request}
+use Rattle.asking.specs.Near.{is_near_request}
 use Rattle.meaning.specs.Run.{Request, answer_of}
 use Rattle.meaning.specs.declared.reply.Reply.{Reply}
 use Rattle.reads.specs.Reads.{View, Delta, IsDataset}

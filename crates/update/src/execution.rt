@@ -1,13 +1,13 @@
 //! Executions of requests.
-ghost use Rattle.std.specs.Prelude.{◌≡◌, ◌<◌, ◌^◌, length, Ok, IfOk};
+ghost use Rattle.std.specs.Prelude.{◌≡◌, ◌<◌, ◌^◌, length, Ok, IsErr, IfOk, IfErr};
 ghost use Rattle.datasets.specs.Id.{id_order};
 ghost use Rattle.dict.specs.Dictionary.{numbers};
-ghost use Rattle.meaning.specs.Near.{is_near_request};
+ghost use Rattle.asking.specs.Near.{is_near_request};
 ghost use Rattle.meaning.specs.Run.{answer_of};
-ghost use Rattle.reads.specs.Reads.{View, Read as Reading, Answer, IsDataset};
+ghost use Rattle.reads.specs.Reads.{View, IsDataset};
 ghost use Rattle.reads.specs.Runs.{Agrees};
 ghost use Rattle.delta.specs.Sound.{IsSoundFor};
-ghost use Rattle.asking.specs.Goes.{Goes, AllMay, AllAllowed};
+ghost use Rattle.asking.specs.Goes.{Goes, Asked, Stops, AllAllowed, stop_of};
 ghost use Rattle.update.specs.Asked.{IsShort, operations_of};
 ghost use Rattle.update.specs.Executed.{IsLeastFor};
 
@@ -63,8 +63,7 @@ fn performed<S: Source>(
     notes: &mut Vec<Note>,
 ) -> Result<Outcome, Stop>
     requires { length operations.now < 2 ^ 32 }
-    ensures about { S.subject source.new ≡ S.subject source.old }
-    ensures goes { Goes (is_near_request id_order operations.now) (S.may source.old) (S.may source.new) notes.old.items notes.new.items }
+    ensures goes { Goes S.asks (is_near_request id_order operations.now) source.old source.new notes.old.items notes.new.items (stop_of result) }
     ensures least { IfOk result (λ outcome. IsLeastFor (answer_of (numbers dict.now) place (Ok operations.now)) notes.new.items outcome.delta) }
     ensures reply { IfOk result (λ outcome. (d : View) → IsDataset d → Agrees notes.new.items d → outcome.reply ≡ (answer_of (numbers dict.now) place (Ok operations.now) d).1) }
 {
@@ -97,8 +96,8 @@ fn outcome_of<S: Source>(
     notes: &mut Vec<Note>,
 ) -> Result<Outcome, Stop>
     requires { IsShort request.now }
-    ensures about { S.subject source.new ≡ S.subject source.old }
-    ensures goes { Goes (is_near_request id_order (operations_of request.now)) (S.may source.old) (S.may source.new) notes.old.items notes.new.items }
+    ensures goes { Goes S.asks (is_near_request id_order (operations_of request.now)) source.old source.new notes.old.items notes.new.items (stop_of result) }
+    ensures refused { IsErr request.now → source.new ≡ source.old }
     ensures least { IfOk result (λ outcome. IsLeastFor (answer_of (numbers dict.now) place request.now) notes.new.items outcome.delta) }
     ensures reply { IfOk result (λ outcome. (d : View) → IsDataset d → Agrees notes.new.items d → outcome.reply ≡ (answer_of (numbers dict.now) place request.now d).1) }
 {
@@ -112,7 +111,8 @@ fn outcome_of<S: Source>(
 }
 
 /// The execution of the request at this place of the block, counted from 0, from what a source answers. Whatever it answers, the
-/// execution is sound; a refused request reads nothing. It stops where the source does, and for want of memory.
+/// execution is sound, and its transcript is what was asked and answered, in order. It stops as the source does, and for want of memory. A
+/// refused request asks nothing.
 pub fn execute<'a, S: Source>(
     alloc: Global,
     dict: &'a Dict,
@@ -121,11 +121,10 @@ pub fn execute<'a, S: Source>(
     source: &mut S,
 ) -> Result<Execution<'a>, Stop>
     requires { IsShort request.now }
-    ensures about { S.subject source.new ≡ S.subject source.old }
     ensures request { IfOk result (λ e. (e.terms ≡ dict.now) × (e.place ≡ place) × (e.request ≡ request.now)) }
-    ensures meets { IfOk result (λ e. AllMay (S.may source.old) e.finished.transcript) }
-    ensures later { (r : Reading) (a : Answer) → S.may source.new r a → S.may source.old r a }
-    ensures before { (r : Reading) (a : Answer) → S.may source.old r a → S.may source.new r a }
+    ensures asked { IfOk result (λ e. Asked S.asks source.old e.finished.transcript source.new) }
+    ensures stops { IfErr result (λ stop. Stops S.asks (is_near_request id_order (operations_of request.now)) source.old source.new stop) }
+    ensures refused { IsErr request.now → source.new ≡ source.old }
 {
     let mut notes = Vec::new(alloc);
     let outcome = outcome_of(alloc, dict, place, request, source, &mut notes)?;

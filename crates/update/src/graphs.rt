@@ -3,11 +3,11 @@ ghost use Rattle.std.specs.Prelude.{◌≡◌, Bool, true, IfOk, map};
 ghost use Rattle.datasets.specs.Dataset.{same_graph};
 ghost use Rattle.datasets.specs.Id.{id_order};
 ghost use Rattle.meaning.specs.GraphOperations.{graphs_after, in_graph};
-ghost use Rattle.meaning.specs.Near.{is_near_graphs, is_near_target};
+ghost use Rattle.asking.specs.Near.{is_near_graphs, is_near_target};
 ghost use Rattle.algebra.specs.declared.update.GraphOperation.TheVariants as graph_operation;
 ghost use Rattle.reads.specs.Reads.{View, Read as Reading, applied};
 ghost use Rattle.reads.specs.Runs.{Agrees};
-ghost use Rattle.asking.specs.Goes.{Goes};
+ghost use Rattle.asking.specs.Goes.{Goes, stop_of};
 ghost use Rattle.update.specs.Asked.{AskedQuads, IsWithin};
 ghost use Rattle.update.specs.Changed.{changed};
 ghost use Rattle.update.specs.Graphs.{quads_of as the_quads_of, leaving as the_leaving, name_leaving as the_name_leaving};
@@ -30,12 +30,11 @@ fn created<S: Source>(
     source: &mut S,
     notes: &mut Vec<Note>,
 ) -> Result<Result<Delta, Cause>, Stop>
-    ensures about { S.subject source.new ≡ S.subject source.old }
-    ensures goes { Goes (is_near_graphs id_order (graph_operation.Create name)) (S.may source.old) (S.may source.new) notes.old.items notes.new.items }
+    ensures goes { Goes S.asks (is_near_graphs id_order (graph_operation.Create name)) source.old source.new notes.old.items notes.new.items (stop_of result) }
     ensures effect { IfOk result (λ outcome. (d : View) → Agrees notes.new.items d → changed (applied changes.now d) outcome ≡ graphs_after id_order (graph_operation.Create name) (applied changes.now d)) }
     ensures within { IfOk result (λ outcome. IfOk outcome (λ own. IsWithin (is_near_graphs id_order (graph_operation.Create name)) own)) }
 {
-    let exists = is_graph(name, changes, source, notes)?;
+    let exists = is_graph(alloc, name, changes, source, notes)?;
     if exists {
         return Ok(Err(Cause::GraphExists));
     }
@@ -58,12 +57,11 @@ fn cleared<S: Source>(
     source: &mut S,
     notes: &mut Vec<Note>,
 ) -> Result<Result<Delta, Cause>, Stop>
-    ensures about { S.subject source.new ≡ S.subject source.old }
-    ensures goes { Goes (is_near_target id_order target.now) (S.may source.old) (S.may source.new) notes.old.items notes.new.items }
+    ensures goes { Goes S.asks (is_near_target id_order target.now) source.old source.new notes.old.items notes.new.items (stop_of result) }
     ensures effect { IfOk result (λ outcome. (d : View) → Agrees notes.new.items d → changed (applied changes.now d) outcome ≡ graphs_after id_order (graph_operation.Clear target.now) (applied changes.now d)) }
     ensures within { IfOk result (λ outcome. IfOk outcome (λ own. IsWithin (is_near_target id_order target.now) own)) }
 {
-    let exists = is_there(target, changes, source, notes)?;
+    let exists = is_there(alloc, target, changes, source, notes)?;
     if !exists {
         return Ok(Err(Cause::GraphMissing));
     }
@@ -86,12 +84,11 @@ fn dropped<S: Source>(
     source: &mut S,
     notes: &mut Vec<Note>,
 ) -> Result<Result<Delta, Cause>, Stop>
-    ensures about { S.subject source.new ≡ S.subject source.old }
-    ensures goes { Goes (is_near_target id_order target.now) (S.may source.old) (S.may source.new) notes.old.items notes.new.items }
+    ensures goes { Goes S.asks (is_near_target id_order target.now) source.old source.new notes.old.items notes.new.items (stop_of result) }
     ensures effect { IfOk result (λ outcome. (d : View) → Agrees notes.new.items d → changed (applied changes.now d) outcome ≡ graphs_after id_order (graph_operation.Drop target.now) (applied changes.now d)) }
     ensures within { IfOk result (λ outcome. IfOk outcome (λ own. IsWithin (is_near_target id_order target.now) own)) }
 {
-    let exists = is_there(target, changes, source, notes)?;
+    let exists = is_there(alloc, target, changes, source, notes)?;
     if !exists {
         return Ok(Err(Cause::GraphMissing));
     }
@@ -133,8 +130,7 @@ fn leaving<S: Source>(
     source: &mut S,
     notes: &mut Vec<Note>,
 ) -> Result<Vec<Quad<Id>>, Stop>
-    ensures about { S.subject source.new ≡ S.subject source.old }
-    ensures goes { Goes (is_near_target id_order to.now) (S.may source.old) (S.may source.new) notes.old.items notes.new.items }
+    ensures goes { Goes S.asks (is_near_target id_order to.now) source.old source.new notes.old.items notes.new.items (stop_of result) }
     ensures seen { IfOk result (λ quads. (d : View) → Agrees notes.new.items d → quads.items ≡ the_leaving how found.items (the_quads_of to.now (applied changes.now d).quads)) }
     ensures within { (allowed : Reading → Bool) → ((r : Reading) → is_near_target id_order to.now r ≡ true → allowed r ≡ true) → AskedQuads allowed found.items → IfOk result (λ quads. AskedQuads allowed quads.items) }
 {
@@ -169,8 +165,7 @@ fn transferred<S: Source>(
     source: &mut S,
     notes: &mut Vec<Note>,
 ) -> Result<Result<Delta, Cause>, Stop>
-    ensures about { S.subject source.new ≡ S.subject source.old }
-    ensures goes { Goes (is_near_graphs id_order (graph_operation.Transfer how from to)) (S.may source.old) (S.may source.new) notes.old.items notes.new.items }
+    ensures goes { Goes S.asks (is_near_graphs id_order (graph_operation.Transfer how from to)) source.old source.new notes.old.items notes.new.items (stop_of result) }
     ensures effect { IfOk result (λ outcome. (d : View) → Agrees notes.new.items d → changed (applied changes.now d) outcome ≡ graphs_after id_order (graph_operation.Transfer how from to) (applied changes.now d)) }
     ensures within { IfOk result (λ outcome. IfOk outcome (λ own. IsWithin (is_near_graphs id_order (graph_operation.Transfer how from to)) own)) }
 {
@@ -179,7 +174,7 @@ fn transferred<S: Source>(
     }
     let first = target_of(from);
     let second = target_of(to);
-    let exists = is_there(&first, changes, source, notes)?;
+    let exists = is_there(alloc, &first, changes, source, notes)?;
     if !exists {
         return Ok(Err(Cause::GraphMissing));
     }
@@ -200,8 +195,7 @@ fn own_change<S: Source>(
     source: &mut S,
     notes: &mut Vec<Note>,
 ) -> Result<Result<Delta, Cause>, Stop>
-    ensures about { S.subject source.new ≡ S.subject source.old }
-    ensures goes { Goes (is_near_graphs id_order operation.now) (S.may source.old) (S.may source.new) notes.old.items notes.new.items }
+    ensures goes { Goes S.asks (is_near_graphs id_order operation.now) source.old source.new notes.old.items notes.new.items (stop_of result) }
     ensures effect { IfOk result (λ outcome. (d : View) → Agrees notes.new.items d → changed (applied changes.now d) outcome ≡ graphs_after id_order operation.now (applied changes.now d)) }
     ensures within { IfOk result (λ outcome. IfOk outcome (λ own. IsWithin (is_near_graphs id_order operation.now) own)) }
 {
@@ -225,8 +219,7 @@ pub fn graphs<S: Source>(
     source: &mut S,
     notes: &mut Vec<Note>,
 ) -> Result<Result<Delta, Cause>, Stop>
-    ensures about { S.subject source.new ≡ S.subject source.old }
-    ensures goes { Goes (is_near_graphs id_order operation.now) (S.may source.old) (S.may source.new) notes.old.items notes.new.items }
+    ensures goes { Goes S.asks (is_near_graphs id_order operation.now) source.old source.new notes.old.items notes.new.items (stop_of result) }
     ensures effect { IfOk result (λ outcome. (d : View) → Agrees notes.new.items d → changed d outcome ≡ graphs_after id_order operation.now (applied changes.now d)) }
     ensures within { (allowed : Reading → Bool) → ((r : Reading) → is_near_graphs id_order operation.now r ≡ true → allowed r ≡ true) → IsWithin allowed changes.now → IfOk result (λ outcome. IfOk outcome (λ change. IsWithin allowed change)) }
 {

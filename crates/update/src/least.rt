@@ -2,7 +2,7 @@
 ghost use Rattle.std.specs.Prelude.{◌≡◌, Bool, IfOk};
 ghost use Rattle.reads.specs.Reads.{View, Read as Reading, applied, IsDataset};
 ghost use Rattle.reads.specs.Runs.{Agrees};
-ghost use Rattle.asking.specs.Goes.{Goes};
+ghost use Rattle.asking.specs.Goes.{Goes, stop_of};
 ghost use Rattle.update.specs.Asked.{IsWithin};
 ghost use Rattle.update.specs.Changed.{difference};
 
@@ -21,8 +21,7 @@ pub fn least_of<S: Source>(
     source: &mut S,
     notes: &mut Vec<Note>,
 ) -> Result<Delta, Stop>
-    ensures about { S.subject source.new ≡ S.subject source.old }
-    ensures goes { (allowed : Reading → Bool) → IsWithin allowed changes.now → Goes allowed (S.may source.old) (S.may source.new) notes.old.items notes.new.items }
+    ensures goes { (allowed : Reading → Bool) → IsWithin allowed changes.now → Goes S.asks allowed source.old source.new notes.old.items notes.new.items (stop_of result) }
     ensures least { IfOk result (λ change. (d : View) → IsDataset d → Agrees notes.new.items d → change ≡ difference d (applied changes.now d)) }
 {
     let others = quads_outside(alloc, changes.absent(), changes.present())?;

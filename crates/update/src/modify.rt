@@ -3,12 +3,12 @@ ghost use Rattle.std.specs.Prelude.{◌≡◌, ◌≤◌, Bool, true, length, If
 ghost use Rattle.datasets.specs.Id.{id_order};
 ghost use Rattle.dict.specs.Dictionary.{numbers};
 ghost use Rattle.meaning.specs.Effect.{effect_of};
-ghost use Rattle.meaning.specs.Near.{is_near};
+ghost use Rattle.asking.specs.Near.{is_near};
 ghost use Rattle.meaning.specs.Solutions.{solutions};
 ghost use Rattle.algebra.specs.declared.update.Operation.TheVariants as operation;
 ghost use Rattle.reads.specs.Reads.{View, Read as Reading, applied};
 ghost use Rattle.reads.specs.Runs.{Agrees};
-ghost use Rattle.asking.specs.Goes.{Goes};
+ghost use Rattle.asking.specs.Goes.{Goes, stop_of};
 ghost use Rattle.solution.specs.Limits.{up_to};
 ghost use Rattle.update.specs.Asked.{IsWithin};
 ghost use Rattle.update.specs.Changed.{changed};
@@ -36,8 +36,7 @@ fn solutions_of<S: Source>(
     source: &mut S,
     notes: &mut Vec<Note>,
 ) -> Result<Option<Solutions>, Stop>
-    ensures about { S.subject source.new ≡ S.subject source.old }
-    ensures goes { Goes (is_near id_order (operation.Modify modify.now)) (S.may source.old) (S.may source.new) notes.old.items notes.new.items }
+    ensures goes { Goes S.asks (is_near id_order (operation.Modify modify.now)) source.old source.new notes.old.items notes.new.items (stop_of result) }
     ensures solved { IfOk result (λ found. (d : View) → Agrees notes.new.items d → found ≡ up_to 1000000 (solutions id_order (numbers dict.now).passes modify.now.width modify.now.pattern (applied changes.now d) modify.now.active)) }
     ensures few { IfOk result (λ found. IfSome found (λ few. length few ≤ 1000000)) }
 {
@@ -71,8 +70,7 @@ pub fn modify<S: Source>(
     source: &mut S,
     notes: &mut Vec<Note>,
 ) -> Result<Result<Delta, Cause>, Stop>
-    ensures about { S.subject source.new ≡ S.subject source.old }
-    ensures goes { Goes (is_near id_order (operation.Modify modify.now)) (S.may source.old) (S.may source.new) notes.old.items notes.new.items }
+    ensures goes { Goes S.asks (is_near id_order (operation.Modify modify.now)) source.old source.new notes.old.items notes.new.items (stop_of result) }
     ensures effect { IfOk result (λ outcome. (d : View) → Agrees notes.new.items d → changed d outcome ≡ effect_of (numbers dict.now) request op (operation.Modify modify.now) (applied changes.now d)) }
     ensures within { (allowed : Reading → Bool) → ((r : Reading) → is_near id_order (operation.Modify modify.now) r ≡ true → allowed r ≡ true) → IsWithin allowed changes.now → IfOk result (λ outcome. IfOk outcome (λ change. IsWithin allowed change)) }
 {

@@ -4,11 +4,11 @@ ghost use Rattle.datasets.specs.Id.{id_order};
 ghost use Rattle.dict.specs.Dictionary.{numbers};
 ghost use Rattle.meaning.specs.Effect.{effect_of};
 ghost use Rattle.meaning.specs.GraphOperations.{silently};
-ghost use Rattle.meaning.specs.Near.{is_near, is_near_request};
+ghost use Rattle.asking.specs.Near.{is_near, is_near_request};
 ghost use Rattle.meaning.specs.Run.{performed};
 ghost use Rattle.reads.specs.Reads.{View, Read as Reading, applied, IsDataset};
 ghost use Rattle.reads.specs.Runs.{Agrees};
-ghost use Rattle.asking.specs.Goes.{Goes};
+ghost use Rattle.asking.specs.Goes.{Goes, stop_of};
 ghost use Rattle.update.specs.Asked.{IsWithin};
 ghost use Rattle.update.specs.Changed.{changed};
 ghost use Rattle.update.specs.Failures.{performed_so};
@@ -73,8 +73,7 @@ fn perform_one<S: Source>(
     source: &mut S,
     notes: &mut Vec<Note>,
 ) -> Result<Result<Delta, Cause>, Stop>
-    ensures about { S.subject source.new ≡ S.subject source.old }
-    ensures goes { Goes (is_near id_order operation.now) (S.may source.old) (S.may source.new) notes.old.items notes.new.items }
+    ensures goes { Goes S.asks (is_near id_order operation.now) source.old source.new notes.old.items notes.new.items (stop_of result) }
     ensures effect { IfOk result (λ outcome. (d : View) → Agrees notes.new.items d → changed d outcome ≡ effect_of (numbers dict.now) place op operation.now (applied changes.now d)) }
     ensures within { (allowed : Reading → Bool) → ((r : Reading) → is_near id_order operation.now r ≡ true → allowed r ≡ true) → IsWithin allowed changes.now → IfOk result (λ outcome. IfOk outcome (λ change. IsWithin allowed change)) }
 {
@@ -100,8 +99,7 @@ pub fn perform<S: Source>(
     notes: &mut Vec<Note>,
 ) -> Result<Result<Delta, Failed>, Stop>
     requires { length operations.now < 2 ^ 32 }
-    ensures about { S.subject source.new ≡ S.subject source.old }
-    ensures goes { Goes (is_near_request id_order operations.now) (S.may source.old) (S.may source.new) notes.old.items notes.new.items }
+    ensures goes { Goes S.asks (is_near_request id_order operations.now) source.old source.new notes.old.items notes.new.items (stop_of result) }
     ensures effect { IfOk result (λ outcome. (d : View) → IsDataset d → Agrees notes.new.items d → performed_so d outcome ≡ performed (numbers dict.now) place 0 operations.now d) }
     ensures within { IfOk result (λ outcome. IfOk outcome (λ change. IsWithin (is_near_request id_order operations.now) change)) }
 {

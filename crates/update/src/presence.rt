@@ -7,11 +7,12 @@ ghost use Rattle.datasets.specs.declared.read.Read.TheVariants as read;
 ghost use Rattle.reads.specs.Reads.{View, Read as Reading};
 ghost use Rattle.reads.specs.Runs.{Agrees};
 ghost use Rattle.reads.specs.Same.{bool_eq};
-ghost use Rattle.asking.specs.Goes.{Goes};
+ghost use Rattle.asking.specs.Goes.{Goes, stop_of};
 ghost use Rattle.update.specs.Asked.{scan_for as the_scan_for, has_quads as the_has_quads, has_name as the_has_name, AskedQuads, AskedNames};
 ghost use Rattle.update.specs.Known.{Knows};
 
 use crate::known::Known;
+use asking::ask;
 use datasets::{GraphPlace, Id, Quad, QuadPattern, Read};
 use reads::same::same_bool;
 use reads::{Answered, Note, Source, Stop};
@@ -51,67 +52,65 @@ fn has_name(answer: &Answered) -> bool
 
 /// Whether a quad is there, in each dataset that agrees with the notes.
 pub fn is_present<S: Source>(
+    alloc: Global,
     quad: Quad<Id>,
     source: &mut S,
     notes: &mut Vec<Note>,
 ) -> Result<bool, Stop>
-    ensures about { S.subject source.new ≡ S.subject source.old }
-    ensures goes { (allowed : Reading → Bool) → allowed (the_scan_for quad) ≡ true → Goes allowed (S.may source.old) (S.may source.new) notes.old.items notes.new.items }
+    ensures goes { (allowed : Reading → Bool) → allowed (the_scan_for quad) ≡ true → Goes S.asks allowed source.old source.new notes.old.items notes.new.items (stop_of result) }
     ensures told { IfOk result (λ so. (d : View) → Agrees notes.new.items d → so ≡ has (quad_order id_order) d.quads quad) }
 {
-    let read = scan_for(quad);
-    let answer = source.ask(&read)?;
-    let so = has_quads(&answer);
-    notes.push(Note { read, answer })?;
-    Ok(so)
+    let answer = ask(alloc, scan_for(quad), source, notes)?;
+    Ok(has_quads(&answer))
 }
 
 /// Whether a graph name is there, in each dataset that agrees with the notes.
-pub fn is_named<S: Source>(name: Id, source: &mut S, notes: &mut Vec<Note>) -> Result<bool, Stop>
-    ensures about { S.subject source.new ≡ S.subject source.old }
-    ensures goes { (allowed : Reading → Bool) → allowed (read.GraphIs name) ≡ true → Goes allowed (S.may source.old) (S.may source.new) notes.old.items notes.new.items }
+pub fn is_named<S: Source>(
+    alloc: Global,
+    name: Id,
+    source: &mut S,
+    notes: &mut Vec<Note>,
+) -> Result<bool, Stop>
+    ensures goes { (allowed : Reading → Bool) → allowed (read.GraphIs name) ≡ true → Goes S.asks allowed source.old source.new notes.old.items notes.new.items (stop_of result) }
     ensures told { IfOk result (λ so. (d : View) → Agrees notes.new.items d → so ≡ has id_order d.names name) }
 {
-    let read = Read::GraphIs(name);
-    let answer = source.ask(&read)?;
-    let so = has_name(&answer);
-    notes.push(Note { read, answer })?;
-    Ok(so)
+    let answer = ask(alloc, Read::GraphIs(name), source, notes)?;
+    Ok(has_name(&answer))
 }
 
 // Whether a quad is there, in each dataset that agrees with the notes and with what is known. It is asked for only where it isn't known.
 fn is_known_or_present<S: Source>(
+    alloc: Global,
     known: &Known,
     quad: Quad<Id>,
     source: &mut S,
     notes: &mut Vec<Note>,
 ) -> Result<bool, Stop>
-    ensures about { S.subject source.new ≡ S.subject source.old }
-    ensures goes { (allowed : Reading → Bool) → allowed (the_scan_for quad) ≡ true → Goes allowed (S.may source.old) (S.may source.new) notes.old.items notes.new.items }
+    ensures goes { (allowed : Reading → Bool) → allowed (the_scan_for quad) ≡ true → Goes S.asks allowed source.old source.new notes.old.items notes.new.items (stop_of result) }
     ensures told { IfOk result (λ so. (d : View) → Knows known.now d → Agrees notes.new.items d → so ≡ has (quad_order id_order) d.quads quad) }
 {
     if known.is_known(quad.graph) {
         return Ok(known.has(&quad));
     }
-    is_present(quad, source, notes)
+    is_present(alloc, quad, source, notes)
 }
 
 // Whether a graph name is there, in each dataset that agrees with the notes and with what is known. It is asked for only where it isn't
 // known.
 fn is_known_or_named<S: Source>(
+    alloc: Global,
     known: &Known,
     name: Id,
     source: &mut S,
     notes: &mut Vec<Note>,
 ) -> Result<bool, Stop>
-    ensures about { S.subject source.new ≡ S.subject source.old }
-    ensures goes { (allowed : Reading → Bool) → allowed (read.GraphIs name) ≡ true → Goes allowed (S.may source.old) (S.may source.new) notes.old.items notes.new.items }
+    ensures goes { (allowed : Reading → Bool) → allowed (read.GraphIs name) ≡ true → Goes S.asks allowed source.old source.new notes.old.items notes.new.items (stop_of result) }
     ensures told { IfOk result (λ so. (d : View) → Knows known.now d → Agrees notes.new.items d → so ≡ has id_order d.names name) }
 {
     if known.has_graphs() {
         return Ok(known.is_graph(&name));
     }
-    is_named(name, source, notes)
+    is_named(alloc, name, source, notes)
 }
 
 // One more at the end, if it is so.
@@ -135,13 +134,12 @@ pub fn quads_that<S: Source>(
     notes: &mut Vec<Note>,
 ) -> Result<Vec<Quad<Id>>, Stop>
     requires { (d : View) → Agrees notes.old.items d → Knows known.now d }
-    ensures about { S.subject source.new ≡ S.subject source.old }
-    ensures goes { (allowed : Reading → Bool) → AskedQuads allowed quads.now → Goes allowed (S.may source.old) (S.may source.new) notes.old.items notes.new.items }
+    ensures goes { (allowed : Reading → Bool) → AskedQuads allowed quads.now → Goes S.asks allowed source.old source.new notes.old.items notes.new.items (stop_of result) }
     ensures told { IfOk result (λ found. (d : View) → Agrees notes.new.items d → found.items ≡ filter (λ q. bool_eq are_there (has (quad_order id_order) d.quads q)) quads.now) }
 {
     let mut found = Vec::new(alloc);
     for quad in quads {
-        let is_there = is_known_or_present(known, *quad, source, notes)?;
+        let is_there = is_known_or_present(alloc, known, *quad, source, notes)?;
         push_if(&mut found, same_bool(are_there, is_there), *quad)?;
     }
     Ok(found)
@@ -158,13 +156,12 @@ pub fn names_that<S: Source>(
     notes: &mut Vec<Note>,
 ) -> Result<Vec<Id>, Stop>
     requires { (d : View) → Agrees notes.old.items d → Knows known.now d }
-    ensures about { S.subject source.new ≡ S.subject source.old }
-    ensures goes { (allowed : Reading → Bool) → AskedNames allowed names.now → Goes allowed (S.may source.old) (S.may source.new) notes.old.items notes.new.items }
+    ensures goes { (allowed : Reading → Bool) → AskedNames allowed names.now → Goes S.asks allowed source.old source.new notes.old.items notes.new.items (stop_of result) }
     ensures told { IfOk result (λ found. (d : View) → Agrees notes.new.items d → found.items ≡ filter (λ g. bool_eq are_there (has id_order d.names g)) names.now) }
 {
     let mut found = Vec::new(alloc);
     for name in names {
-        let is_there = is_known_or_named(known, *name, source, notes)?;
+        let is_there = is_known_or_named(alloc, known, *name, source, notes)?;
         push_if(&mut found, same_bool(are_there, is_there), *name)?;
     }
     Ok(found)

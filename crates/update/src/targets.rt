@@ -1,11 +1,11 @@
 //! The graphs that an operation names (SPARQL 1.1 Update, 3.2), where the operations before it led.
 ghost use Rattle.std.specs.Prelude.{◌≡◌, IfOk};
 ghost use Rattle.datasets.specs.Id.{id_order};
-ghost use Rattle.meaning.specs.Near.{is_near_target};
+ghost use Rattle.asking.specs.Near.{is_near_target};
 ghost use Rattle.reads.specs.Reads.{View, applied};
 ghost use Rattle.reads.specs.Runs.{Agrees};
-ghost use Rattle.asking.specs.Goes.{Goes};
-ghost use Rattle.update.specs.Asked.{AskedQuads};
+ghost use Rattle.asking.specs.Goes.{Goes, stop_of};
+ghost use Rattle.update.specs.Asked.{AskedQuads, AskedNames};
 ghost use Rattle.update.specs.Graphs.{target_of as the_target_of, is_among as the_is_among, quads_of as the_quads_of, names_of as the_names_of, is_target_there, place_of as the_place_of, whole as the_whole, name_list as the_name_list};
 
 use algebra::Target;
@@ -89,8 +89,7 @@ pub fn quads_of<S: Source>(
     source: &mut S,
     notes: &mut Vec<Note>,
 ) -> Result<Vec<Quad<Id>>, Stop>
-    ensures about { S.subject source.new ≡ S.subject source.old }
-    ensures goes { Goes (is_near_target id_order target.now) (S.may source.old) (S.may source.new) notes.old.items notes.new.items }
+    ensures goes { Goes S.asks (is_near_target id_order target.now) source.old source.new notes.old.items notes.new.items (stop_of result) }
     ensures seen { IfOk result (λ quads. (d : View) → Agrees notes.new.items d → quads.items ≡ the_quads_of target.now (applied changes.now d).quads) }
     ensures within { IfOk result (λ quads. AskedQuads (is_near_target id_order target.now) quads.items) }
 {
@@ -108,9 +107,9 @@ pub fn names_of<S: Source>(
     source: &mut S,
     notes: &mut Vec<Note>,
 ) -> Result<Vec<Id>, Stop>
-    ensures about { S.subject source.new ≡ S.subject source.old }
-    ensures goes { Goes (is_near_target id_order target.now) (S.may source.old) (S.may source.new) notes.old.items notes.new.items }
+    ensures goes { Goes S.asks (is_near_target id_order target.now) source.old source.new notes.old.items notes.new.items (stop_of result) }
     ensures seen { IfOk result (λ names. (d : View) → Agrees notes.new.items d → names.items ≡ the_names_of target.now (applied changes.now d).names) }
+    ensures within { IfOk result (λ names. AskedNames (is_near_target id_order target.now) names.items) }
 {
     match target {
         Target::Graph(name) => {
@@ -126,17 +125,17 @@ pub fn names_of<S: Source>(
 /// Whether the graph that is named is there, in each changed dataset that agrees with the notes. Only one that is named by itself may
 /// be missing, and only that one is asked for.
 pub fn is_there<S: Source>(
+    alloc: Global,
     target: &Target<Id>,
     changes: &Delta,
     source: &mut S,
     notes: &mut Vec<Note>,
 ) -> Result<bool, Stop>
-    ensures about { S.subject source.new ≡ S.subject source.old }
-    ensures goes { Goes (is_near_target id_order target.now) (S.may source.old) (S.may source.new) notes.old.items notes.new.items }
+    ensures goes { Goes S.asks (is_near_target id_order target.now) source.old source.new notes.old.items notes.new.items (stop_of result) }
     ensures seen { IfOk result (λ so. (d : View) → Agrees notes.new.items d → so ≡ is_target_there (applied changes.now d) target.now) }
 {
     match target {
-        Target::Graph(name) => is_graph(*name, changes, source, notes),
+        Target::Graph(name) => is_graph(alloc, *name, changes, source, notes),
         Target::Default => Ok(true),
         Target::Named => Ok(true),
         Target::All => Ok(true),

@@ -39,14 +39,9 @@ impl<'s, 'a> Model for Asking<'s, 'a> {
 }
 
 impl<'s, 'a> Source for Asking<'s, 'a> {
-    ghost use Rattle.std.specs.Prelude.{[]};
-    ghost use Rattle.shared.specs.Calls.{Viewed};
+    ghost use Rattle.walks.specs.Alone.{Sees};
 
-    ghost may = { λ asking read answer. Unit {0} };
-
-    ghost Subject = { Viewed };
-
-    ghost subject = { λ asking. record asking { seen = [] } };
+    ghost asks = { λ before read told after. Sees before after };
 
     fn ask(&mut self, read: &Read<Id>) -> Result<Answered, Stop> {
         match self

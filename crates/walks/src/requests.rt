@@ -18,11 +18,7 @@ struct Liar {
 }
 
 impl Source for Liar {
-    ghost may = { λ s r a. Unit {0} };
-
-    ghost Subject = { Unit {0} };
-
-    ghost subject = { λ s. tt };
+    ghost asks = { λ before read told after. Unit {0} };
 
     fn ask(&mut self, read: &Read<Id>) -> Result<Answered, Stop> {
         if self.left == 0 {

@@ -40,15 +40,10 @@ impl<'a> Model for Asking<'a> {
 }
 
 impl<'a> Source for Asking<'a> {
-    ghost use Rattle.std.specs.Prelude.{[]};
-    ghost use Rattle.book.specs.Run.{Run};
+    ghost use Rattle.std.specs.Prelude.{◌≡◌};
 
-    ghost may = { λ asking read answer. Unit {0} };
-
-    // The book, but for its history.
-    ghost Subject = { Run };
-
-    ghost subject = { λ asking. record asking { history = [] } };
+    // The book is about the same.
+    ghost asks = { λ before read told after. after ≡ record before { history = after.history } };
 
     fn ask(&mut self, read: &Read<Id>) -> Result<Answered, Stop> {
         let turn = self.turn;

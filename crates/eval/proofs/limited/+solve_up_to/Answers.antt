@@ -7,21 +7,22 @@ use Rattle.algebra.specs.Expressions.{expression_of}
 use Rattle.algebra.specs.Plans.{Basic, InGraph, plan_of, parts_of, nothing, linked_all, filtered}
 use Rattle.algebra.specs.declared.plan.Link.TheVariants as link
 use Rattle.algebra.specs.declared.template.Slot.TheVariants as slot
+use Rattle.datasets.specs.declared.read.Read.TheVariants.{GraphIs}
 use Rattle.datasets.specs.Id.{id_order}
 use Rattle.datasets.specs.declared.id.Id.{Id}
 use Rattle.meaning.specs.Mapping.{Mapping}
-use Rattle.meaning.specs.Near.{is_for_plan}
+use Rattle.asking.specs.Near.{is_for_plan}
 use Rattle.meaning.specs.Solutions.{solutions, passes_all}
 use Rattle.reads.specs.Reads.{applied}
-use Rattle.asking.proofs.Notes.{goes_on, goes_within}
 use Rattle.solution.specs.Limits.{up_to}
 use Rattle.eval.specs.Groups.{combined}
 use Rattle.eval.proofs.Alone.{alone}
 use Rattle.eval.proofs.Folds.{filtered_solved, linked_solved, unfiltered}
 use Rattle.eval.proofs.Lasts.{group_ends, group_alone}
-use Rattle.eval.proofs.Nearness.{named_here, filtered_near, named_near, before_near, next_near}
+use Rattle.eval.proofs.Nearness.{named_here, filtered_near, named_near, before_near, next_near, name_asked}
 use Rattle.eval.proofs.Scanned.{basic_asked}
 use Rattle.eval.proofs.Shapes.{basic_is, graph_is}
+use Rattle.asking.proofs.Notes.{goes_on, goes_within, goes_short, goes_as, agreed}
 use Rattle.eval.proofs.limited.+solve_up_to.Goals as goal
 
 -- ---- solve_up_to
@@ -93,7 +94,7 @@ solve_parts_up_to-returns-in_err-before-clause-goes g t c written here =
     let l = (get_or c.args.parts.now (length c.args.parts.now - 1) c.index-parts-parts.result).0 in
     let p = plan_of (get_or c.args.parts.now (length c.args.parts.now - 1) c.index-parts-parts-2.result).1 in
     let is = group_ends c.args.parts.now c.index-parts-parts.result c.index-parts-parts-2.result c.in-len1-up.len_at_least in
-    goes_within (λ r h. ap (λ q. is_for_plan id_order written q r) is ∙ before_near written l first p r h) (c.solve_parts.ensures.goes written here)
+    goes_as _ c.from_residual-in_err-before.ensures.1 (goes_within (λ r h. ap (λ q. is_for_plan id_order written q r) is ∙ before_near written l first p r h) (c.in_err-before.ensures.goes written here))
 
 pub solve_parts_up_to-returns-in_err-next-clause-goes : goal.solve_parts_up_to-returns-in_err-next-clause-goes
 solve_parts_up_to-returns-in_err-next-clause-goes g t c written here =
@@ -101,9 +102,9 @@ solve_parts_up_to-returns-in_err-next-clause-goes g t c written here =
     let l = (get_or c.args.parts.now (length c.args.parts.now - 1) c.index-parts-parts.result).0 in
     let p = plan_of (get_or c.args.parts.now (length c.args.parts.now - 1) c.index-parts-parts-2.result).1 in
     let is = group_ends c.args.parts.now c.index-parts-parts.result c.index-parts-parts-2.result c.in-len1-up.len_at_least in
-    goes_on
-    (goes_within (λ r h. ap (λ q. is_for_plan id_order written q r) is ∙ before_near written l first p r h) (c.solve_parts.ensures.goes written here))
-    (goes_within (λ r h. ap (λ q. is_for_plan id_order written q r) is ∙ next_near written l first p r h) (c.solve.ensures.goes written here))
+    goes_as _ c.from_residual-in_err-next.ensures.1 (goes_on
+    (goes_within (λ r h. ap (λ q. is_for_plan id_order written q r) is ∙ before_near written l first p r h) (c.in_ok-before.ensures.goes written here))
+    (goes_within (λ r h. ap (λ q. is_for_plan id_order written q r) is ∙ next_near written l first p r h) (c.in_err-next.ensures.goes written here)))
 
 pub solve_parts_up_to-returns-in_err-found-clause-goes : goal.solve_parts_up_to-returns-in_err-found-clause-goes
 solve_parts_up_to-returns-in_err-found-clause-goes g t c written here =
@@ -111,9 +112,9 @@ solve_parts_up_to-returns-in_err-found-clause-goes g t c written here =
     let l = (get_or c.args.parts.now (length c.args.parts.now - 1) c.index-parts-parts.result).0 in
     let p = plan_of (get_or c.args.parts.now (length c.args.parts.now - 1) c.index-parts-parts-2.result).1 in
     let is = group_ends c.args.parts.now c.index-parts-parts.result c.index-parts-parts-2.result c.in-len1-up.len_at_least in
-    goes_on
-    (goes_within (λ r h. ap (λ q. is_for_plan id_order written q r) is ∙ before_near written l first p r h) (c.solve_parts.ensures.goes written here))
-    (goes_within (λ r h. ap (λ q. is_for_plan id_order written q r) is ∙ next_near written l first p r h) (c.solve.ensures.goes written here))
+    goes_short _ c.from_residual-in_err-found.ensures.1 (goes_on
+    (goes_within (λ r h. ap (λ q. is_for_plan id_order written q r) is ∙ before_near written l first p r h) (c.in_ok-before.ensures.goes written here))
+    (goes_within (λ r h. ap (λ q. is_for_plan id_order written q r) is ∙ next_near written l first p r h) (c.in_ok-next.ensures.goes written here)))
 
 pub solve_parts_up_to-returns-clause-goes : goal.solve_parts_up_to-returns-clause-goes
 solve_parts_up_to-returns-clause-goes g t c written here =
@@ -122,8 +123,8 @@ solve_parts_up_to-returns-clause-goes g t c written here =
     let p = plan_of (get_or c.args.parts.now (length c.args.parts.now - 1) c.index-parts-parts-2.result).1 in
     let is = group_ends c.args.parts.now c.index-parts-parts.result c.index-parts-parts-2.result c.in-len1-up.len_at_least in
     goes_on
-    (goes_within (λ r h. ap (λ q. is_for_plan id_order written q r) is ∙ before_near written l first p r h) (c.solve_parts.ensures.goes written here))
-    (goes_within (λ r h. ap (λ q. is_for_plan id_order written q r) is ∙ next_near written l first p r h) (c.solve.ensures.goes written here))
+    (goes_within (λ r h. ap (λ q. is_for_plan id_order written q r) is ∙ before_near written l first p r h) (c.in_ok-before.ensures.goes written here))
+    (goes_within (λ r h. ap (λ q. is_for_plan id_order written q r) is ∙ next_near written l first p r h) (c.in_ok-next.ensures.goes written here))
 
 pub solve_parts_up_to-returns-clause-solved : goal.solve_parts_up_to-returns-clause-solved
 solve_parts_up_to-returns-clause-solved g t c d a =
@@ -134,7 +135,7 @@ solve_parts_up_to-returns-clause-solved g t c d a =
     let l = (get_or c.args.parts.now (length c.args.parts.now - 1) c.index-parts-parts.result).0 in
     let p = plan_of (get_or c.args.parts.now (length c.args.parts.now - 1) c.index-parts-parts-2.result).1 in
     let is = group_ends c.args.parts.now c.index-parts-parts.result c.index-parts-parts-2.result c.in-len1-up.len_at_least in
-    let before = c.in_ok-before.ensures.solved d ((c.solve.ensures.goes (Some (slot.Variable 0)) refl).agrees d a) in
+    let before = c.in_ok-before.ensures.solved d (agreed (c.in_ok-next.ensures.goes (Some (slot.Variable 0)) refl) d a) in
     let next = c.in_ok-next.ensures.solved d a in
     c.in_ok-found.ensures.value
     ∙ ap (λ (xs : List (Mapping Id)). up_to c.args.limit (filter (passes_all passes (map expression_of c.args.filters.now)) xs))
@@ -144,10 +145,20 @@ solve_parts_up_to-returns-clause-solved g t c d a =
 
 -- ---- solve_in_up_to
 
+pub solve_in_up_to-returns-in_err-is_graph-in-Term-clause-goes : goal.solve_in_up_to-returns-in_err-is_graph-in-Term-clause-goes
+solve_in_up_to-returns-in_err-is_graph-in-Term-clause-goes g t c written =
+    let p = plan_of c.args.plan.now in
+    goes_as _ c.from_residual.ensures.1 (c.in_err-is_graph-in-Term.ensures.goes (is_for_plan id_order written (InGraph c.args.place p)) (ap (λ n. is_for_plan id_order written (InGraph n p) (GraphIs c.in-Term.name)) c.in-Term.is ∙ name_asked written c.in-Term.name p))
+
+pub solve_in_up_to-returns-else-branch-clause-goes : goal.solve_in_up_to-returns-else-branch-clause-goes
+solve_in_up_to-returns-else-branch-clause-goes g t c written =
+    let p = plan_of c.args.plan.now in
+    c.in_ok-is_graph-in-Term.ensures.goes (is_for_plan id_order written (InGraph c.args.place p)) (ap (λ n. is_for_plan id_order written (InGraph n p) (GraphIs c.in-Term.name)) c.in-Term.is ∙ name_asked written c.in-Term.name p)
+
 pub solve_in_up_to-returns-then-branch-clause-goes : goal.solve_in_up_to-returns-then-branch-clause-goes
 solve_in_up_to-returns-then-branch-clause-goes g t c written =
     let p = plan_of c.args.plan.now in
-    goes_on (c.is_graph.ensures.goes (is_for_plan id_order written (InGraph c.args.place p)) refl)
+    goes_on (c.in_ok-is_graph-in-Term.ensures.goes (is_for_plan id_order written (InGraph c.args.place p)) (ap (λ n. is_for_plan id_order written (InGraph n p) (GraphIs c.in-Term.name)) c.in-Term.is ∙ name_asked written c.in-Term.name p))
     (goes_within (λ r h. ap (λ n. is_for_plan id_order written (InGraph n p) r) c.in-Term.is ∙ named_near written c.in-Term.name p r h)
     (c.solve_up_to.ensures.goes (Some (slot.Term c.in-Term.name)) (named_here c.in-Term.name)))
 
@@ -159,9 +170,17 @@ solve_in_up_to-returns-then-branch-clause-solved g t c =
     IfOk-weaker c.solve_up_to.result _ _
     (λ found h d active a.
     let dataset = applied c.args.query.now.changes.now d in
-    let there = sym (c.in_ok-is_graph-in-Term.ensures.seen d ((c.solve_up_to.ensures.goes (Some (slot.Term c.in-Term.name)) (named_here c.in-Term.name)).agrees d a)) ∙ c.if-branch.true in
+    let there = sym (c.in_ok-is_graph-in-Term.ensures.seen d (agreed (c.solve_up_to.ensures.goes (Some (slot.Term c.in-Term.name)) (named_here c.in-Term.name)) d a)) ∙ c.if-branch.true in
     h d a
     ∙ ap (λ (xs : List (Mapping Id)). up_to c.args.limit (filter (passes_all passes (map expression_of c.args.filters.now)) xs))
     (sym (ap (λ n. solutions id_order passes width (InGraph n p) dataset active) c.in-Term.is
     ∙ ap (λ b. cond b (solutions id_order passes width p dataset (Some c.in-Term.name)) []) there)))
     c.solve_up_to.ensures.solved
+
+pub solve_in_up_to-returns-in_err-all-in-Variable-clause-goes : goal.solve_in_up_to-returns-in_err-all-in-Variable-clause-goes
+solve_in_up_to-returns-in_err-all-in-Variable-clause-goes g t c written =
+    goes_as _ c.from_residual-in_err-all-in-Variable.ensures.1 (c.in_err-all-in-Variable.ensures.goes written)
+
+pub solve_in_up_to-returns-in_err-kept-in-Variable-clause-goes : goal.solve_in_up_to-returns-in_err-kept-in-Variable-clause-goes
+solve_in_up_to-returns-in_err-kept-in-Variable-clause-goes g t c written =
+    goes_short _ c.from_residual-in_err-kept-in-Variable.ensures.1 (c.in_ok-all-in-Variable.ensures.goes written)

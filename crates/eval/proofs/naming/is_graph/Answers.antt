@@ -3,18 +3,14 @@ use Rattle.std.specs.Prelude.{not, ◌&&◌, ◌||◌}
 use Rattle.sets.specs.Sets.{has}
 use Rattle.datasets.specs.Id.{id_order}
 use Rattle.reads.specs.Reads.{told_is, says}
-use Rattle.asking.proofs.Notes.{goes_noted, told_last}
+use Rattle.asking.proofs.Notes.{told_last}
 use Rattle.eval.proofs.Seen.{name_seen}
 use Rattle.eval.proofs.naming.is_graph.Goals as goal
-
-pub returns-clause-goes : goal.returns-clause-goes
-returns-clause-goes g c allowed near =
-    goes_noted allowed _ _ c.ask.ensures.later c.ask.ensures.before _ _ _ c.in_ok-note.ensures.ok c.in_ok-answer.ensures.meets near
 
 pub returns-clause-seen : goal.returns-clause-seen
 unfolding says
 returns-clause-seen g c d a =
-    let was = c.tells_name-was_there.ensures _ (ap told_is (told_last c.args.notes.now.items c.note.new.notes.items _ d c.in_ok-note.ensures.ok a)) in
+    let was = c.tells_name-was_there.ensures _ (ap told_is (told_last c.args.notes.now.items c.ask.new.notes.items _ d c.in_ok-answer.ensures.noted a)) in
     c.is_named_after.ensures
     ∙ ap (λ b. (b && not (has id_order c.args.changes.now.gone c.args.name)) || has id_order c.args.changes.now.there c.args.name) was
     ∙ sym (name_seen c.args.name c.args.changes.now d)

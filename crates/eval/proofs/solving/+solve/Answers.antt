@@ -1,4 +1,4 @@
-use Rattle.std.proofs.Common.{[], Some, refl, sym, ap, ◌∙◌, map, arith}
+use Rattle.std.proofs.Common.{◌≡◌, [], Some, refl, sym, ap, ◌∙◌, map, arith}
 use Rattle.std.specs.Prelude.{cond, filter}
 use Rattle.std.proofs.lemmas.Grind.{common_steps}
 use Rattle.std.proofs.lemmas.Result.{IfOk-weaker}
@@ -6,16 +6,19 @@ use Rattle.algebra.proofs.Folds.{group_is, union_is}
 use Rattle.algebra.specs.Expressions.{expression_of}
 use Rattle.algebra.specs.Plans.{Basic, InGraph, plan_of, parts_of, nothing, linked_all, filtered, united}
 use Rattle.algebra.specs.declared.template.Slot.TheVariants as slot
-use Rattle.datasets.specs.declared.read.Read.TheVariants.{Graphs}
+use Rattle.datasets.specs.declared.read.Read.TheVariants.{GraphIs, Graphs}
 use Rattle.datasets.specs.Id.{id_order}
-use Rattle.meaning.specs.Near.{is_for_plan}
+use Rattle.sets.specs.Sets.{set_of}
+use Rattle.meaning.specs.Mapping.{mapping_cmp}
+use Rattle.eval.specs.Groups.{in_graphs}
+use Rattle.asking.specs.Near.{is_for_plan}
 use Rattle.meaning.specs.Solutions.{solutions, passes_all}
 use Rattle.reads.specs.Reads.{applied}
-use Rattle.asking.proofs.Notes.{goes_on, goes_within, goes_nowhere}
 use Rattle.eval.proofs.Scanned.{basic_asked}
 use Rattle.eval.proofs.Folds.{parts_on, parts_solved, behind, union_begins, union_on, union_solved, filtered_solved}
-use Rattle.eval.proofs.Nearness.{named_here, part_near, first_near, other_near, filtered_near, named_near, each_near}
+use Rattle.eval.proofs.Nearness.{named_here, part_near, first_near, other_near, filtered_near, named_near, each_near, name_asked}
 use Rattle.eval.proofs.Shapes.{basic_is, graph_is}
+use Rattle.asking.proofs.Notes.{goes_on, goes_within, goes_nowhere, goes_short, goes_as, agreed}
 use Rattle.eval.proofs.solving.+solve.Goals as goal
 
 -- ---- solve
@@ -31,21 +34,21 @@ solve-returns-in_err-found-in-Group-clause-goes g t c written here =
     let ps = c.deref.result.now in
     let es = map expression_of c.in-Group.filters.items in
     let is = ap plan_of c.in-Group.is ∙ group_is c.in-Group.parts c.in-Group.filters ∙ ap (λ xs. filtered es (linked_all nothing (parts_of xs))) (sym c.deref.ensures.value) in
-    goes_within (λ r h. ap (λ p. is_for_plan id_order written p r) is ∙ filtered_near written es (linked_all nothing (parts_of ps)) r h) (c.solve_parts.ensures.goes written here)
+    goes_as _ c.from_residual.ensures.1 (goes_within (λ r h. ap (λ p. is_for_plan id_order written p r) is ∙ filtered_near written es (linked_all nothing (parts_of ps)) r h) (c.in_err-found-in-Group.ensures.goes written here))
 
 pub solve-returns-in_err-kept-in-Group-clause-goes : goal.solve-returns-in_err-kept-in-Group-clause-goes
 solve-returns-in_err-kept-in-Group-clause-goes g t c written here =
     let ps = c.deref.result.now in
     let es = map expression_of c.in-Group.filters.items in
     let is = ap plan_of c.in-Group.is ∙ group_is c.in-Group.parts c.in-Group.filters ∙ ap (λ xs. filtered es (linked_all nothing (parts_of xs))) (sym c.deref.ensures.value) in
-    goes_within (λ r h. ap (λ p. is_for_plan id_order written p r) is ∙ filtered_near written es (linked_all nothing (parts_of ps)) r h) (c.solve_parts.ensures.goes written here)
+    goes_short _ c.from_residual-in_err-kept-in-Group.ensures.1 (goes_within (λ r h. ap (λ p. is_for_plan id_order written p r) is ∙ filtered_near written es (linked_all nothing (parts_of ps)) r h) (c.in_ok-found-in-Group.ensures.goes written here))
 
 pub solve-returns-in_ok-kept-in-Group-clause-goes : goal.solve-returns-in_ok-kept-in-Group-clause-goes
 solve-returns-in_ok-kept-in-Group-clause-goes g t c written here =
     let ps = c.deref.result.now in
     let es = map expression_of c.in-Group.filters.items in
     let is = ap plan_of c.in-Group.is ∙ group_is c.in-Group.parts c.in-Group.filters ∙ ap (λ xs. filtered es (linked_all nothing (parts_of xs))) (sym c.deref.ensures.value) in
-    goes_within (λ r h. ap (λ p. is_for_plan id_order written p r) is ∙ filtered_near written es (linked_all nothing (parts_of ps)) r h) (c.solve_parts.ensures.goes written here)
+    goes_within (λ r h. ap (λ p. is_for_plan id_order written p r) is ∙ filtered_near written es (linked_all nothing (parts_of ps)) r h) (c.in_ok-found-in-Group.ensures.goes written here)
 
 pub solve-returns-in_ok-kept-in-Group-clause-solved : goal.solve-returns-in_ok-kept-in-Group-clause-solved
 solve-returns-in_ok-kept-in-Group-clause-solved g t c d a =
@@ -75,7 +78,6 @@ solve-returns-in-InGraph-clause-goes g t c written here =
 
 pub solve_parts-loop-link-init : goal.solve_parts-loop-link-init
 solve_parts-loop-link-init g t c = record {
-  about = refl;
   goes = λ written here. goes_nowhere _ _ _;
   found = λ d a.
       let passes = g.F.Filters.passes c.args.query.now.filters.now in
@@ -87,25 +89,24 @@ solve_parts-loop-link-init g t c = record {
 
 pub solve_parts-returns-in_err-next-clause-goes : goal.solve_parts-returns-in_err-next-clause-goes
 solve_parts-returns-in_err-next-clause-goes g t c written here =
-    goes_on (c.loop-link.invariant.goes written here)
+    goes_as _ c.from_residual-in_err-next.ensures.1 (goes_on (c.loop-link.invariant.goes written here)
     (goes_within (λ r h. part_near written nothing c.args.parts.now _ c.loop-link-item.result c.loop-link-test.true r (ap (λ part. is_for_plan id_order written (plan_of part.1) r) (sym c.loop-link-item.is) ∙ h))
-    (c.solve.ensures.goes written here))
+    (c.in_err-next.ensures.goes written here)))
 
 pub solve_parts-returns-in_err-found-2-clause-goes : goal.solve_parts-returns-in_err-found-2-clause-goes
 solve_parts-returns-in_err-found-2-clause-goes g t c written here =
-    goes_on (c.loop-link.invariant.goes written here)
+    goes_short _ c.from_residual-in_err-found-2.ensures.1 (goes_on (c.loop-link.invariant.goes written here)
     (goes_within (λ r h. part_near written nothing c.args.parts.now _ c.loop-link-item.result c.loop-link-test.true r (ap (λ part. is_for_plan id_order written (plan_of part.1) r) (sym c.loop-link-item.is) ∙ h))
-    (c.solve.ensures.goes written here))
+    (c.in_ok-next.ensures.goes written here)))
 
 pub solve_parts-loop-link-preserved : goal.solve_parts-loop-link-preserved
 solve_parts-loop-link-preserved g t c = record {
-  about = c.solve.ensures.about ∙ c.loop-link.invariant.about;
   goes = λ written here.
       goes_on (c.loop-link.invariant.goes written here)
       (goes_within (λ r h. part_near written nothing c.args.parts.now _ c.loop-link-item.result c.loop-link-test.true r (ap (λ part. is_for_plan id_order written (plan_of part.1) r) (sym c.loop-link-item.is) ∙ h))
-      (c.solve.ensures.goes written here));
+      (c.in_ok-next.ensures.goes written here));
   found = λ d a.
-      let before = c.loop-link.invariant.found d ((c.solve.ensures.goes (Some (slot.Variable 0)) refl).agrees d a) in
+      let before = c.loop-link.invariant.found d (agreed (c.in_ok-next.ensures.goes (Some (slot.Variable 0)) refl) d a) in
       let step = c.in_ok-next.ensures.solved d a in
       let both = c.in_ok-found-2.ensures in
       grind (arith, common_steps, before, step, both);
@@ -117,7 +118,7 @@ pub solve_union-returns-in_err-found-clause-goes : goal.solve_union-returns-in_e
 solve_union-returns-in_err-found-clause-goes g t c written here =
     let first = c.first-item.result in
     let is = union_begins c.args.plans.now first c.in-len1-up.len_at_least c.first-item.is in
-    goes_within (λ r h. ap (λ p. is_for_plan id_order written p r) is ∙ first_near written (plan_of first) (map plan_of (behind c.args.plans.now)) r h) (c.solve.ensures.goes written here)
+    goes_as _ c.from_residual-in_err-found.ensures.1 (goes_within (λ r h. ap (λ p. is_for_plan id_order written p r) is ∙ first_near written (plan_of first) (map plan_of (behind c.args.plans.now)) r h) (c.in_err-found.ensures.goes written here))
 
 pub solve_union-loop-plan-init : goal.solve_union-loop-plan-init
 solve_union-loop-plan-init g t c =
@@ -127,9 +128,8 @@ solve_union-loop-plan-init g t c =
     let rest = behind c.args.plans.now in
     let is = union_begins c.args.plans.now first c.in-len1-up.len_at_least c.first-item.is in
     record {
-      about = c.solve.ensures.about;
       goes = λ written here.
-          goes_within (λ r h. ap (λ p. is_for_plan id_order written p r) is ∙ first_near written (plan_of first) (map plan_of rest) r h) (c.solve.ensures.goes written here);
+          goes_within (λ r h. ap (λ p. is_for_plan id_order written p r) is ∙ first_near written (plan_of first) (map plan_of rest) r h) (c.in_ok-found.ensures.goes written here);
       found = λ d a.
           let dataset = applied c.args.query.now.changes.now d in
           ap (λ found. union_on passes width dataset c.args.active found rest) (c.in_ok-found.ensures.solved d a)
@@ -141,30 +141,29 @@ pub solve_union-returns-in_err-next-clause-goes : goal.solve_union-returns-in_er
 solve_union-returns-in_err-next-clause-goes g t c written here =
     let first = c.first-item.result in
     let is = union_begins c.args.plans.now first c.in-len1-up.len_at_least c.first-item.is in
-    goes_on (c.loop-plan.invariant.goes written here)
+    goes_as _ c.from_residual-in_err-next.ensures.1 (goes_on (c.loop-plan.invariant.goes written here)
     (goes_within (λ r h. ap (λ p. is_for_plan id_order written p r) is ∙ other_near written (plan_of first) (behind c.args.plans.now) _ c.plan-item.result c.loop-plan-test.true r (ap (λ p. is_for_plan id_order written (plan_of p) r) (sym c.plan-item.is) ∙ h))
-    (c.solve-in-loop-plan.ensures.goes written here))
+    (c.in_err-next.ensures.goes written here)))
 
 pub solve_union-returns-in_err-found-2-clause-goes : goal.solve_union-returns-in_err-found-2-clause-goes
 solve_union-returns-in_err-found-2-clause-goes g t c written here =
     let first = c.first-item.result in
     let is = union_begins c.args.plans.now first c.in-len1-up.len_at_least c.first-item.is in
-    goes_on (c.loop-plan.invariant.goes written here)
+    goes_short _ c.from_residual-in_err-found-2.ensures.1 (goes_on (c.loop-plan.invariant.goes written here)
     (goes_within (λ r h. ap (λ p. is_for_plan id_order written p r) is ∙ other_near written (plan_of first) (behind c.args.plans.now) _ c.plan-item.result c.loop-plan-test.true r (ap (λ p. is_for_plan id_order written (plan_of p) r) (sym c.plan-item.is) ∙ h))
-    (c.solve-in-loop-plan.ensures.goes written here))
+    (c.in_ok-next.ensures.goes written here)))
 
 pub solve_union-loop-plan-preserved : goal.solve_union-loop-plan-preserved
 solve_union-loop-plan-preserved g t c =
     let first = c.first-item.result in
     let is = union_begins c.args.plans.now first c.in-len1-up.len_at_least c.first-item.is in
     record {
-      about = c.solve-in-loop-plan.ensures.about ∙ c.loop-plan.invariant.about;
       goes = λ written here.
           goes_on (c.loop-plan.invariant.goes written here)
           (goes_within (λ r h. ap (λ p. is_for_plan id_order written p r) is ∙ other_near written (plan_of first) (behind c.args.plans.now) _ c.plan-item.result c.loop-plan-test.true r (ap (λ p. is_for_plan id_order written (plan_of p) r) (sym c.plan-item.is) ∙ h))
-          (c.solve-in-loop-plan.ensures.goes written here));
+          (c.in_ok-next.ensures.goes written here));
       found = λ d a.
-          let before = c.loop-plan.invariant.found d ((c.solve-in-loop-plan.ensures.goes (Some (slot.Variable 0)) refl).agrees d a) in
+          let before = c.loop-plan.invariant.found d (agreed (c.in_ok-next.ensures.goes (Some (slot.Variable 0)) refl) d a) in
           let step = c.in_ok-next.ensures.solved d a in
           let both = c.in_ok-found-2.ensures in
           grind (arith, common_steps, before, step, both);
@@ -172,10 +171,20 @@ solve_union-loop-plan-preserved g t c =
 
 -- ---- solve_in
 
+pub solve_in-returns-in_err-is_graph-in-Term-clause-goes : goal.solve_in-returns-in_err-is_graph-in-Term-clause-goes
+solve_in-returns-in_err-is_graph-in-Term-clause-goes g t c written =
+    let p = plan_of c.args.plan.now in
+    goes_as _ c.from_residual.ensures.1 (c.in_err-is_graph-in-Term.ensures.goes (is_for_plan id_order written (InGraph c.args.place p)) (ap (λ n. is_for_plan id_order written (InGraph n p) (GraphIs c.in-Term.name)) c.in-Term.is ∙ name_asked written c.in-Term.name p))
+
+pub solve_in-returns-else-branch-clause-goes : goal.solve_in-returns-else-branch-clause-goes
+solve_in-returns-else-branch-clause-goes g t c written =
+    let p = plan_of c.args.plan.now in
+    c.in_ok-is_graph-in-Term.ensures.goes (is_for_plan id_order written (InGraph c.args.place p)) (ap (λ n. is_for_plan id_order written (InGraph n p) (GraphIs c.in-Term.name)) c.in-Term.is ∙ name_asked written c.in-Term.name p)
+
 pub solve_in-returns-then-branch-clause-goes : goal.solve_in-returns-then-branch-clause-goes
 solve_in-returns-then-branch-clause-goes g t c written =
     let p = plan_of c.args.plan.now in
-    goes_on (c.is_graph.ensures.goes (is_for_plan id_order written (InGraph c.args.place p)) refl)
+    goes_on (c.in_ok-is_graph-in-Term.ensures.goes (is_for_plan id_order written (InGraph c.args.place p)) (ap (λ n. is_for_plan id_order written (InGraph n p) (GraphIs c.in-Term.name)) c.in-Term.is ∙ name_asked written c.in-Term.name p))
     (goes_within (λ r h. ap (λ n. is_for_plan id_order written (InGraph n p) r) c.in-Term.is ∙ named_near written c.in-Term.name p r h)
     (c.solve.ensures.goes (Some (slot.Term c.in-Term.name)) (named_here c.in-Term.name)))
 
@@ -187,7 +196,7 @@ solve_in-returns-then-branch-clause-solved g t c =
     IfOk-weaker c.solve.result _ _
     (λ found h d active a.
     let dataset = applied c.args.query.now.changes.now d in
-    let there = sym (c.in_ok-is_graph-in-Term.ensures.seen d ((c.solve.ensures.goes (Some (slot.Term c.in-Term.name)) (named_here c.in-Term.name)).agrees d a)) ∙ c.if-branch.true in
+    let there = sym (c.in_ok-is_graph-in-Term.ensures.seen d (agreed (c.solve.ensures.goes (Some (slot.Term c.in-Term.name)) (named_here c.in-Term.name)) d a)) ∙ c.if-branch.true in
     h d a
     ∙ sym (ap (λ n. solutions id_order passes width (InGraph n p) dataset active) c.in-Term.is
     ∙ ap (λ b. cond b (solutions id_order passes width p dataset (Some c.in-Term.name)) []) there))
@@ -196,23 +205,36 @@ solve_in-returns-then-branch-clause-solved g t c =
 pub solve_in-returns-in_ok-names-in-Variable-clause-goes : goal.solve_in-returns-in_ok-names-in-Variable-clause-goes
 solve_in-returns-in_ok-names-in-Variable-clause-goes g t c written =
     let p = plan_of c.args.plan.now in
-    goes_on (c.graphs.ensures.goes (is_for_plan id_order written (InGraph c.args.place p)) (ap (λ n. is_for_plan id_order written (InGraph n p) Graphs) c.in-Variable.is))
+    goes_on (c.in_ok-names-in-Variable.ensures.goes (is_for_plan id_order written (InGraph c.args.place p)) (ap (λ n. is_for_plan id_order written (InGraph n p) Graphs) c.in-Variable.is))
     (goes_within (λ r h. ap (λ n. is_for_plan id_order written (InGraph n p) r) c.in-Variable.is ∙ each_near written c.in-Variable.variable p r h) c.solve_graphs.ensures.goes)
+
+pub solve_in-returns-in_ok-names-in-Variable-clause-solved : goal.solve_in-returns-in_ok-names-in-Variable-clause-solved
+solve_in-returns-in_ok-names-in-Variable-clause-solved g t c =
+    let passes = g.F.Filters.passes c.args.query.now.filters.now in
+    let width = c.args.query.now.width in
+    let p = plan_of c.args.plan.now in
+    IfOk-weaker c.solve_graphs.result _ _
+    (λ found h d active a.
+    let dataset = applied c.args.query.now.changes.now d in
+    let names : c.deref.result.now ≡ dataset.names = c.deref.ensures.value ∙ c.in_ok-names-in-Variable.ensures.seen d (agreed c.solve_graphs.ensures.goes d a) in
+    h d a
+    ∙ ap (λ ns. set_of (mapping_cmp id_order) (in_graphs passes width c.in-Variable.variable p dataset ns)) names
+    ∙ sym (ap (λ n. solutions id_order passes width (InGraph n p) dataset active) c.in-Variable.is))
+    c.solve_graphs.ensures.solved
 
 -- ---- solve_graphs
 
 pub solve_graphs-returns-in_err-next-clause-goes : goal.solve_graphs-returns-in_err-next-clause-goes
-solve_graphs-returns-in_err-next-clause-goes g t c = goes_on c.loop-name.invariant.goes (c.solve.ensures.goes (Some (slot.Variable c.args.variable)) refl)
+solve_graphs-returns-in_err-next-clause-goes g t c = goes_as _ c.from_residual.ensures.1 (goes_on c.loop-name.invariant.goes (c.in_err-next.ensures.goes (Some (slot.Variable c.args.variable)) refl))
 
 pub solve_graphs-returns-in_err-push_fitted-clause-goes : goal.solve_graphs-returns-in_err-push_fitted-clause-goes
-solve_graphs-returns-in_err-push_fitted-clause-goes g t c = goes_on c.loop-name.invariant.goes (c.solve.ensures.goes (Some (slot.Variable c.args.variable)) refl)
+solve_graphs-returns-in_err-push_fitted-clause-goes g t c = goes_short _ c.from_residual-in_err-push_fitted.ensures.1 (goes_on c.loop-name.invariant.goes (c.in_ok-next.ensures.goes (Some (slot.Variable c.args.variable)) refl))
 
 pub solve_graphs-loop-name-preserved : goal.solve_graphs-loop-name-preserved
 solve_graphs-loop-name-preserved g t c = record {
-  about = c.solve.ensures.about ∙ c.loop-name.invariant.about;
-  goes = goes_on c.loop-name.invariant.goes (c.solve.ensures.goes (Some (slot.Variable c.args.variable)) refl);
+  goes = goes_on c.loop-name.invariant.goes (c.in_ok-next.ensures.goes (Some (slot.Variable c.args.variable)) refl);
   found = λ d a.
-      let before = c.loop-name.invariant.found d ((c.solve.ensures.goes (Some (slot.Variable c.args.variable)) refl).agrees d a) in
+      let before = c.loop-name.invariant.found d (agreed (c.in_ok-next.ensures.goes (Some (slot.Variable c.args.variable)) refl) d a) in
       let step = c.in_ok-next.ensures.solved d a in
       let pushed = c.in_ok-push_fitted.ensures in
       grind (arith, common_steps, before, step, pushed);

@@ -2,16 +2,16 @@ use Rattle.std.specs.Prelude.{Bool, IfOk, length}
 use Rattle.std.proofs.Common.{◌≡◌, sym, ap, ◌∙◌, subst, Result, Ok}
 use Rattle.datasets.specs.Id.{id_order}
 use Rattle.dict.specs.Dictionary.{numbers}
-use Rattle.meaning.specs.Near.{is_near_request}
+use Rattle.asking.specs.Near.{is_near_request}
 use Rattle.meaning.specs.Run.{settled}
 use Rattle.meaning.specs.declared.reply.Reply.TheVariants.{Done}
 use Rattle.reads.specs.Reads.{Delta, Read}
-use Rattle.asking.proofs.Notes.{goes_on}
 use Rattle.update.specs.Asked.{IsWithin}
 use Rattle.update.specs.Changed.{difference}
 use Rattle.update.specs.Failures.{performed_so}
 use Rattle.update.specs.declared.operations.Failed.{Failed}
 use Rattle.update.proofs.Differences.{no_difference}
+use Rattle.asking.proofs.Notes.{goes_on, goes_as, agreed}
 use Rattle.update.proofs.execution.performed.Goals as goal
 
 -- where all operations are done, the change is within
@@ -21,18 +21,18 @@ within_of allowed outcome changes e h = subst (λ (o : Result Delta Failed). IfO
 pub returns-in_err-delta-in-Ok-clause-goes : goal.returns-in_err-delta-in-Ok-clause-goes
 returns-in_err-delta-in-Ok-clause-goes g c =
     let near = is_near_request id_order c.args.operations.now in
-    goes_on c.perform.ensures.goes (c.least_of.ensures.goes near (within_of near c.in_ok-changes.field-0 c.in-Ok.changes c.in-Ok.is c.in_ok-changes.ensures.within))
+    goes_as _ c.from_residual-in_err-delta-in-Ok.ensures.1 (goes_on c.in_ok-changes.ensures.goes (c.in_err-delta-in-Ok.ensures.goes near (within_of near c.in_ok-changes.field-0 c.in-Ok.changes c.in-Ok.is c.in_ok-changes.ensures.within)))
 
 pub returns-in_ok-delta-in-Ok-clause-goes : goal.returns-in_ok-delta-in-Ok-clause-goes
 returns-in_ok-delta-in-Ok-clause-goes g c =
     let near = is_near_request id_order c.args.operations.now in
-    goes_on c.perform.ensures.goes (c.least_of.ensures.goes near (within_of near c.in_ok-changes.field-0 c.in-Ok.changes c.in-Ok.is c.in_ok-changes.ensures.within))
+    goes_on c.in_ok-changes.ensures.goes (c.in_ok-delta-in-Ok.ensures.goes near (within_of near c.in_ok-changes.field-0 c.in-Ok.changes c.in-Ok.is c.in_ok-changes.ensures.within))
 
 pub returns-in_ok-delta-in-Ok-clause-least : goal.returns-in_ok-delta-in-Ok-clause-least
 returns-in_ok-delta-in-Ok-clause-least g c d h a =
     let V = numbers c.args.dict.now in
     let near = is_near_request id_order c.args.operations.now in
-    let before = (c.least_of.ensures.goes near (within_of near c.in_ok-changes.field-0 c.in-Ok.changes c.in-Ok.is c.in_ok-changes.ensures.within)).agrees d a in
+    let before = agreed (c.in_ok-delta-in-Ok.ensures.goes near (within_of near c.in_ok-changes.field-0 c.in-Ok.changes c.in-Ok.is c.in_ok-changes.ensures.within)) d a in
     let done = sym (ap (performed_so d) c.in-Ok.is) ∙ c.in_ok-changes.ensures.effect d h before in
     c.in_ok-delta-in-Ok.ensures.least d h a ∙ ap (λ z. difference d (settled V d z).0) done
 
@@ -40,7 +40,7 @@ pub returns-in_ok-delta-in-Ok-clause-reply : goal.returns-in_ok-delta-in-Ok-clau
 returns-in_ok-delta-in-Ok-clause-reply g c d h a =
     let V = numbers c.args.dict.now in
     let near = is_near_request id_order c.args.operations.now in
-    let before = (c.least_of.ensures.goes near (within_of near c.in_ok-changes.field-0 c.in-Ok.changes c.in-Ok.is c.in_ok-changes.ensures.within)).agrees d a in
+    let before = agreed (c.in_ok-delta-in-Ok.ensures.goes near (within_of near c.in_ok-changes.field-0 c.in-Ok.changes c.in-Ok.is c.in_ok-changes.ensures.within)) d a in
     let done = sym (ap (performed_so d) c.in-Ok.is) ∙ c.in_ok-changes.ensures.effect d h before in
     let least = c.in_ok-delta-in-Ok.ensures.least d h a in
     (λ i. Done (length ((c.present.ensures.value ∙ ap (λ (z : Delta). z.present) least) i)) (length ((c.absent.ensures.value ∙ ap (λ (z : Delta). z.absent) least) i)))

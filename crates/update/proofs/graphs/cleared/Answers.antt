@@ -2,26 +2,26 @@ use Rattle.std.proofs.Common.{◌≡◌, [], Ok, sym, ap, subst, ◌∙◌}
 use Rattle.sets.specs.Sets.{set_of}
 use Rattle.datasets.specs.Id.{id_order}
 use Rattle.datasets.specs.Dataset.{quad_order}
-use Rattle.meaning.specs.Near.{is_near_target}
+use Rattle.asking.specs.Near.{is_near_target}
 use Rattle.reads.specs.Reads.{Delta, applied}
-use Rattle.asking.proofs.Notes.{goes_on}
 use Rattle.update.specs.Asked.{IsWithin}
 use Rattle.update.specs.Graphs.{quads_of}
 use Rattle.update.proofs.GraphEffects.{rises_after, cleared_is, not_cleared}
 use Rattle.update.proofs.GraphNearness.{parts_within}
+use Rattle.asking.proofs.Notes.{goes_on, goes_short, goes_as, agreed}
 use Rattle.update.proofs.graphs.cleared.Goals as goal
 
 pub returns-then-not-exists-clause-effect : goal.returns-then-not-exists-clause-effect
 returns-then-not-exists-clause-effect g c d a = not_cleared c.args.target.now (applied c.args.changes.now d) (sym (c.in_ok-exists.ensures.seen d a) ∙ c.if-not-exists.true)
 
 pub returns-in_err-quads-clause-goes : goal.returns-in_err-quads-clause-goes
-returns-in_err-quads-clause-goes g c = goes_on c.is_there.ensures.goes c.quads_of.ensures.goes
+returns-in_err-quads-clause-goes g c = goes_as _ c.from_residual-in_err-quads.ensures.1 (goes_on c.in_ok-exists.ensures.goes c.in_err-quads.ensures.goes)
 
 pub returns-in_err-own-clause-goes : goal.returns-in_err-own-clause-goes
-returns-in_err-own-clause-goes g c = goes_on c.is_there.ensures.goes c.quads_of.ensures.goes
+returns-in_err-own-clause-goes g c = goes_short _ c.from_residual-in_err-own.ensures.1 (goes_on c.in_ok-exists.ensures.goes c.in_ok-quads.ensures.goes)
 
 pub returns-clause-goes : goal.returns-clause-goes
-returns-clause-goes g c = goes_on c.is_there.ensures.goes c.quads_of.ensures.goes
+returns-clause-goes g c = goes_on c.in_ok-exists.ensures.goes c.in_ok-quads.ensures.goes
 
 pub returns-clause-effect : goal.returns-clause-effect
 returns-clause-effect g c d a =
@@ -37,7 +37,7 @@ returns-clause-effect g c d a =
       gone = (made.gone ∙ ap (set_of id_order) c.new-3.ensures.items) i;
     } in
     ap (λ (z : Delta). Ok (applied z D)) own
-    ∙ cleared_is t D (rises_after c.args.changes.now d) (sym (c.in_ok-exists.ensures.seen d (c.quads_of.ensures.goes.agrees d a)) ∙ c.if-not-exists.false)
+    ∙ cleared_is t D (rises_after c.args.changes.now d) (sym (c.in_ok-exists.ensures.seen d (agreed c.in_ok-quads.ensures.goes d a)) ∙ c.if-not-exists.false)
 
 pub returns-clause-within : goal.returns-clause-within
 returns-clause-within g c =

@@ -2,29 +2,29 @@ use Rattle.std.proofs.Common.{◌≡◌, [], Ok, sym, ap, subst, ◌∙◌}
 use Rattle.sets.specs.Sets.{set_of}
 use Rattle.datasets.specs.Id.{id_order}
 use Rattle.datasets.specs.Dataset.{quad_order}
-use Rattle.meaning.specs.Near.{is_near_target}
+use Rattle.asking.specs.Near.{is_near_target}
 use Rattle.reads.specs.Reads.{Delta, applied}
-use Rattle.asking.proofs.Notes.{goes_on}
 use Rattle.update.specs.Asked.{IsWithin}
 use Rattle.update.specs.Graphs.{quads_of, names_of}
 use Rattle.update.proofs.GraphEffects.{rises_after, dropped_is, not_dropped}
-use Rattle.update.proofs.GraphNearness.{target_names_near, parts_within}
+use Rattle.update.proofs.GraphNearness.{parts_within}
+use Rattle.asking.proofs.Notes.{goes_on, goes_short, goes_as, agreed}
 use Rattle.update.proofs.graphs.dropped.Goals as goal
 
 pub returns-then-not-exists-clause-effect : goal.returns-then-not-exists-clause-effect
 returns-then-not-exists-clause-effect g c d a = not_dropped c.args.target.now (applied c.args.changes.now d) (sym (c.in_ok-exists.ensures.seen d a) ∙ c.if-not-exists.true)
 
 pub returns-in_err-quads-clause-goes : goal.returns-in_err-quads-clause-goes
-returns-in_err-quads-clause-goes g c = goes_on c.is_there.ensures.goes c.quads_of.ensures.goes
+returns-in_err-quads-clause-goes g c = goes_as _ c.from_residual-in_err-quads.ensures.1 (goes_on c.in_ok-exists.ensures.goes c.in_err-quads.ensures.goes)
 
 pub returns-in_err-names-clause-goes : goal.returns-in_err-names-clause-goes
-returns-in_err-names-clause-goes g c = goes_on c.is_there.ensures.goes (goes_on c.quads_of.ensures.goes c.names_of.ensures.goes)
+returns-in_err-names-clause-goes g c = goes_as _ c.from_residual-in_err-names.ensures.1 (goes_on c.in_ok-exists.ensures.goes (goes_on c.in_ok-quads.ensures.goes c.in_err-names.ensures.goes))
 
 pub returns-in_err-own-clause-goes : goal.returns-in_err-own-clause-goes
-returns-in_err-own-clause-goes g c = goes_on c.is_there.ensures.goes (goes_on c.quads_of.ensures.goes c.names_of.ensures.goes)
+returns-in_err-own-clause-goes g c = goes_short _ c.from_residual-in_err-own.ensures.1 (goes_on c.in_ok-exists.ensures.goes (goes_on c.in_ok-quads.ensures.goes c.in_ok-names.ensures.goes))
 
 pub returns-clause-goes : goal.returns-clause-goes
-returns-clause-goes g c = goes_on c.is_there.ensures.goes (goes_on c.quads_of.ensures.goes c.names_of.ensures.goes)
+returns-clause-goes g c = goes_on c.in_ok-exists.ensures.goes (goes_on c.in_ok-quads.ensures.goes c.in_ok-names.ensures.goes)
 
 pub returns-clause-effect : goal.returns-clause-effect
 returns-clause-effect g c d a =
@@ -32,7 +32,7 @@ returns-clause-effect g c d a =
     let D = applied c.args.changes.now d in
     let Q = quad_order id_order in
     let made = c.in_ok-own.ensures in
-    let second = c.names_of.ensures.goes.agrees d a in
+    let second = agreed c.in_ok-names.ensures.goes d a in
     let own : c.in_ok-own.own ≡ record { present = []; absent = set_of Q (quads_of t D.quads); there = []; gone = set_of id_order (names_of t D.names) } =
     λ i. record {
       present = (made.present ∙ ap (set_of Q) c.new.ensures.items) i;
@@ -41,7 +41,7 @@ returns-clause-effect g c d a =
       gone = (made.gone ∙ ap (set_of id_order) (c.in_ok-names.ensures.seen d a)) i;
     } in
     ap (λ (z : Delta). Ok (applied z D)) own
-    ∙ dropped_is t D (rises_after c.args.changes.now d) (sym (c.in_ok-exists.ensures.seen d (c.quads_of.ensures.goes.agrees d second)) ∙ c.if-not-exists.false)
+    ∙ dropped_is t D (rises_after c.args.changes.now d) (sym (c.in_ok-exists.ensures.seen d (agreed c.in_ok-quads.ensures.goes d second)) ∙ c.if-not-exists.false)
 
 pub returns-clause-within : goal.returns-clause-within
 returns-clause-within g c =
@@ -56,4 +56,4 @@ returns-clause-within g c =
       gone = made.gone i;
     } in
     subst (IsWithin near) (sym own)
-    (parts_within near [] c.in_ok-quads.quads.items [] c.in_ok-names.names.items tt c.in_ok-quads.ensures.within tt (target_names_near c.args.target.now c.in_ok-names.names.items))
+    (parts_within near [] c.in_ok-quads.quads.items [] c.in_ok-names.names.items tt c.in_ok-quads.ensures.within tt c.in_ok-names.ensures.within)

@@ -1,7 +1,7 @@
 use Rattle.std.specs.Prelude.{IfOk}
 use Rattle.std.proofs.Common.{Result, Ok, sym, ap, subst, ◌∙◌}
 use Rattle.datasets.specs.Id.{id_order}
-use Rattle.meaning.specs.Near.{is_near_graphs}
+use Rattle.asking.specs.Near.{is_near_graphs}
 use Rattle.meaning.specs.declared.reply.Cause.{Cause}
 use Rattle.reads.specs.Reads.{Delta, applied}
 use Rattle.update.specs.Asked.{IsWithin}

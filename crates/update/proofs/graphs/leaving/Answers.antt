@@ -1,7 +1,7 @@
 use Rattle.std.proofs.Common.{◌++◌, sym, ap, subst, ◌∙◌}
 use Rattle.std.proofs.lemmas.Result.{IfOk-weaker}
 use Rattle.datasets.specs.Id.{id_order}
-use Rattle.meaning.specs.Near.{is_near_target}
+use Rattle.asking.specs.Near.{is_near_target}
 use Rattle.reads.specs.Reads.{applied}
 use Rattle.update.specs.Asked.{AskedQuads}
 use Rattle.update.specs.Graphs.{quads_of, leaving}

@@ -3,10 +3,10 @@ use Rattle.std.proofs.Common.{sym, ap, subst, ◌∙◌}
 use Rattle.std.proofs.lemmas.Result.{IfOk-weaker}
 use Rattle.datasets.specs.Id.{id_order}
 use Rattle.meaning.specs.GraphOperations.{graphs_after}
-use Rattle.meaning.specs.Near.{is_near_graphs}
+use Rattle.asking.specs.Near.{is_near_graphs}
 use Rattle.reads.specs.Reads.{applied}
-use Rattle.asking.proofs.Notes.{goes_within}
 use Rattle.update.specs.Asked.{IsWithin}
+use Rattle.asking.proofs.Notes.{goes_within}
 use Rattle.update.proofs.graphs.own_change.Goals as goal
 
 pub returns-in-Create-clause-goes : goal.returns-in-Create-clause-goes

@@ -4,13 +4,13 @@ use Rattle.datasets.specs.Id.{id_order}
 use Rattle.datasets.specs.Dataset.{quad_order, quads_in}
 use Rattle.algebra.specs.declared.update.GraphOperation.TheVariants as graphs
 use Rattle.meaning.specs.GraphOperations.{in_graph}
-use Rattle.meaning.specs.Near.{is_near_graphs, is_near_target}
+use Rattle.asking.specs.Near.{is_near_graphs, is_near_target}
 use Rattle.reads.specs.Reads.{Delta, Read, applied}
-use Rattle.asking.proofs.Notes.{goes_on, goes_within}
-use Rattle.update.specs.Asked.{AskedQuads, IsWithin}
+use Rattle.update.specs.Asked.{AskedNames, AskedQuads, IsWithin}
 use Rattle.update.specs.Graphs.{quads_of, leaving, is_target_there}
 use Rattle.update.proofs.GraphEffects.{rises_after, nothing_happens, same_is, not_transferred, transferred_is, transfer_change, quads_of_one}
-use Rattle.update.proofs.GraphNearness.{first_near, second_near, names_near, put_near, asked_more, parts_within, nothing_within}
+use Rattle.update.proofs.GraphNearness.{first_near, second_near, come_near, leaving_near, put_near, asked_more, parts_within, nothing_within}
+use Rattle.asking.proofs.Notes.{goes_on, goes_within, goes_short, goes_as, agreed}
 use Rattle.update.proofs.graphs.transferred.Goals as goal
 
 pub returns-then-is_same_graph-clause-effect : goal.returns-then-is_same_graph-clause-effect
@@ -29,14 +29,14 @@ returns-in_err-exists-clause-goes g c =
     let how = c.args.how in
     let from = c.args.from in
     let to = c.args.to in
-    goes_within (λ r e. first_near how from to r (ap (λ t. is_near_target id_order t r) (sym c.target_of-first.ensures) ∙ e)) c.is_there.ensures.goes
+    goes_as _ c.from_residual.ensures.1 (goes_within (λ r e. first_near how from to r (ap (λ t. is_near_target id_order t r) (sym c.target_of-first.ensures) ∙ e)) c.in_err-exists.ensures.goes)
 
 pub returns-then-not-exists-clause-goes : goal.returns-then-not-exists-clause-goes
 returns-then-not-exists-clause-goes g c =
     let how = c.args.how in
     let from = c.args.from in
     let to = c.args.to in
-    goes_within (λ r e. first_near how from to r (ap (λ t. is_near_target id_order t r) (sym c.target_of-first.ensures) ∙ e)) c.is_there.ensures.goes
+    goes_within (λ r e. first_near how from to r (ap (λ t. is_near_target id_order t r) (sym c.target_of-first.ensures) ∙ e)) c.in_ok-exists.ensures.goes
 
 pub returns-then-not-exists-clause-effect : goal.returns-then-not-exists-clause-effect
 returns-then-not-exists-clause-effect g c d a =
@@ -49,61 +49,61 @@ returns-in_err-found-clause-goes g c =
     let how = c.args.how in
     let from = c.args.from in
     let to = c.args.to in
-    goes_on (goes_within (λ r e. first_near how from to r (ap (λ t. is_near_target id_order t r) (sym c.target_of-first.ensures) ∙ e)) c.is_there.ensures.goes)
-    (goes_within (λ r e. first_near how from to r (ap (λ t. is_near_target id_order t r) (sym c.target_of-first.ensures) ∙ e)) c.quads_of.ensures.goes)
+    goes_as _ c.from_residual-in_err-found.ensures.1 (goes_on (goes_within (λ r e. first_near how from to r (ap (λ t. is_near_target id_order t r) (sym c.target_of-first.ensures) ∙ e)) c.in_ok-exists.ensures.goes)
+    (goes_within (λ r e. first_near how from to r (ap (λ t. is_near_target id_order t r) (sym c.target_of-first.ensures) ∙ e)) c.in_err-found.ensures.goes))
 
 pub returns-in_err-come-clause-goes : goal.returns-in_err-come-clause-goes
 returns-in_err-come-clause-goes g c =
     let how = c.args.how in
     let from = c.args.from in
     let to = c.args.to in
-    goes_on (goes_within (λ r e. first_near how from to r (ap (λ t. is_near_target id_order t r) (sym c.target_of-first.ensures) ∙ e)) c.is_there.ensures.goes)
-    (goes_within (λ r e. first_near how from to r (ap (λ t. is_near_target id_order t r) (sym c.target_of-first.ensures) ∙ e)) c.quads_of.ensures.goes)
+    goes_short _ c.from_residual-in_err-come.ensures.1 (goes_on (goes_within (λ r e. first_near how from to r (ap (λ t. is_near_target id_order t r) (sym c.target_of-first.ensures) ∙ e)) c.in_ok-exists.ensures.goes)
+    (goes_within (λ r e. first_near how from to r (ap (λ t. is_near_target id_order t r) (sym c.target_of-first.ensures) ∙ e)) c.in_ok-found.ensures.goes))
 
 pub returns-in_err-gone-clause-goes : goal.returns-in_err-gone-clause-goes
 returns-in_err-gone-clause-goes g c =
     let how = c.args.how in
     let from = c.args.from in
     let to = c.args.to in
-    goes_on (goes_within (λ r e. first_near how from to r (ap (λ t. is_near_target id_order t r) (sym c.target_of-first.ensures) ∙ e)) c.is_there.ensures.goes)
-    (goes_on (goes_within (λ r e. first_near how from to r (ap (λ t. is_near_target id_order t r) (sym c.target_of-first.ensures) ∙ e)) c.quads_of.ensures.goes)
-    (goes_within (λ r e. second_near how from to r (ap (λ t. is_near_target id_order t r) (sym c.target_of-second.ensures) ∙ e)) c.leaving.ensures.goes))
+    goes_as _ c.from_residual-in_err-gone.ensures.1 (goes_on (goes_within (λ r e. first_near how from to r (ap (λ t. is_near_target id_order t r) (sym c.target_of-first.ensures) ∙ e)) c.in_ok-exists.ensures.goes)
+    (goes_on (goes_within (λ r e. first_near how from to r (ap (λ t. is_near_target id_order t r) (sym c.target_of-first.ensures) ∙ e)) c.in_ok-found.ensures.goes)
+    (goes_within (λ r e. second_near how from to r (ap (λ t. is_near_target id_order t r) (sym c.target_of-second.ensures) ∙ e)) c.in_err-gone.ensures.goes)))
 
 pub returns-in_err-there-clause-goes : goal.returns-in_err-there-clause-goes
 returns-in_err-there-clause-goes g c =
     let how = c.args.how in
     let from = c.args.from in
     let to = c.args.to in
-    goes_on (goes_within (λ r e. first_near how from to r (ap (λ t. is_near_target id_order t r) (sym c.target_of-first.ensures) ∙ e)) c.is_there.ensures.goes)
-    (goes_on (goes_within (λ r e. first_near how from to r (ap (λ t. is_near_target id_order t r) (sym c.target_of-first.ensures) ∙ e)) c.quads_of.ensures.goes)
-    (goes_within (λ r e. second_near how from to r (ap (λ t. is_near_target id_order t r) (sym c.target_of-second.ensures) ∙ e)) c.leaving.ensures.goes))
+    goes_short _ c.from_residual-in_err-there.ensures.1 (goes_on (goes_within (λ r e. first_near how from to r (ap (λ t. is_near_target id_order t r) (sym c.target_of-first.ensures) ∙ e)) c.in_ok-exists.ensures.goes)
+    (goes_on (goes_within (λ r e. first_near how from to r (ap (λ t. is_near_target id_order t r) (sym c.target_of-first.ensures) ∙ e)) c.in_ok-found.ensures.goes)
+    (goes_within (λ r e. second_near how from to r (ap (λ t. is_near_target id_order t r) (sym c.target_of-second.ensures) ∙ e)) c.in_ok-gone.ensures.goes)))
 
 pub returns-in_err-names-clause-goes : goal.returns-in_err-names-clause-goes
 returns-in_err-names-clause-goes g c =
     let how = c.args.how in
     let from = c.args.from in
     let to = c.args.to in
-    goes_on (goes_within (λ r e. first_near how from to r (ap (λ t. is_near_target id_order t r) (sym c.target_of-first.ensures) ∙ e)) c.is_there.ensures.goes)
-    (goes_on (goes_within (λ r e. first_near how from to r (ap (λ t. is_near_target id_order t r) (sym c.target_of-first.ensures) ∙ e)) c.quads_of.ensures.goes)
-    (goes_within (λ r e. second_near how from to r (ap (λ t. is_near_target id_order t r) (sym c.target_of-second.ensures) ∙ e)) c.leaving.ensures.goes))
+    goes_short _ c.from_residual-in_err-names.ensures.1 (goes_on (goes_within (λ r e. first_near how from to r (ap (λ t. is_near_target id_order t r) (sym c.target_of-first.ensures) ∙ e)) c.in_ok-exists.ensures.goes)
+    (goes_on (goes_within (λ r e. first_near how from to r (ap (λ t. is_near_target id_order t r) (sym c.target_of-first.ensures) ∙ e)) c.in_ok-found.ensures.goes)
+    (goes_within (λ r e. second_near how from to r (ap (λ t. is_near_target id_order t r) (sym c.target_of-second.ensures) ∙ e)) c.in_ok-gone.ensures.goes)))
 
 pub returns-in_err-own-clause-goes : goal.returns-in_err-own-clause-goes
 returns-in_err-own-clause-goes g c =
     let how = c.args.how in
     let from = c.args.from in
     let to = c.args.to in
-    goes_on (goes_within (λ r e. first_near how from to r (ap (λ t. is_near_target id_order t r) (sym c.target_of-first.ensures) ∙ e)) c.is_there.ensures.goes)
-    (goes_on (goes_within (λ r e. first_near how from to r (ap (λ t. is_near_target id_order t r) (sym c.target_of-first.ensures) ∙ e)) c.quads_of.ensures.goes)
-    (goes_within (λ r e. second_near how from to r (ap (λ t. is_near_target id_order t r) (sym c.target_of-second.ensures) ∙ e)) c.leaving.ensures.goes))
+    goes_short _ c.from_residual-in_err-own.ensures.1 (goes_on (goes_within (λ r e. first_near how from to r (ap (λ t. is_near_target id_order t r) (sym c.target_of-first.ensures) ∙ e)) c.in_ok-exists.ensures.goes)
+    (goes_on (goes_within (λ r e. first_near how from to r (ap (λ t. is_near_target id_order t r) (sym c.target_of-first.ensures) ∙ e)) c.in_ok-found.ensures.goes)
+    (goes_within (λ r e. second_near how from to r (ap (λ t. is_near_target id_order t r) (sym c.target_of-second.ensures) ∙ e)) c.in_ok-gone.ensures.goes)))
 
 pub returns-clause-goes : goal.returns-clause-goes
 returns-clause-goes g c =
     let how = c.args.how in
     let from = c.args.from in
     let to = c.args.to in
-    goes_on (goes_within (λ r e. first_near how from to r (ap (λ t. is_near_target id_order t r) (sym c.target_of-first.ensures) ∙ e)) c.is_there.ensures.goes)
-    (goes_on (goes_within (λ r e. first_near how from to r (ap (λ t. is_near_target id_order t r) (sym c.target_of-first.ensures) ∙ e)) c.quads_of.ensures.goes)
-    (goes_within (λ r e. second_near how from to r (ap (λ t. is_near_target id_order t r) (sym c.target_of-second.ensures) ∙ e)) c.leaving.ensures.goes))
+    goes_on (goes_within (λ r e. first_near how from to r (ap (λ t. is_near_target id_order t r) (sym c.target_of-first.ensures) ∙ e)) c.in_ok-exists.ensures.goes)
+    (goes_on (goes_within (λ r e. first_near how from to r (ap (λ t. is_near_target id_order t r) (sym c.target_of-first.ensures) ∙ e)) c.in_ok-found.ensures.goes)
+    (goes_within (λ r e. second_near how from to r (ap (λ t. is_near_target id_order t r) (sym c.target_of-second.ensures) ∙ e)) c.in_ok-gone.ensures.goes))
 
 pub returns-clause-effect : goal.returns-clause-effect
 returns-clause-effect g c d a =
@@ -113,7 +113,7 @@ returns-clause-effect g c d a =
     let D = applied c.args.changes.now d in
     let Q = quad_order id_order in
     let made = c.in_ok-own.ensures in
-    let second = c.leaving.ensures.goes.agrees d a in
+    let second = agreed c.in_ok-gone.ensures.goes d a in
     let found = c.in_ok-found.ensures.seen d second ∙ ap (λ t. quads_of t D.quads) c.target_of-first.ensures ∙ quads_of_one from D.quads in
     let others = ap (λ t. quads_of t D.quads) c.target_of-second.ensures ∙ quads_of_one to D.quads in
     let come = c.in_ok-come.ensures ∙ ap (map (in_graph id_order to)) (c.deref.ensures.value ∙ found) in
@@ -127,7 +127,7 @@ returns-clause-effect g c d a =
     } in
     ap (λ (z : Delta). Ok (applied z D)) own
     ∙ transferred_is how from to D (rises_after c.args.changes.now d) (sym c.is_same_graph.ensures ∙ c.if-is_same_graph.false)
-    (ap (is_target_there D) (sym c.target_of-first.ensures) ∙ sym (c.in_ok-exists.ensures.seen d (c.quads_of.ensures.goes.agrees d second)) ∙ c.if-not-exists.false)
+    (ap (is_target_there D) (sym c.target_of-first.ensures) ∙ sym (c.in_ok-exists.ensures.seen d (agreed c.in_ok-found.ensures.goes d second)) ∙ c.if-not-exists.false)
 
 pub returns-clause-within : goal.returns-clause-within
 returns-clause-within g c =
@@ -143,4 +143,4 @@ returns-clause-within g c =
     let found = asked_more (is_near_target id_order c.target_of-first.result) near (λ r e. first_near how from to r (ap (λ t. is_near_target id_order t r) (sym c.target_of-first.ensures) ∙ e)) c.in_ok-found.found.items c.in_ok-found.ensures.within in
     let gone = c.in_ok-gone.ensures.within near (λ r e. second_near how from to r (ap (λ t. is_near_target id_order t r) (sym c.target_of-second.ensures) ∙ e)) found in
     subst (IsWithin near) (sym own)
-    (parts_within near c.in_ok-come.come.items c.in_ok-gone.gone.items c.in_ok-there.there.items c.in_ok-names.names.items come gone (names_near op c.in_ok-there.there.items) (names_near op c.in_ok-names.names.items))
+    (parts_within near c.in_ok-come.come.items c.in_ok-gone.gone.items c.in_ok-there.there.items c.in_ok-names.names.items come gone (subst (AskedNames near) (sym c.in_ok-there.ensures) (come_near how from to)) (subst (AskedNames near) (sym c.in_ok-names.ensures) (leaving_near how from to)))

@@ -2,18 +2,18 @@ use Rattle.std.proofs.Common.{List, [], sym, ap, ◌∙◌}
 use Rattle.std.proofs.lemmas.Result.{IfOk-weaker}
 use Rattle.std.specs.Prelude.{filter}
 use Rattle.std.specs.Option.{option_map}
-use Rattle.asking.proofs.Notes.{goes_within}
 use Rattle.algebra.specs.declared.template.Slot.TheVariants as slot
 use Rattle.datasets.specs.Id.{id_order}
 use Rattle.dict.specs.Dictionary.{numbers}
 use Rattle.algebra.specs.Plans.{plan_of}
-use Rattle.meaning.specs.Near.{is_for_plan}
+use Rattle.asking.specs.Near.{is_for_plan}
 use Rattle.meaning.specs.Solutions.{passes_all, solutions}
 use Rattle.reads.specs.Reads.{applied}
 use Rattle.solution.specs.Limits.{up_to}
 use Rattle.terms.specs.declared.term.Term.{Term}
 use Rattle.update.proofs.Effects.{unfiltered}
 use Rattle.update.proofs.Nearness.{plan_near, active_written}
+use Rattle.asking.proofs.Notes.{goes_within}
 use Rattle.update.proofs.modify.solutions_of.Goals as goal
 
 pub returns-clause-goes : goal.returns-clause-goes

@@ -2,16 +2,16 @@ use Rattle.std.specs.Prelude.{Bool, IfOk}
 use Rattle.std.proofs.Common.{◌≡◌, ◌+◌, refl, sym, ap, ◌∙◌, subst, Result, Ok}
 use Rattle.datasets.specs.Id.{id_order}
 use Rattle.dict.specs.Dictionary.{numbers}
-use Rattle.meaning.specs.Near.{is_near_request}
+use Rattle.asking.specs.Near.{is_near_request}
 use Rattle.meaning.specs.Run.{performed}
 use Rattle.meaning.specs.declared.reply.Cause.{Cause}
 use Rattle.reads.specs.Reads.{Delta, Read, applied}
-use Rattle.asking.proofs.Notes.{goes_on, goes_within, goes_nowhere}
 use Rattle.update.specs.Asked.{IsWithin}
 use Rattle.update.specs.Changed.{changed}
 use Rattle.update.proofs.Differences.{no_change_keeps}
-use Rattle.update.proofs.Effects.{performed_more}
+use Rattle.update.proofs.Effects.{performed_more, performed_fails}
 use Rattle.update.proofs.Nearness.{request_near, no_change_within}
+use Rattle.asking.proofs.Notes.{goes_on, goes_within, goes_nowhere, goes_as, agreed}
 use Rattle.update.proofs.operations.perform.Goals as goal
 
 -- where an operation is done, its change is within
@@ -23,32 +23,35 @@ loop-operation-init g c =
     let V = numbers c.args.dict.now in
     let ops = c.args.operations.now in
     record {
-      about = refl;
       counted = refl;
       short = c.requires;
-      goes = goes_nowhere (is_near_request id_order ops) (g.S.Source.may c.args.source.now) c.args.notes.now.items;
+      goes = goes_nowhere (is_near_request id_order ops) c.args.source.now c.args.notes.now.items;
       effect = λ d h a. ap (λ (z : Delta). performed V c.args.place 0 ops (applied z d)) c.new-changes.ensures ∙ ap (performed V c.args.place 0 ops) (no_change_keeps d h);
       within = subst (IsWithin (is_near_request id_order ops)) (sym c.new-changes.ensures) (no_change_within (is_near_request id_order ops));
     }
 
 pub returns-in_err-next-clause-goes : goal.returns-in_err-next-clause-goes
 returns-in_err-next-clause-goes g c =
-    goes_on c.loop-operation.invariant.goes (goes_within (request_near c.args.operations.now c.loop-operation.operation-index c.operation-item.result c.loop-operation-test.true c.operation-item.is) c.perform_one.ensures.goes)
+    goes_as _ c.from_residual.ensures.1 (goes_on c.loop-operation.invariant.goes (goes_within (request_near c.args.operations.now c.loop-operation.operation-index c.operation-item.result c.loop-operation-test.true c.operation-item.is) c.in_err-next.ensures.goes))
 
 pub returns-in-Err-clause-goes : goal.returns-in-Err-clause-goes
 returns-in-Err-clause-goes g c =
-    goes_on c.loop-operation.invariant.goes (goes_within (request_near c.args.operations.now c.loop-operation.operation-index c.operation-item.result c.loop-operation-test.true c.operation-item.is) c.perform_one.ensures.goes)
+    goes_on c.loop-operation.invariant.goes (goes_within (request_near c.args.operations.now c.loop-operation.operation-index c.operation-item.result c.loop-operation-test.true c.operation-item.is) c.in_ok-next.ensures.goes)
 
 pub loop-operation-preserved : goal.loop-operation-preserved
 loop-operation-preserved g c = record {
-  about = c.perform_one.ensures.about ∙ c.loop-operation.invariant.about;
   counted = ap (λ n. n + 1) c.loop-operation.invariant.counted;
   short = c.loop-operation.invariant.short;
-  goes = goes_on c.loop-operation.invariant.goes (goes_within (request_near c.args.operations.now c.loop-operation.operation-index c.operation-item.result c.loop-operation-test.true c.operation-item.is) c.perform_one.ensures.goes);
+  goes = goes_on c.loop-operation.invariant.goes (goes_within (request_near c.args.operations.now c.loop-operation.operation-index c.operation-item.result c.loop-operation-test.true c.operation-item.is) c.in_ok-next.ensures.goes);
   effect = λ d h a.
       performed_more (numbers c.args.dict.now) c.args.place c.args.operations.now c.loop-operation.operation-index c.loop-operation.op c.operation-item.result (applied c.loop-operation.changes d) (applied c.in-Ok.next d) _
-      c.loop-operation-test.true c.operation-item.is (sym (ap (changed d) c.in-Ok.is) ∙ c.in_ok-next.ensures.effect d a) (c.loop-operation.invariant.effect d h (c.perform_one.ensures.goes.agrees d a));
+      c.loop-operation-test.true c.operation-item.is (sym (ap (changed d) c.in-Ok.is) ∙ c.in_ok-next.ensures.effect d a) (c.loop-operation.invariant.effect d h (agreed c.in_ok-next.ensures.goes d a));
   within =
       within_of (is_near_request id_order c.args.operations.now) c.in_ok-next.field-0 c.in-Ok.next c.in-Ok.is
       (c.in_ok-next.ensures.within (is_near_request id_order c.args.operations.now) (request_near c.args.operations.now c.loop-operation.operation-index c.operation-item.result c.loop-operation-test.true c.operation-item.is) c.loop-operation.invariant.within);
 }
+
+pub returns-in-Err-clause-effect : goal.returns-in-Err-clause-effect
+returns-in-Err-clause-effect g c d h a =
+    performed_fails (numbers c.args.dict.now) c.args.place c.args.operations.now c.loop-operation.operation-index c.loop-operation.op c.operation-item.result (applied c.loop-operation.changes d) c.in-Err.cause _
+    c.loop-operation-test.true c.operation-item.is (sym (ap (changed d) c.in-Err.is) ∙ c.in_ok-next.ensures.effect d a) (c.loop-operation.invariant.effect d h (agreed c.in_ok-next.ensures.goes d a))

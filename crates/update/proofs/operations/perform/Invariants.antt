@@ -1,7 +1,7 @@
-use Rattle.std.proofs.Common.{◌≡◌, ◌<◌, ◌^◌, length, drop}
+use Rattle.std.proofs.Common.{◌≡◌, None, ◌<◌, ◌^◌, length, drop}
 use Rattle.datasets.specs.Id.{id_order}
 use Rattle.dict.specs.Dictionary.{numbers}
-use Rattle.meaning.specs.Near.{is_near_request}
+use Rattle.asking.specs.Near.{is_near_request}
 use Rattle.meaning.specs.Run.{performed}
 use Rattle.reads.specs.Reads.{View, IsDataset, applied}
 use Rattle.reads.specs.Runs.{Agrees}
@@ -12,10 +12,9 @@ use Rattle.update.proofs.operations.perform.Given as goal
 -- what is left to do, where the changes so far lead, comes to what all operations come to
 abbrev pub invariant-loop-operation : goal.invariant-loop-operation
 invariant-loop-operation g l = record {
-  about : g.S.Source.subject l.source ≡ g.S.Source.subject l.fn.source;
   counted : l.op ≡ l.operation-index;
   short : length l.operations < 2 ^ 32;
-  goes : Goes (is_near_request id_order l.operations) (g.S.Source.may l.fn.source) (g.S.Source.may l.source) l.fn.notes.items l.notes.items;
+  goes : Goes g.S.Source.asks (is_near_request id_order l.operations) l.fn.source l.source l.fn.notes.items l.notes.items None;
   effect : (d : View) → IsDataset d → Agrees l.notes.items d →
       performed (numbers l.dict) l.place l.op (drop l.operation-index l.operations) (applied l.changes d) ≡ performed (numbers l.dict) l.place 0 l.operations d;
   within : IsWithin (is_near_request id_order l.operations) l.changes;

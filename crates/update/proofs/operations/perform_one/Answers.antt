@@ -4,9 +4,9 @@ use Rattle.datasets.specs.Id.{id_order}
 use Rattle.dict.specs.Dictionary.{numbers}
 use Rattle.meaning.specs.Effect.{effect_of}
 use Rattle.meaning.specs.GraphOperations.{silently}
-use Rattle.meaning.specs.Near.{is_near}
+use Rattle.asking.specs.Near.{is_near}
 use Rattle.reads.specs.Reads.{applied}
-use Rattle.asking.proofs.Notes.{goes_within}
+use Rattle.asking.proofs.Notes.{goes_within, goes_short, goes_as}
 use Rattle.update.proofs.operations.perform_one.Goals as goal
 
 pub returns-in-Modify-clause-goes : goal.returns-in-Modify-clause-goes
@@ -22,13 +22,13 @@ pub returns-in-Modify-clause-within : goal.returns-in-Modify-clause-within
 returns-in-Modify-clause-within g c allowed near h = c.modify.ensures.within allowed (λ r e. near r (ap (λ o. is_near id_order o r) c.in-Modify.is ∙ e)) h
 
 pub returns-in_err-outcome-in-Graphs-clause-goes : goal.returns-in_err-outcome-in-Graphs-clause-goes
-returns-in_err-outcome-in-Graphs-clause-goes g c = goes_within (λ r e. ap (λ o. is_near id_order o r) c.in-Graphs.is ∙ e) c.graphs.ensures.goes
+returns-in_err-outcome-in-Graphs-clause-goes g c = goes_as _ c.from_residual.ensures.1 (goes_within (λ r e. ap (λ o. is_near id_order o r) c.in-Graphs.is ∙ e) c.in_err-outcome-in-Graphs.ensures.goes)
 
 pub returns-in_err-kept-in-Graphs-clause-goes : goal.returns-in_err-kept-in-Graphs-clause-goes
-returns-in_err-kept-in-Graphs-clause-goes g c = goes_within (λ r e. ap (λ o. is_near id_order o r) c.in-Graphs.is ∙ e) c.graphs.ensures.goes
+returns-in_err-kept-in-Graphs-clause-goes g c = goes_short _ c.from_residual-in_err-kept-in-Graphs.ensures.1 (goes_within (λ r e. ap (λ o. is_near id_order o r) c.in-Graphs.is ∙ e) c.in_ok-outcome-in-Graphs.ensures.goes)
 
 pub returns-in_ok-kept-in-Graphs-clause-goes : goal.returns-in_ok-kept-in-Graphs-clause-goes
-returns-in_ok-kept-in-Graphs-clause-goes g c = goes_within (λ r e. ap (λ o. is_near id_order o r) c.in-Graphs.is ∙ e) c.graphs.ensures.goes
+returns-in_ok-kept-in-Graphs-clause-goes g c = goes_within (λ r e. ap (λ o. is_near id_order o r) c.in-Graphs.is ∙ e) c.in_ok-outcome-in-Graphs.ensures.goes
 
 pub returns-in_ok-kept-in-Graphs-clause-effect : goal.returns-in_ok-kept-in-Graphs-clause-effect
 returns-in_ok-kept-in-Graphs-clause-effect g c d a =

@@ -1,13 +1,9 @@
 use Rattle.std.proofs.Common.{ap, ◌∙◌}
 use Rattle.reads.specs.Reads.{says}
-use Rattle.asking.proofs.Notes.{goes_noted, told_last}
+use Rattle.asking.proofs.Notes.{told_last}
 use Rattle.update.specs.Asked.{has_name}
 use Rattle.update.proofs.presence.is_named.Goals as goal
 
-pub returns-clause-goes : goal.returns-clause-goes
-returns-clause-goes g c allowed near =
-    goes_noted allowed _ _ c.ask.ensures.later c.ask.ensures.before _ _ _ c.in_ok-push.ensures.items c.in_ok-answer.ensures.meets near
-
 pub returns-clause-told : goal.returns-clause-told
 unfolding says
-returns-clause-told g c d a = c.has_name-so.ensures ∙ ap has_name (told_last c.args.notes.now.items c.push.new.self.items _ d c.in_ok-push.ensures.items a)
+returns-clause-told g c d a = c.has_name.ensures ∙ ap has_name (told_last c.args.notes.now.items c.ask.new.notes.items _ d c.in_ok-answer.ensures.noted a)

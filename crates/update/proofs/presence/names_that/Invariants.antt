@@ -1,4 +1,4 @@
-use Rattle.std.proofs.Common.{◌≡◌, ◌++◌, Bool, drop}
+use Rattle.std.proofs.Common.{◌≡◌, None, ◌++◌, Bool, drop}
 use Rattle.std.specs.Prelude.{filter}
 use Rattle.sets.specs.Sets.{has}
 use Rattle.datasets.specs.declared.id.Id.{Id}
@@ -13,8 +13,7 @@ use Rattle.update.proofs.presence.names_that.Given as goal
 -- what was found, with what is so of those that are left, is what is so of all
 abbrev pub invariant-loop-name : goal.invariant-loop-name
 invariant-loop-name g l = record {
-  about : g.S.Source.subject l.source ≡ g.S.Source.subject l.fn.source;
-  goes : (allowed : Read → Bool) → AskedNames allowed l.names → Goes allowed (g.S.Source.may l.fn.source) (g.S.Source.may l.source) l.fn.notes.items l.notes.items;
+  goes : (allowed : Read → Bool) → AskedNames allowed l.names → Goes g.S.Source.asks allowed l.fn.source l.source l.fn.notes.items l.notes.items None;
   told : (d : View) → Agrees l.notes.items d →
       let so : Id → Bool = λ n. bool_eq l.are_there (has id_order d.names n) in
       l.found.items ++ filter so (drop l.name-index l.names) ≡ filter so l.names;

@@ -3,23 +3,24 @@ use Rattle.datasets.specs.declared.read.Read.TheVariants.{Scan}
 use Rattle.datasets.specs.Id.{id_order}
 use Rattle.datasets.specs.Dataset.{matches}
 use Rattle.std.specs.Prelude.{filter}
-use Rattle.meaning.specs.Near.{is_near_target}
+use Rattle.asking.specs.Near.{is_near_target}
 use Rattle.reads.specs.Reads.{applied}
 use Rattle.update.specs.Asked.{AskedQuads}
 use Rattle.update.specs.Graphs.{quads_of, place_of, whole}
 use Rattle.update.proofs.GraphEffects.{scanned_of}
 use Rattle.update.proofs.GraphNearness.{scan_near, quads_near}
+use Rattle.asking.proofs.Notes.{goes_as}
 use Rattle.update.proofs.targets.quads_of.Goals as goal
 
 pub returns-in_err-quads-clause-goes : goal.returns-in_err-quads-clause-goes
 returns-in_err-quads-clause-goes g c =
     let t = c.args.target.now in
-    c.scan.ensures.goes (is_near_target id_order t) (ap (λ p. is_near_target id_order t (Scan p)) (c.whole-pattern.ensures ∙ ap whole c.place_of.ensures) ∙ scan_near t)
+    goes_as _ c.from_residual.ensures.1 (c.in_err-quads.ensures.goes (is_near_target id_order t) (ap (λ p. is_near_target id_order t (Scan p)) (c.whole-pattern.ensures ∙ ap whole c.place_of.ensures) ∙ scan_near t))
 
 pub returns-clause-goes : goal.returns-clause-goes
 returns-clause-goes g c =
     let t = c.args.target.now in
-    c.scan.ensures.goes (is_near_target id_order t) (ap (λ p. is_near_target id_order t (Scan p)) (c.whole-pattern.ensures ∙ ap whole c.place_of.ensures) ∙ scan_near t)
+    c.in_ok-quads.ensures.goes (is_near_target id_order t) (ap (λ p. is_near_target id_order t (Scan p)) (c.whole-pattern.ensures ∙ ap whole c.place_of.ensures) ∙ scan_near t)
 
 pub returns-clause-seen : goal.returns-clause-seen
 returns-clause-seen g c d a =
