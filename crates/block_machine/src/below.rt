@@ -13,10 +13,10 @@ use crate::kept::Kept;
 use crate::state::Slot;
 use datasets::{Id, Read};
 use delta::Delta;
-use reads::{Answered, Scanned, View};
+use reads::{Scanned, View};
 use sets::Items;
 use std::alloc::{AllocError, Global};
-use version_overlay::along::{answer_of, changed_part, push_covering};
+use version_overlay::along::{changed_part, push_covering};
 
 // The deltas of the requests from `low` on and below `high`, one after another, as one.
 fn changes(alloc: Global, slots: &[Slot<'_>], low: usize, high: usize) -> Result<Delta, AllocError>
@@ -51,19 +51,19 @@ pub fn changed_from(
     changes(alloc, slots, low, high)?.apply(alloc, view)
 }
 
-/// What a read says of the base with the deltas of the requests below `i`, from what it says of the base and of the settled changes: just that,
-/// where no other delta covers the read. An error comes only where memory runs out.
-pub fn answer_before(
+/// What is asked for of the base with the deltas of the requests below `i`, from what the read says of the base and of the settled changes:
+/// none where no delta has changed that. An error comes only where memory runs out.
+pub fn part_before(
     alloc: Global,
     scanned: &Scanned<'_>,
     kept: &Kept<'_>,
     list: &[usize],
     i: usize,
-) -> Result<Answered, AllocError>
+) -> Result<Option<View>, AllocError>
     requires holds { Holds kept.now }
     requires within { i ≤ length kept.now.slots.items }
     requires leads { Leads (shown kept.now.slots.items) scanned.now.read kept.now.low list.now i }
-    ensures { IfOk result (λ answer. answer ≡ says scanned.now.read (view_at scanned.now.dataset (shown kept.now.slots.items) i)) }
+    ensures { IfOk result (λ part. says scanned.now.read (part_or scanned.now.dataset part) ≡ says scanned.now.read (view_at scanned.now.dataset (shown kept.now.slots.items) i)) }
 {
     scanned.rises();
     let mut part = kept.settled.part(alloc, scanned)?;
@@ -71,7 +71,7 @@ pub fn answer_before(
         let request = *request;
         part = changed_part(alloc, scanned, &kept.slots[request].delta, part)?;
     }
-    answer_of(alloc, scanned, part)
+    Ok(part)
 }
 
 /// The changes of the requests below `i` that the read asks for, one after another, as it says of the base with their deltas what it says

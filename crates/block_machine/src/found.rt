@@ -5,7 +5,7 @@ ghost use Rattle.block_machine.specs.Kept.{shown, Holds, IsFound};
 ghost use Rattle.block_machine.specs.Lower.{Leads};
 ghost use Rattle.block_machine.specs.Machine.{view_at};
 
-use crate::below::{answer_before, blocker, changes_before, touching};
+use crate::below::{blocker, changes_before, part_before, touching};
 use crate::candidates::candidates_for;
 use crate::kept::Kept;
 use crate::state::Noted;
@@ -57,7 +57,8 @@ pub fn look<'a>(
     }))
 }
 
-// The note of what a read says at request `i`. With a long answer it has the changes by which that is found again.
+// The note of what a read says at request `i`. An answer that the base alone gives is found again there, and a long one by the changes that
+// it has too.
 fn note_of<'a>(
     alloc: Global,
     base: &'a IndexedView,
@@ -72,10 +73,15 @@ fn note_of<'a>(
     requires leads { Leads (shown kept.now.slots.items) scanned.now.read kept.now.low list.now i }
     ensures { IfOk result (λ note. note ≡ record { read = scanned.now.read; answer = says scanned.now.read (view_at scanned.now.dataset (shown kept.now.slots.items) i) }) }
 {
-    let answer = answer_before(alloc, scanned, kept, list, i)?;
+    let read = scanned.read();
+    let Some(part) = part_before(alloc, scanned, kept, list, i)? else {
+        let answer = scanned.answer(alloc)?;
+        return Ok(LeanNote::lean(base, read, answer, Vec::new(alloc)));
+    };
+    let answer = part.answer(alloc, read)?;
     if !is_long(&answer) {
-        return Ok(LeanNote::kept(base, scanned.read(), answer));
+        return Ok(LeanNote::kept(base, read, answer));
     }
     let changes = changes_before(alloc, scanned, kept, list, i)?;
-    Ok(LeanNote::lean(base, scanned.read(), answer, changes))
+    Ok(LeanNote::lean(base, read, answer, changes))
 }

@@ -3,12 +3,13 @@ ghost use Rattle.std.specs.Prelude.{◌≡◌, ◌≤◌, ◌↔◌, length, IsT
 ghost use Rattle.block_machine.specs.Machine.{NoteVerdict, ListVerdict};
 ghost use Rattle.block_machine.specs.Kept.{shown, whole, Holds};
 
-use crate::below::{answer_before, blocker, touching};
+use crate::below::{blocker, part_before, touching};
 use crate::candidates::candidates_for;
 use crate::kept::Kept;
 use crate::state::Noted;
 use reads::{IndexedView, Scanned};
 use std::alloc::{AllocError, Global};
+use version_overlay::along::answer_of;
 
 /// What a check of a note finds.
 #[derive(Clone, Copy)]
@@ -40,7 +41,8 @@ pub(crate) fn check(
         return Ok(Verdict::Blocked(j));
     }
     let scanned = Scanned::new(alloc, base, read)?;
-    let now = answer_before(alloc, &scanned, kept, &list, i)?;
+    let part = part_before(alloc, &scanned, kept, &list, i)?;
+    let now = answer_of(alloc, &scanned, part)?;
     if note.note.is_answer(alloc, &now)? {
         Ok(Verdict::Same)
     } else {

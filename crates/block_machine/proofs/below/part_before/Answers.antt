@@ -1,9 +1,8 @@
 use Rattle.std.proofs.Common.{◌∙◌, ap}
-use Rattle.std.proofs.lemmas.Result.{IfOk-weaker}
 use Rattle.reads.specs.Reads.{says}
 use Rattle.block_machine.specs.Kept.{shown}
 use Rattle.block_machine.proofs.Along.{says_more, says_all}
-use Rattle.block_machine.proofs.below.answer_before.Goals as goal
+use Rattle.block_machine.proofs.below.part_before.Goals as goal
 
 pub loop-request-init : goal.loop-request-init
 loop-request-init c = c.in_ok-part.ensures ∙ ap (says c.args.scanned.now.read) (c.requires.holds.folded c.args.scanned.now.dataset)
@@ -15,8 +14,5 @@ loop-request-preserved c =
 
 pub returns : goal.returns
 returns c =
-    IfOk-weaker c.answer_of.result _ _
-    (λ answer e. e
-    ∙ says_all (shown c.args.kept.now.slots.items) c.args.scanned.now.read c.args.kept.now.low c.args.list.now c.args.i c.requires.leads c.loop-request.request-index c.loop-request.auto.request-index-end c.loop-request-test.false
-    c.args.scanned.now.dataset c.rises.ensures _ c.loop-request.invariant)
-    c.answer_of.ensures
+    says_all (shown c.args.kept.now.slots.items) c.args.scanned.now.read c.args.kept.now.low c.args.list.now c.args.i c.requires.leads c.loop-request.request-index c.loop-request.auto.request-index-end c.loop-request-test.false
+    c.args.scanned.now.dataset c.rises.ensures _ c.loop-request.invariant
