@@ -101,7 +101,7 @@ const ROWS: [Row; 16] = [
             added: 4,
             removed: 2,
         },
-        reads: 7,
+        reads: 5,
         delta: "+ <x:a> <x:q> <x:b>\n+ <x:a> <x:q> <x:c>\n\
             + <x:a> <x:q> _:m1r7o0l0s0\n+ <x:a> <x:q> _:m1r7o0l0s1\n\
             - <x:a> <x:p> <x:b>\n- <x:a> <x:p> <x:c>\n",
@@ -114,7 +114,7 @@ const ROWS: [Row; 16] = [
             added: 6,
             removed: 2,
         },
-        reads: 10,
+        reads: 7,
         delta: "+ <x:a> <x:q> <x:b>\n+ <x:a> <x:q> <x:c>\n\
             + <x:a> <x:q> _:m1r7o1l0s0\n+ <x:a> <x:q> _:m1r7o1l0s1\n\
             + <x:b> <x:q> <x:c>\n+ <x:b> <x:q> _:m1r7o1l0s2\n\
@@ -305,7 +305,7 @@ fn answers_of_the_wrong_kind(rt: HostRuntime) -> Result<(), Fail> {
     let many = numbered(rt.alloc(), BASE, MANY)?;
     let through = run_on_lies(rt.alloc(), &many, 100);
     assert!(rt;
-        matches!(&through, Ok(run) if is_told(run, &Reply::Done { added: 2, removed: 0 }, 4))
+        matches!(&through, Ok(run) if is_told(run, &Reply::Done { added: 2, removed: 0 }, 3))
     );
     let stopped = run_on_lies(rt.alloc(), &many, 2);
     assert!(rt; matches!(&stopped, Err(Stop::Blocked(3))));
