@@ -4,8 +4,9 @@ use Rattle.std.proofs.Common.{◌≡◌, ℕ, ◌+◌, true, false, suc, zero, L
 use Rattle.std.proofs.lemmas.Bool.{false≢true, or_parts}
 use Rattle.std.proofs.lemmas.List.Folds.{list_any-append}
 use Rattle.std.specs.List.{list_any}
-use Rattle.quad_index.specs.declared.run.Hint.{Hint}
+use Rattle.quad_index.specs.declared.hint.Hint.{Hint}
 use Rattle.quad_index.specs.declared.run.Run.{Run}
+use Rattle.quad_index.specs.HintList.{hints_in}
 use Rattle.quad_index.specs.Hints.{all_entries}
 
 or_assoc : (a b c : Bool) → ((a || b) || c) ≡ (a || (b || c))
@@ -16,35 +17,35 @@ or_false : (a : Bool) → (a || false) ≡ a
 or_false true = refl
 or_false false = refl
 
-pub joined_last : (p : Hint → Bool) (r d : Run) (xs : List Run) (n : ℕ) → length xs ≡ n + 2 → list_any p r.entries.items ≡ (list_any p (get_or xs n d).entries.items || list_any p (get_or xs (n + 1) d).entries.items)
+pub joined_last : (p : Hint → Bool) (r d : Run) (xs : List Run) (n : ℕ) → length xs ≡ n + 2 → list_any p (hints_in r.hints) ≡ (list_any p (hints_in (get_or xs n d).hints) || list_any p (hints_in (get_or xs (n + 1) d).hints))
     → list_any p (all_entries (take (n + 1) (set xs n r))) ≡ list_any p (all_entries xs)
 joined_last p r d [] n e h = absurd (omega arith)
 joined_last p r d (a ∷ []) n e h = absurd (omega arith)
 joined_last p r d (a ∷ b ∷ []) zero e h =
-    list_any-append p r.entries.items [] ∙ or_false _ ∙ h
-    ∙ sym (list_any-append p a.entries.items (b.entries.items ++ []) ∙ ap (λ z. list_any p a.entries.items || z) (list_any-append p b.entries.items [] ∙ or_false _))
+    list_any-append p (hints_in r.hints) [] ∙ or_false _ ∙ h
+    ∙ sym (list_any-append p (hints_in a.hints) ((hints_in b.hints) ++ []) ∙ ap (λ z. list_any p (hints_in a.hints) || z) (list_any-append p (hints_in b.hints) [] ∙ or_false _))
 joined_last p r d (a ∷ b ∷ c ∷ xs) zero e h = absurd (omega arith)
 joined_last p r d (a ∷ b ∷ xs) (suc n) e h =
     let count : suc n + 1 ≡ suc (n + 1) = omega arith in
     ap (λ k. list_any p (all_entries (take k (a ∷ set (b ∷ xs) n r)))) count
-    ∙ list_any-append p a.entries.items (all_entries (take (n + 1) (set (b ∷ xs) n r)))
-    ∙ ap (λ z. list_any p a.entries.items || z) (joined_last p r d (b ∷ xs) n (omega arith) (h ∙ ap (λ k. list_any p (get_or (b ∷ xs) n d).entries.items || list_any p (get_or (a ∷ b ∷ xs) k d).entries.items) count))
-    ∙ sym (list_any-append p a.entries.items (all_entries (b ∷ xs)))
+    ∙ list_any-append p (hints_in a.hints) (all_entries (take (n + 1) (set (b ∷ xs) n r)))
+    ∙ ap (λ z. list_any p (hints_in a.hints) || z) (joined_last p r d (b ∷ xs) n (omega arith) (h ∙ ap (λ k. list_any p (hints_in (get_or (b ∷ xs) n d).hints) || list_any p (hints_in (get_or (a ∷ b ∷ xs) k d).hints)) count))
+    ∙ sym (list_any-append p (hints_in a.hints) (all_entries (b ∷ xs)))
 
-all-one_more : (p : Hint → Bool) (xs : List Run) (r : Run) → list_any p (all_entries (xs ++ r ∷ [])) ≡ (list_any p (all_entries xs) || list_any p r.entries.items)
-all-one_more p [] r = list_any-append p r.entries.items [] ∙ or_false _
+all-one_more : (p : Hint → Bool) (xs : List Run) (r : Run) → list_any p (all_entries (xs ++ r ∷ [])) ≡ (list_any p (all_entries xs) || list_any p (hints_in r.hints))
+all-one_more p [] r = list_any-append p (hints_in r.hints) [] ∙ or_false _
 all-one_more p (x ∷ xs) r =
-    list_any-append p x.entries.items (all_entries (xs ++ r ∷ [])) ∙ ap (λ z. list_any p x.entries.items || z) (all-one_more p xs r)
-    ∙ sym (or_assoc (list_any p x.entries.items) _ _) ∙ ap (λ z. z || list_any p r.entries.items) (sym (list_any-append p x.entries.items (all_entries xs)))
+    list_any-append p (hints_in x.hints) (all_entries (xs ++ r ∷ [])) ∙ ap (λ z. list_any p (hints_in x.hints) || z) (all-one_more p xs r)
+    ∙ sym (or_assoc (list_any p (hints_in x.hints)) _ _) ∙ ap (λ z. z || list_any p (hints_in r.hints)) (sym (list_any-append p (hints_in x.hints) (all_entries xs)))
 
 -- a run more at the end
-pub run_pushed : (p : Hint → Bool) (xs ys : List Run) (r : Run) (hints : List Hint) → ys ≡ xs ++ r ∷ [] → list_any p r.entries.items ≡ list_any p hints
+pub run_pushed : (p : Hint → Bool) (xs ys : List Run) (r : Run) (hints : List Hint) → ys ≡ xs ++ r ∷ [] → list_any p (hints_in r.hints) ≡ list_any p hints
     → list_any p (all_entries ys) ≡ (list_any p (all_entries xs) || list_any p hints)
 run_pushed p xs ys r hints e h =
     ap (λ zs. list_any p (all_entries zs)) e ∙ all-one_more p xs r ∙ ap (λ z. list_any p (all_entries xs) || z) h
 
 pub popped : (p : Hint → Bool) (r d : Run) (xs ys : List Run) (n k : ℕ) → ys ≡ take k (set xs n r) → k ≡ n + 1 → length xs ≡ n + 2
-    → list_any p r.entries.items ≡ (list_any p (get_or xs n d).entries.items || list_any p (get_or xs (n + 1) d).entries.items) → list_any p (all_entries ys) ≡ list_any p (all_entries xs)
+    → list_any p (hints_in r.hints) ≡ (list_any p (hints_in (get_or xs n d).hints) || list_any p (hints_in (get_or xs (n + 1) d).hints)) → list_any p (all_entries ys) ≡ list_any p (all_entries xs)
 popped p r d xs ys n k e f l h =
     ap (λ zs. list_any p (all_entries zs)) (e ∙ ap (λ j. take j (set xs n r)) f) ∙ joined_last p r d xs n l h
 

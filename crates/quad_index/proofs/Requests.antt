@@ -10,8 +10,9 @@ use Rattle.datasets.specs.declared.id.Id.{Id}
 use Rattle.datasets.specs.declared.read.QuadPattern.{QuadPattern}
 use Rattle.datasets.specs.Dataset.{matches}
 use Rattle.datasets.specs.Id.{id_order}
-use Rattle.quad_index.specs.declared.run.Hint.{Hint}
+use Rattle.quad_index.specs.declared.hint.Hint.{Hint}
 use Rattle.quad_index.specs.declared.run.Run.{Run}
+use Rattle.quad_index.specs.HintList.{hints_in}
 use Rattle.quad_index.specs.Hints.{all_entries}
 
 abbrev pub kept_by : QuadPattern Id → List Hint → List Hint
@@ -25,14 +26,12 @@ named-append p xs ys =
     ap (map (λ (h : Hint). h.request)) (filter-append (λ (h : Hint). matches id_order p h.quad) xs ys) ∙ map-append (λ (h : Hint). h.request) (kept_by p xs) (kept_by p ys)
 
 module _ (p : QuadPattern Id) (runs : List Run) (found next all : List ℕ) (k : ℕ) (so_far : found ++ named_by p (all_entries (drop k runs)) ≡ all) where
-  pub run_more : (x : Run) (part : List Hint) → k < length runs → x ≡ get_or runs k x → kept_by p part ≡ kept_by p x.entries.items → next ≡ found ++ named_by p part
-      → next ++ named_by p (all_entries (drop (k + 1) runs)) ≡ all
-  run_more x part lt is same pushed =
+  pub run_more : (x : Run) → k < length runs → x ≡ get_or runs k x → next ≡ found ++ named_by p (hints_in x.hints) → next ++ named_by p (all_entries (drop (k + 1) runs)) ≡ all
+  run_more x lt is pushed =
       let rest = named_by p (all_entries (drop (k + 1) runs)) in
       ap (λ (zs : List ℕ). zs ++ rest) pushed
-      ∙ append_assoc found (named_by p part) rest
-      ∙ ap (λ (hs : List Hint). found ++ (map (λ (h : Hint). h.request) hs ++ rest)) same
-      ∙ ap (λ (zs : List ℕ). found ++ zs) (sym (named-append p x.entries.items (all_entries (drop (k + 1) runs))))
+      ∙ append_assoc found (named_by p (hints_in x.hints)) rest
+      ∙ ap (λ (zs : List ℕ). found ++ zs) (sym (named-append p (hints_in x.hints) (all_entries (drop (k + 1) runs))))
       ∙ ap (λ (rs : List Run). found ++ named_by p (all_entries rs)) (ap (λ (y : Run). y ∷ drop (k + 1) runs) is ∙ sym (drop_more runs k x lt))
       ∙ so_far
 
@@ -42,6 +41,16 @@ module _ (p : QuadPattern Id) (runs : List Run) (found next all : List ℕ) (k :
       append-nothing : (xs : List ℕ) → xs ++ [] ≡ xs
       append-nothing [] = refl
       append-nothing (x ∷ xs) = ap (λ ys. x ∷ ys) (append-nothing xs)
+
+-- what is kept of hints in little memory
+
+mapped_head : {A B : Type 0} (b : Bool) (f : A → B) (x : A) (xs : List A) (ys : List B) → ys ≡ map f xs → cond b (f x ∷ ys) ys ≡ map f (cond b (x ∷ xs) xs)
+mapped_head true f x xs ys e = ap (λ zs. f x ∷ zs) e
+mapped_head false f x xs ys e = e
+
+pub filter-map : {A B : Type 0} (p : B → Bool) (f : A → B) (xs : List A) → filter p (map f xs) ≡ map f (filter (λ x. p (f x)) xs)
+filter-map p f [] = refl
+filter-map p f (x ∷ xs) = mapped_head (p (f x)) f x (filter (λ y. p (f y)) xs) _ (filter-map p f xs)
 
 head_named : (j : ℕ) (b : Bool) (h : Hint) (hs : List Hint) → list_any (λ r. r == j) (map (λ (x : Hint). x.request) (cond b (h ∷ hs) hs)) ≡ ((b && (h.request == j)) || list_any (λ r. r == j) (map (λ (x : Hint). x.request) hs))
 head_named j true h hs = refl

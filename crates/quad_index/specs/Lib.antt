@@ -1,7 +1,10 @@
 pub mod Keys
+pub mod OrderSet
 pub mod Looks
-pub mod Hints
 pub mod Known
+pub mod Hint
+pub mod HintList
+pub mod Hints
 pub mod Sorted
 pub mod Indexed
 pub mod Index

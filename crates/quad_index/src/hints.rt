@@ -3,11 +3,13 @@ ghost use Rattle.std.specs.Prelude.{◌≡◌, ◌&&◌, ◌==◌, Bool, ℕ, tr
 ghost use Rattle.std.specs.List.{list_any};
 ghost use Rattle.datasets.specs.Id.{id_order};
 ghost use Rattle.datasets.specs.Dataset.{matches};
-ghost use Rattle.quad_index.specs.declared.run.Hint.{Hint};
+ghost use Rattle.quad_index.specs.declared.hint.Hint.{Hint};
+ghost use Rattle.quad_index.specs.Hint.{hints_of as the_hints_of};
 
+use crate::hint::{Hint, add_requests, hints_of};
+use crate::hint_list::HintList;
+use crate::order_set::OrderSet;
 use crate::ordered_hints::OrderedHints;
-use crate::run::Hint;
-use crate::sorted_hints::add_requests;
 use datasets::{Id, Quad, QuadPattern};
 use std::alloc::{AllocError, Global};
 use std::marker::Model;
@@ -15,8 +17,8 @@ use std::marker::Model;
 /// How many hints are in no order at most, where there is memory to sort them.
 const MOST_IN_TAIL: usize = 512;
 
-/// Hints: quads, each with a request. Contracts see them as a list. Those of a pattern are found by binary search in six orders, but for the
-/// last few.
+/// Hints: quads, each with a request. Contracts see them as a list. Those of a pattern whose order is kept are found by binary search, but
+/// for the last few.
 #[derive(Drop)]
 pub struct Hints {
     ordered: OrderedHints,
@@ -25,7 +27,7 @@ pub struct Hints {
 
 impl Model for Hints {
     ghost use Rattle.std.specs.Prelude.{List, ◌++◌};
-    ghost use Rattle.quad_index.specs.declared.run.Hint.{Hint};
+    ghost use Rattle.quad_index.specs.declared.hint.Hint.{Hint};
 
     ghost Value = { List Hint };
 
@@ -33,41 +35,48 @@ impl Model for Hints {
 }
 
 impl Hints {
-    /// No hints. It takes no memory.
-    pub fn new(alloc: Global) -> Hints
+    /// No hints, which will be kept in these orders. It takes no memory.
+    pub fn new(alloc: Global, orders: OrderSet) -> Hints
         ensures { result ≡ [] }
     {
         Hints {
-            ordered: OrderedHints::new(alloc),
+            ordered: OrderedHints::new(alloc, orders),
             tail: Vec::new(alloc),
         }
     }
 
-    /// One more hint. What was there stays, also where memory runs out, and nothing else comes.
-    pub fn put(&mut self, alloc: Global, quad: &Quad<Id>, request: usize) -> Result<(), AllocError>
-        ensures added { OnOk result ((p : Hint → Bool) → p (record { quad = quad.now; request = request }) ≡ true → list_any p self.new ≡ true) }
+    /// A hint of the request for each of these quads. What was there stays, also where memory runs out, and nothing else comes.
+    pub fn put_all(
+        &mut self,
+        alloc: Global,
+        quads: &[Quad<Id>],
+        request: usize,
+    ) -> Result<(), AllocError>
+        ensures added { OnOk result ((p : Hint → Bool) → list_any p (the_hints_of request quads.now) ≡ true → list_any p self.new ≡ true) }
         ensures kept { (p : Hint → Bool) → list_any p self.old ≡ true → list_any p self.new ≡ true }
-        ensures only { (p : Hint → Bool) → list_any p self.old ≡ false → p (record { quad = quad.now; request = request }) ≡ false → list_any p self.new ≡ false }
+        ensures only { (p : Hint → Bool) → list_any p self.old ≡ false → list_any p (the_hints_of request quads.now) ≡ false → list_any p self.new ≡ false }
     {
-        let hint = Hint {
-            quad: *quad,
-            request,
-        };
-        self.tail.push(hint)?;
+        if quads.len() >= MOST_IN_TAIL {
+            let hints = HintList::of_quads(alloc, quads, request)?;
+            return self.ordered.add(alloc, hints);
+        }
+        let hints = hints_of(alloc, quads, request)?;
+        self.tail.extend_from_slice(&hints)?;
         if self.tail.len() >= MOST_IN_TAIL {
-            self.settle(alloc);
+            let _ = self.settle(alloc);
         }
         Ok(())
     }
 
-    // Puts the tail into the orders, as far as there is memory.
-    fn settle(&mut self, alloc: Global)
+    // Puts the tail into the orders, if there is memory.
+    fn settle(&mut self, alloc: Global) -> Result<(), AllocError>
         ensures kept { (p : Hint → Bool) → list_any p self.old ≡ true → list_any p self.new ≡ true }
         ensures only { (p : Hint → Bool) → list_any p self.old ≡ false → list_any p self.new ≡ false }
     {
-        if self.ordered.add(alloc, &self.tail).is_ok() {
-            self.tail.clear();
-        }
+        let hints = HintList::of_hints(alloc, &self.tail)?;
+        self.ordered.add(alloc, hints)?;
+        self.tail.clear();
+        Ok(())
     }
 
     /// The requests of hints whose quad the pattern matches, in any order and with repeats: none of them is missing.

@@ -3,10 +3,12 @@
 //! `datasets`.
 //!
 //! The contracts used above: `part_of_set` has all quads of a set that a pattern matches; `Index::scan` is a filter of the whole set, and
-//! `Index::scan_counted` bounds how many entries it looks at; what `Hints::put` put, `Hints::requests` finds; what
+//! `Index::scan_counted` bounds how many entries it looks at; what `Hints::put_all` put, `Hints::requests` finds; what
 //! `SeenQuads::put` put, `SeenQuads::may_match` lets through.
 #![tactic(auto)]
 
+mod hint;
+mod hint_list;
 mod hints;
 mod index;
 mod key;
@@ -14,6 +16,7 @@ mod known;
 mod looks;
 pub mod matching;
 mod order;
+mod order_set;
 mod ordered_hints;
 mod run;
 mod search;
@@ -25,5 +28,6 @@ pub use index::Index;
 pub use key::{Arrangement, BESIDE_SPOG};
 pub use looks::Looks;
 pub use order::Order;
+pub use order_set::OrderSet;
 pub use search::part_of_set;
 pub use seen::SeenQuads;

@@ -1,76 +1,59 @@
 //! Sorted runs of hints.
-ghost use Rattle.std.specs.Prelude.{◌≡◌, ◌+◌, Bool, ◌||◌, IfOk, filter, length};
-ghost use Rattle.std.specs.List.{list_any};
-ghost use Rattle.std.specs.List.Sorted.{IsSortedByKey};
+ghost use Rattle.std.specs.Prelude.{◌≡◌, ◌++◌, IfOk, OnOk, filter, map, length};
+ghost use Rattle.std.specs.List.Sorted.{IsPermutation, IsSortedByKey};
 ghost use Rattle.datasets.specs.Id.{id_order};
 ghost use Rattle.datasets.specs.Dataset.{matches};
 ghost use Rattle.quad_index.specs.Keys.{key_of, key_order};
-ghost use Rattle.quad_index.specs.declared.run.Hint.{Hint};
+ghost use Rattle.quad_index.specs.HintList.{hints_in};
+ghost use Rattle.quad_index.specs.declared.hint.Hint.{Hint};
 
-use crate::key::{Arrangement, Key};
-use crate::search::{Entry, part_for};
-use datasets::{Id, Quad, QuadPattern};
+use crate::hint_list::HintList;
+use crate::key::Arrangement;
+use datasets::{Id, QuadPattern};
 use std::alloc::{AllocError, Global};
-
-/// A quad, and a request whose delta speaks of it, or did.
-#[derive(Clone, Copy, Debug)]
-pub struct Hint {
-    pub quad: Quad<Id>,
-    pub request: usize,
-}
-
-impl Entry for Hint {
-    ghost quad = { λ h. h.quad };
-
-    fn key(&self, arrangement: Arrangement) -> Key {
-        arrangement.key_of(&self.quad)
-    }
-}
 
 /// Hints sorted in an order.
 #[derive(Drop)]
 pub struct Run {
     pub arrangement: Arrangement,
-    pub entries: Vec<Hint>,
-    ghost sorted: { IsSortedByKey (λ (h : Hint). key_of arrangement h.quad) key_order entries.items },
+    pub hints: HintList,
+    ghost sorted: { IsSortedByKey (λ (h : Hint). key_of arrangement h.quad) key_order (hints_in hints) },
 }
 
 impl Run {
     /// These hints, sorted.
-    pub fn new(arrangement: Arrangement, mut entries: Vec<Hint>) -> Run
-        ensures members { (p : Hint → Bool) → list_any p result.entries.items ≡ list_any p entries.items }
-        ensures count { length result.entries.items ≡ length entries.items }
+    pub fn new(arrangement: Arrangement, hints: HintList) -> Result<Run, AllocError>
+        ensures { IfOk result (λ run. IsPermutation (hints_in hints) (hints_in run.hints)) }
     {
-        entries.sort_unstable_by(|left, right| arrangement.compare(&left.quad, &right.quad));
-        Run {
-            arrangement,
-            entries,
-        }
+        let hints = hints.sorted(arrangement)?;
+        Ok(Run { arrangement, hints })
     }
 
-    /// A part of the hints that has all whose quad the pattern matches.
-    pub fn part(&self, pattern: &QuadPattern<Id>) -> &[Hint]
-        ensures { filter (λ h. matches id_order pattern.now h.quad) result.now ≡ filter (λ h. matches id_order pattern.now h.quad) self.now.entries.items }
+    /// How many hints it has.
+    pub fn len(&self) -> usize
+        ensures { result ≡ length (hints_in self.now.hints) }
     {
-        part_for(&self.entries, self.arrangement, pattern)
+        self.hints.len()
+    }
+
+    /// Adds the requests of the hints whose quad the pattern matches.
+    pub fn add_requests(
+        &self,
+        found: &mut Vec<usize>,
+        pattern: &QuadPattern<Id>,
+    ) -> Result<(), AllocError>
+        ensures { OnOk result (found.new.items ≡ found.old.items ++ map (λ h. h.request) (filter (λ h. matches id_order pattern.now h.quad) (hints_in self.now.hints))) }
+    {
+        self.hints.add_requests(found, self.arrangement, pattern)
     }
 }
 
-/// One run of the hints of two: as many as both have.
-pub fn joined(
-    alloc: Global,
-    arrangement: Arrangement,
-    first: &[Hint],
-    second: &[Hint],
-) -> Result<Run, AllocError>
-    ensures members { IfOk result (λ run. (p : Hint → Bool) → list_any p run.entries.items ≡ (list_any p first.now || list_any p second.now)) }
-    ensures count { IfOk result (λ run. length run.entries.items ≡ length first.now + length second.now) }
+/// One run of the hints of two, in the order of the first.
+pub fn joined(alloc: Global, first: &Run, second: &Run) -> Result<Run, AllocError>
+    ensures { IfOk result (λ run. IsPermutation (hints_in first.now.hints ++ hints_in second.now.hints) (hints_in run.hints)) }
 {
-    let mut entries = Vec::from_slice(alloc, first)?;
-    entries.extend_from_slice(second)?;
-    entries.sort_by(|left, right| arrangement.compare(&left.quad, &right.quad))?;
-    Ok(Run {
-        arrangement,
-        entries,
-    })
+    Run::new(
+        first.arrangement,
+        first.hints.followed_by(alloc, &second.hints)?,
+    )
 }

@@ -4,7 +4,7 @@ use Rattle.std.specs.List.{list_any}
 use Rattle.std.proofs.lemmas.List.Folds.{list_any-append}
 use Rattle.datasets.specs.Id.{id_order}
 use Rattle.datasets.specs.Dataset.{matches}
-use Rattle.quad_index.specs.declared.run.Hint.{Hint}
+use Rattle.quad_index.specs.declared.hint.Hint.{Hint}
 use Rattle.quad_index.proofs.Joined.{either}
 use Rattle.quad_index.proofs.Requests.{names_kept, names_added}
 use Rattle.quad_index.proofs.hints.Hints.requests.Goals as goal

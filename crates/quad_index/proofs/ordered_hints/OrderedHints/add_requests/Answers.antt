@@ -2,7 +2,7 @@ use Rattle.std.specs.Prelude.{◌&&◌, ◌==◌}
 use Rattle.std.proofs.lemmas.Result.{on_ok_weaker}
 use Rattle.datasets.specs.Id.{id_order}
 use Rattle.datasets.specs.Dataset.{matches}
-use Rattle.quad_index.specs.declared.run.Hint.{Hint}
+use Rattle.quad_index.specs.declared.hint.Hint.{Hint}
 use Rattle.quad_index.proofs.Requests.{names_added}
 use Rattle.quad_index.proofs.ordered_hints.OrderedHints.add_requests.Goals as goal
 

@@ -1,6 +1,6 @@
 use Rattle.std.proofs.Common.{◌≡◌, Bool}
 use Rattle.std.specs.List.{list_any}
-use Rattle.quad_index.specs.declared.run.Hint.{Hint}
+use Rattle.quad_index.specs.declared.hint.Hint.{Hint}
 use Rattle.quad_index.specs.Hints.{all_entries}
 use Rattle.quad_index.proofs.sorted_hints.SortedHints.join_last.Given as goal
 

@@ -2,8 +2,8 @@ use Rattle.std.proofs.Common.{◌≡◌, ◌++◌, drop, map}
 use Rattle.std.specs.Prelude.{filter}
 use Rattle.datasets.specs.Id.{id_order}
 use Rattle.datasets.specs.Dataset.{matches}
-use Rattle.quad_index.specs.declared.run.Hint.{Hint}
-use Rattle.quad_index.proofs.sorted_hints.add_requests.Given as goal
+use Rattle.quad_index.specs.declared.hint.Hint.{Hint}
+use Rattle.quad_index.proofs.hint.add_requests.Given as goal
 
 abbrev pub invariant-loop-hint : goal.invariant-loop-hint
 invariant-loop-hint l =
