@@ -14,7 +14,7 @@ use crate::state::{Noted, Pass, Slot, Status};
 use crate::transcripts::is_transcript;
 use crate::validate::{self, Verdict};
 use delta::Finished;
-use quad_index::Arrangement;
+use quad_index::{Arrangement, OrderSet};
 use reads::{IndexedView, Scanned, View};
 use stamp_tree::Standing;
 use std::alloc::{AllocError, Global};
@@ -40,7 +40,7 @@ impl Model for Slots {
 }
 
 impl Slots {
-    /// Those of this many requests before their first event. The orders are those in which settled changes are kept beside SPOG.
+    /// Those of this many requests before their first event. The orders are those in which what they change is kept beside SPOG.
     pub fn new(alloc: Global, size: usize, orders: &[Arrangement]) -> Result<Slots, AllocError>
         ensures { IfOk result (λ slots. slots ≡ replicate size fresh_slot) }
     {
@@ -52,7 +52,7 @@ impl Slots {
             slots,
             low: 0,
             settled: Settled::new(alloc, orders)?,
-            spoken: Spoken::new(alloc),
+            spoken: Spoken::new(alloc, OrderSet::of(orders)),
         };
         Ok(Slots { kept })
     }

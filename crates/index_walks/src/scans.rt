@@ -32,7 +32,7 @@ fn quads_with(mut quads: Vec<Quad<Id>>) -> Result<Vec<Quad<Id>>, AllocError> {
 // The index of a set.
 fn indexed(alloc: Global, set: &[Quad<Id>], orders: &[Arrangement]) -> Result<Index, AllocError> {
     let quads = Vec::from_slice(alloc, set)?;
-    Index::new(alloc, set_of(quads), orders)
+    Index::new(alloc, &set_of(quads), orders)
 }
 
 fn bound_if(so: bool, term: Id) -> Option<Id> {

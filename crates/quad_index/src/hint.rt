@@ -67,11 +67,7 @@ impl KnownHint {
 }
 
 /// A hint of the request for each of these quads.
-pub fn hints_of(
-    alloc: Global,
-    quads: &[Quad<Id>],
-    request: usize,
-) -> Result<Vec<Hint>, AllocError>
+pub fn hints_of(alloc: Global, quads: &[Quad<Id>], request: usize) -> Result<Vec<Hint>, AllocError>
     ensures { IfOk result (λ hints. hints.items ≡ the_hints_of request quads.now) }
 {
     quads

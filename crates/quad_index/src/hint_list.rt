@@ -98,7 +98,10 @@ impl HintList {
         ensures same { IfOk result (λ list. IsPermutation (hints_in self) (hints_in list)) }
     {
         match self {
-            HintList::Narrow(known) => Ok(HintList::Narrow(sorted_known_hints(known, arrangement)?)),
+            HintList::Narrow(known) => Ok(HintList::Narrow(sorted_known_hints(
+                known,
+                arrangement,
+            )?)),
             HintList::Wide(hints) => Ok(HintList::Wide(sorted_hints(hints, arrangement)?)),
         }
     }

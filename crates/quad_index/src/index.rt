@@ -58,11 +58,11 @@ impl Index {
     /// This set of quads, in SPOG and in these orders. An error comes only where memory runs out, as it does for 2^62 quads.
     pub fn new(
         alloc: Global,
-        quads: Vec<Quad<Id>>,
+        quads: &[Quad<Id>],
         arrangements: &[Arrangement],
     ) -> Result<Index, AllocError>
-        requires { IsStrictlySortedBy (quad_order id_order) quads.items }
-        ensures { IfOk result (λ index. index ≡ record { quads = quads.items; orders = Arrangement.Spog ∷ arrangements.now }) }
+        requires { IsStrictlySortedBy (quad_order id_order) quads.now }
+        ensures { IfOk result (λ index. index ≡ record { quads = quads.now; orders = Arrangement.Spog ∷ arrangements.now }) }
     {
         let spog = Order::of_set(alloc, quads)?;
         let others = orders_of(alloc, &spog, arrangements)?;

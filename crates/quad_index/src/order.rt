@@ -44,12 +44,12 @@ impl Model for Order {
 }
 
 // These quads as entries.
-fn entries_of(alloc: Global, quads: Vec<Quad<Id>>) -> Result<Entries, AllocError>
-    ensures { IfOk result (λ entries. quads_in entries ≡ quads.items) }
+fn entries_of(alloc: Global, quads: &[Quad<Id>]) -> Result<Entries, AllocError>
+    ensures { IfOk result (λ entries. quads_in entries ≡ quads.now) }
 {
-    match known_quads(alloc, &quads)? {
+    match known_quads(alloc, quads)? {
         Some(known) => Ok(Entries::Narrow(known)),
-        None => Ok(Entries::Wide(quads)),
+        None => Ok(Entries::Wide(Vec::from_slice(alloc, quads)?)),
     }
 }
 
@@ -69,9 +69,9 @@ fn sorted_quads(
 
 impl Order {
     /// A set of quads in SPOG. 2^62 quads and more are out of memory.
-    pub fn of_set(alloc: Global, quads: Vec<Quad<Id>>) -> Result<Order, AllocError>
-        requires { IsStrictlySortedBy (quad_order id_order) quads.items }
-        ensures { IfOk result (λ order. order ≡ record { arrangement = Arrangement.Spog; quads = quads.items }) }
+    pub fn of_set(alloc: Global, quads: &[Quad<Id>]) -> Result<Order, AllocError>
+        requires { IsStrictlySortedBy (quad_order id_order) quads.now }
+        ensures { IfOk result (λ order. order ≡ record { arrangement = Arrangement.Spog; quads = quads.now }) }
     {
         if quads.len() >= 0x4000_0000_0000_0000 {
             return Err(AllocError);

@@ -49,7 +49,7 @@ impl IndexedView {
     {
         dataset.rises();
         let (quads, names) = dataset.into_parts();
-        let quads = Index::new(alloc, quads, orders)?;
+        let quads = Index::new(alloc, &quads, orders)?;
         let named = View::from_sets(Vec::new(alloc), names);
         Ok(IndexedView { quads, named })
     }

@@ -17,7 +17,8 @@ use Rattle.datasets.specs.declared.quad.Quad.{Quad}
 use Rattle.datasets.specs.declared.read.Read.TheVariants.{Scan, GraphIs, Graphs}
 use Rattle.datasets.specs.Dataset.{matches}
 use Rattle.datasets.specs.Id.{id_order, id_total, id_exact}
-use Rattle.quad_index.specs.declared.run.Hint.{Hint}
+use Rattle.quad_index.specs.declared.hint.Hint.{Hint}
+use Rattle.quad_index.specs.Hint.{hints_of}
 use Rattle.reads.specs.Reads.{Delta, Read, covers}
 use Rattle.version_overlay.specs.declared.generation.Generation.{Generation}
 use Rattle.version_overlay.specs.Generation.{requests_of, items_or_none, has_spoken}
@@ -126,9 +127,6 @@ part_of_all p xs i d c lt e go =
     (ap (λ b. b && c) (sym (list_any-append p (take (i + 1) xs) (drop (i + 1) xs)) ∙ ap (list_any p) (take-append-drop (i + 1) xs)) ∙ e) in
     with_parts p xs i d c lt parts.0 go
 
-pub any_more : {X Z : Type 0} (p : X → Bool) (xs : List X) (i : ℕ) (d : X) → i < length xs → list_any p (take (i + 1) xs) ≡ true → (list_any p (take i xs) ≡ true → Z) → (p (get_or xs i d) ≡ true → Z) → Z
-any_more p xs i d lt e before here = either (list_any p (take i xs)) (p (get_or xs i d)) before here (sym (list_any_more p xs i d lt) ∙ e)
-
 -- where all of them are tested
 pub all_parts : {X : Type 0} (p : X → Bool) (xs : List X) (i : ℕ) (c : Bool) → length xs ≤ i → (list_any p xs && c) ≡ false → (list_any p (take i xs) && c) ≡ false
 all_parts p xs i c le e = ap (λ ys. list_any p ys && c) (take_all i xs le) ∙ e
@@ -139,3 +137,15 @@ at_the_end xs zs j is = ap (list_any (λ r. r == j)) is ∙ list_any-append (λ 
     or_true : (b : Bool) → (b || true) ≡ true
     or_true true = refl
     or_true false = refl
+
+-- a request is that of a hint of one of these quads exactly where all hints are its
+
+or_and : (a b c : Bool) → ((a && c) || (b && c)) ≡ ((a || b) && c)
+or_and true b true = refl
+or_and true true false = refl
+or_and true false false = refl
+or_and false b c = refl
+
+pub any-hints_of : (p : Quad Id → Bool) (request j : ℕ) (quads : List (Quad Id)) → list_any (λ (h : Hint). p h.quad && (h.request == j)) (hints_of request quads) ≡ (list_any p quads && (request == j))
+any-hints_of p request j [] = refl
+any-hints_of p request j (q ∷ qs) = ap (λ b. (p q && (request == j)) || b) (any-hints_of p request j qs) ∙ or_and (p q) (list_any p qs) (request == j)

@@ -6,13 +6,13 @@ ghost use Rattle.datasets.specs.Id.{id_order};
 ghost use Rattle.datasets.specs.declared.quad.Quad.{Quad as Named};
 ghost use Rattle.std.specs.Ordering.{eq_by_cmp};
 ghost use Rattle.sets.specs.Sets.{has};
-ghost use Rattle.quad_index.specs.declared.run.Hint.{Hint};
+ghost use Rattle.quad_index.specs.declared.hint.Hint.{Hint};
 ghost use Rattle.reads.specs.Reads.{Read as Asked, covers};
 ghost use Rattle.version_overlay.specs.Generation.{requests_of, has_spoken};
 
 use datasets::{Id, Quad, Read};
 use delta::Delta;
-use quad_index::Hints;
+use quad_index::{Hints, OrderSet};
 use std::alloc::{AllocError, Global};
 use std::collections::BTreeMap;
 
@@ -27,12 +27,12 @@ pub struct Generation {
 }
 
 impl Generation {
-    /// Nobody has spoken. It takes no memory.
-    pub fn new(alloc: Global) -> Generation
+    /// Nobody has spoken. Quads that are spoken of will be kept in these orders. It takes no memory.
+    pub fn new(alloc: Global, orders: OrderSet) -> Generation
         ensures { (read : Asked) (j : ℕ) → has_spoken result read j ≡ false }
     {
         Generation {
-            quads: Hints::new(alloc),
+            quads: Hints::new(alloc, orders),
             names: BTreeMap::new(alloc),
             naming: Vec::new(alloc),
             highest: 0,
@@ -93,10 +93,7 @@ fn put_quads(
     ensures kept { (p : Hint → Bool) → list_any p hints.old ≡ true → list_any p hints.new ≡ true }
     ensures only { (p : Named Number → Bool) (j : ℕ) → (list_any p quads.now && (request == j)) ≡ false → list_any (λ h. p h.quad && (h.request == j)) hints.old ≡ false → list_any (λ h. p h.quad && (h.request == j)) hints.new ≡ false }
 {
-    for quad in quads {
-        hints.put(alloc, quad, request)?;
-    }
-    Ok(())
+    hints.put_all(alloc, quads, request)
 }
 
 // The request is one of each name that its delta speaks of.

@@ -14,7 +14,7 @@ ghost use Rattle.version_overlay.specs.Settled.{part_or};
 use datasets::{Id, Quad, QuadPattern, Read};
 use delta::Delta;
 use quad_index::{Arrangement, Index};
-use reads::lists::{copied_quads, quads_union};
+use reads::lists::quads_union;
 use reads::{Scanned, View};
 use sets::is_member;
 use std::alloc::{AllocError, Global};
@@ -46,7 +46,7 @@ impl Level {
     pub fn new(alloc: Global, change: Delta, orders: &[Arrangement]) -> Result<Level, AllocError>
         ensures { IfOk result (λ level. level ≡ change) }
     {
-        let quads = copied_quads(alloc, change.present())?;
+        let quads = change.present();
         let orders = if quads.len() < WORTH_ORDERS {
             &orders[0..0]
         } else {

@@ -61,8 +61,10 @@ impl Settled {
         }
         put_all(&mut self.seen, delta)?;
         let level = Level::new(alloc, delta.copied(alloc)?, &self.orders)?;
+        // What is to be joined with a long level is joined before, so that the long one is copied once.
+        join_alike(alloc, &mut self.levels, &self.orders, size(&level));
         self.levels.push(level)?;
-        join_alike(alloc, &mut self.levels, &self.orders);
+        join_alike(alloc, &mut self.levels, &self.orders, 0);
         Ok(())
     }
 
@@ -132,12 +134,12 @@ fn size(level: &Level) -> usize {
     quads.saturating_add(names)
 }
 
-// Whether the last level but one is at most about twice as long as the last.
-fn ends_alike(levels: &[Level]) -> bool
+// Whether the last level but one is at most about twice as long as the last, or as what is to come.
+fn ends_alike(levels: &[Level], least: usize) -> bool
     ensures { IsTrue result → 2 ≤ length levels.now }
 {
     match levels {
-        [.., earlier, later] => size(earlier) / 2 <= size(later),
+        [.., earlier, later] => size(earlier) / 2 <= size(later).max(least),
         _ => false,
     }
 }
@@ -161,11 +163,11 @@ fn join_last(
     Ok(())
 }
 
-// Joins the last two levels while they are alike in length, and there is memory.
-fn join_alike(alloc: Global, levels: &mut Vec<Level>, orders: &[Arrangement])
+// Joins the last two levels while they are alike in length, and there is memory, as if the last had a length of this at least.
+fn join_alike(alloc: Global, levels: &mut Vec<Level>, orders: &[Arrangement], least: usize)
     ensures { (d : Dataset) → changed_by levels.new.items d ≡ changed_by levels.old.items d }
 {
-    while ends_alike(levels) {
+    while ends_alike(levels, least) {
         if join_last(alloc, levels, orders).is_err() {
             break;
         }

@@ -11,12 +11,13 @@ use crate::filters::put_all;
 use crate::generation::Generation;
 use datasets::{Id, Read};
 use delta::Delta;
-use quad_index::SeenQuads;
+use quad_index::{OrderSet, SeenQuads};
 use std::alloc::{AllocError, Global};
 
 /// Which requests may have spoken of what. A filter stands before the generations, made once for all of them.
 #[derive(Drop)]
 pub struct Spoken {
+    orders: OrderSet,
     seen: SeenQuads,
     older: Generation,
     current: Generation,
@@ -27,14 +28,16 @@ pub struct Spoken {
 impl Spoken {
     ghost use Rattle.version_overlay.specs.Spoken.{speaks};
 
-    /// Nobody has spoken. It takes no memory.
-    pub fn new(alloc: Global) -> Spoken
+    /// Nobody has spoken. Quads that are spoken of will be kept in these orders, by which those of a read are found: how long that takes
+    /// depends on them, and no contract sees them. It takes no memory.
+    pub fn new(alloc: Global, orders: OrderSet) -> Spoken
         ensures { (read : Asked) (j : ℕ) → speaks result read j ≡ false }
     {
         Spoken {
+            orders,
             seen: SeenQuads::new(alloc),
-            older: Generation::new(alloc),
-            current: Generation::new(alloc),
+            older: Generation::new(alloc, orders),
+            current: Generation::new(alloc, orders),
         }
     }
 
@@ -74,7 +77,8 @@ impl Spoken {
         ensures { (read : Asked) (j : ℕ) → low ≤ j → speaks self.old read j ≡ true → speaks self.new read j ≡ true }
     {
         if self.older.highest < low {
-            self.older = std::mem::replace(&mut self.current, Generation::new(alloc));
+            let next = Generation::new(alloc, self.orders);
+            self.older = std::mem::replace(&mut self.current, next);
         }
     }
 }

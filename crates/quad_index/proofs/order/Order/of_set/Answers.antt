@@ -1,4 +1,4 @@
-use Rattle.std.proofs.Common.{◌<◌, ◌^◌, List, sym, subst, arith}
+use Rattle.std.proofs.Common.{◌<◌, ◌^◌, List, length, sym, subst, arith}
 use Rattle.datasets.specs.declared.id.Id.{Id}
 use Rattle.datasets.specs.declared.quad.Quad.{Quad}
 use Rattle.quad_index.specs.declared.key.Arrangement.TheVariants.{Spog}
@@ -8,8 +8,6 @@ use Rattle.quad_index.proofs.order.Order.of_set.Goals as goal
 
 pub invariant_of-result : goal.invariant_of-result
 invariant_of-result c =
-    let e = c.if-len-ge4611686018427387904.false in
-    let n = c.len.ensures in
-    let small : c.args.quads.len < 2 ^ 62 = omega arith in
-    let count = c.args.quads.ok.0 in
-    subst (λ (quads : List (Quad Id)). IsOrder Spog quads) (sym c.in_ok-entries.ensures) (record { sorted = set_by_places c.args.quads.items c.requires; short = omega arith })
+    let e = c.if-quads-ge4611686018427387904.false in
+    let small : length c.args.quads.now < 2 ^ 62 = omega arith in
+    subst (λ (quads : List (Quad Id)). IsOrder Spog quads) (sym c.in_ok-entries.ensures) (record { sorted = set_by_places c.args.quads.now c.requires; short = omega arith })

@@ -1,7 +1,7 @@
 use Rattle.std.proofs.Common.{sym, ap, ◌∙◌}
 use Rattle.datasets.specs.declared.read.Read.TheVariants.{Scan}
 use Rattle.quad_index.specs.Seen.{may_match}
-use Rattle.reads.specs.Reads.{says, applied, covers}
+use Rattle.reads.specs.Reads.{View, says, applied, covers}
 use Rattle.version_overlay.specs.Settled.{changed_by}
 use Rattle.version_overlay.proofs.Changing.{nothing_changed, changed-rises, changed_by-rises, some_are, pushed_is, uncovered}
 use Rattle.version_overlay.proofs.Generations.{stopped}
@@ -18,18 +18,24 @@ returns-then-says_nothing-clause-ok c d =
 pub invariant_of-self-in_err-push : goal.invariant_of-self-in_err-push
 invariant_of-self-in_err-push c p stops d rising =
     ap (λ cs. says (Scan p) (changed_by cs d)) c.in_err-push.ensures.items
+    ∙ ap (says (Scan p)) (c.join_alike.ensures d)
     ∙ c.self.invariant p (stopped (may_match c.self.inside.seen p) (may_match c.put_all.new.seen p) (c.put_all.ensures.kept p) stops) d rising
+
+-- the levels with one more
+module _ (c : goal.After-join_alike-2) where
+  one_more : (d : View) → changed_by c.join_alike-2.new.levels.items d ≡ applied c.args.delta.now (changed_by c.self.inside.levels.items d)
+  one_more d =
+      c.join_alike-2.ensures d
+      ∙ pushed_is c.join_alike.new.levels.items c.push.new.self.items c.in_ok-level.level c.args.delta.now c.in_ok-push.ensures.items (c.in_ok-level.ensures ∙ c.in_ok-copied.ensures) d
+      ∙ ap (applied c.args.delta.now) (c.join_alike.ensures d)
 
 pub invariant_of-self-2 : goal.invariant_of-self-2
 invariant_of-self-2 c p stops d rising =
     let levels = c.self.inside.levels.items in
     let delta = c.args.delta.now in
-    ap (says (Scan p)) (c.join_alike.ensures d ∙ pushed_is levels c.push.new.self.items c.in_ok-level.level delta c.in_ok-push.ensures.items (c.in_ok-level.ensures ∙ c.in_ok-copied.ensures) d)
+    ap (says (Scan p)) (one_more c d)
     ∙ uncovered delta (changed_by levels d) (Scan p) (changed_by-rises levels d rising) (stopped (covers delta (Scan p)) (may_match c.put_all.new.seen p) (c.in_ok-put_all.ensures.added p) stops)
     ∙ c.self.invariant p (stopped (may_match c.self.inside.seen p) (may_match c.put_all.new.seen p) (c.put_all.ensures.kept p) stops) d rising
 
 pub returns-clause-ok : goal.returns-clause-ok
-returns-clause-ok c d =
-    c.join_alike.ensures d
-    ∙ pushed_is c.self.inside.levels.items c.push.new.self.items c.in_ok-level.level c.args.delta.now c.in_ok-push.ensures.items (c.in_ok-level.ensures ∙ c.in_ok-copied.ensures) d
-    ∙ ap (λ cs. applied c.args.delta.now (changed_by cs d)) c.self.view_is
+returns-clause-ok c d = one_more c d ∙ ap (λ cs. applied c.args.delta.now (changed_by cs d)) c.self.view_is
