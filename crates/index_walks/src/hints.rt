@@ -1,72 +1,154 @@
-//! Hints of many requests, found by patterns of each of the six orders.
-use datasets::{GraphPlace, Id, Quad, QuadPattern};
-use quad_index::Hints;
+//! Hints of many requests, of one quad each or of many, found by each of the sixteen sets of bound places, beside a plain filter.
+use crate::quads::{fits, pattern_of, quad_of};
+use datasets::{Id, Quad, QuadPattern};
+use quad_index::{Arrangement, BESIDE_SPOG, Hints, OrderSet};
 use std::alloc::{AllocError, Global};
 
-// The graph of every second request is the default graph.
-fn graph_of(i: usize) -> Option<Id> {
-    if i % 2 == 0 { None } else { Some(Id::Known(1)) }
+/// How many requests speak.
+const REQUESTS: usize = 1300;
+
+// How many quads a request speaks of: one, or as many as are put in bulk and some more.
+fn count_of(request: usize) -> usize {
+    match request % 300 {
+        0 => 512,
+        1 => 700,
+        _ => 1,
+    }
 }
 
-// A hint of each of 2,000 requests: its quad has the numbers i modulo 50, 10 and 7.
-fn many(alloc: Global) -> Result<Hints, AllocError> {
-    let mut hints = Hints::new(alloc);
-    for i in 0..2000 {
-        let quad = Quad {
-            subject: Id::Known(i % 50),
-            predicate: Id::Known(i % 10),
-            object: Id::Known(i % 7),
-            graph: graph_of(i),
+// Where there are made nodes, every fifth request speaks of one.
+fn spoken_quad(request: usize, k: usize, are_made: bool) -> Quad<Id> {
+    let quad = quad_of(request.wrapping_mul(37).wrapping_add(k));
+    if are_made && request % 5 == 1 && k % 2 == 0 {
+        let made = Id::Made {
+            request: 1,
+            op: 0,
+            label: 0,
+            rank: 0,
         };
-        hints.put(alloc, &quad, i)?;
+        Quad {
+            subject: made,
+            ..quad
+        }
+    } else {
+        quad
+    }
+}
+
+// The quads that a request speaks of.
+fn spoken(alloc: Global, request: usize, are_made: bool) -> Result<Vec<Quad<Id>>, AllocError> {
+    let mut quads = Vec::new(alloc);
+    for k in 0..count_of(request) {
+        quads.push(spoken_quad(request, k, are_made))?;
+    }
+    Ok(quads)
+}
+
+// The hints of all requests.
+fn hints_of(alloc: Global, orders: &[Arrangement], are_made: bool) -> Result<Hints, AllocError> {
+    let mut hints = Hints::new(alloc, OrderSet::of(orders));
+    for request in 0..REQUESTS {
+        hints.put_all(alloc, &spoken(alloc, request, are_made)?, request)?;
     }
     Ok(hints)
 }
 
-fn term(number: usize) -> Option<Id> {
-    Some(Id::Known(number))
+fn speaks_of(
+    alloc: Global,
+    request: usize,
+    are_made: bool,
+    pattern: &QuadPattern<Id>,
+) -> Result<bool, AllocError> {
+    let quads = spoken(alloc, request, are_made)?;
+    Ok(quads.iter().any(|quad| fits(pattern, quad)))
 }
 
-fn pattern(
-    subject: Option<Id>,
-    predicate: Option<Id>,
-    object: Option<Id>,
-    graph: GraphPlace<Id>,
-) -> QuadPattern<Id> {
-    QuadPattern {
-        subject,
-        predicate,
-        object,
-        graph,
+// The requests that speak of a quad which fits.
+fn wanted(
+    alloc: Global,
+    are_made: bool,
+    pattern: &QuadPattern<Id>,
+) -> Result<Vec<usize>, AllocError> {
+    let mut requests = Vec::new(alloc);
+    for request in 0..REQUESTS {
+        if speaks_of(alloc, request, are_made, pattern)? {
+            requests.push(request)?;
+        }
     }
+    Ok(requests)
 }
 
-// How many requests are found.
-fn count(
+fn found(
     alloc: Global,
     hints: &Hints,
-    subject: Option<Id>,
-    predicate: Option<Id>,
-    object: Option<Id>,
-    graph: GraphPlace<Id>,
-) -> Result<usize, AllocError> {
-    let found = hints.requests(alloc, &pattern(subject, predicate, object, graph))?;
-    Ok(found.len())
+    pattern: &QuadPattern<Id>,
+) -> Result<Vec<usize>, AllocError> {
+    let mut requests = hints.requests(alloc, pattern)?;
+    requests.sort_unstable();
+    requests.dedup();
+    Ok(requests)
+}
+
+// Whether each pattern of a quad of the request finds what a filter does, the request among it.
+fn is_found(
+    alloc: Global,
+    hints: &Hints,
+    are_made: bool,
+    request: usize,
+    k: usize,
+) -> Result<bool, AllocError> {
+    let quad = spoken_quad(request, k, are_made);
+    let mut so = true;
+    for places in 0..16 {
+        let pattern = pattern_of(places, &quad);
+        let requests = found(alloc, hints, &pattern)?;
+        let wanted = wanted(alloc, are_made, &pattern)?;
+        so = so && requests.as_slice() == wanted.as_slice() && requests.contains(&request);
+    }
+    Ok(so)
+}
+
+// Of a request of one quad, of the first and the last of two that put many, and of the last of all.
+fn are_found(alloc: Global, hints: &Hints, are_made: bool) -> Result<bool, AllocError> {
+    Ok(
+        is_found(alloc, hints, are_made, 7, 0)?
+            && is_found(alloc, hints, are_made, 300, 511)?
+            && is_found(alloc, hints, are_made, 601, 0)?
+            && is_found(alloc, hints, are_made, 601, 699)?
+            && is_found(alloc, hints, are_made, 1299, 0)?,
+    )
 }
 
 #[test]
 fn hints_are_found_in_each_order(rt: HostRuntime) -> Result<(), AllocError> {
     let alloc = rt.alloc();
-    let hints = many(alloc)?;
-    let any = GraphPlace::Any;
-    let named = GraphPlace::Only(term(1));
-    assert!(rt; count(alloc, &hints, None, None, None, any)? == 2000);
-    assert!(rt; count(alloc, &hints, term(3), None, None, any)? == 40);
-    assert!(rt; count(alloc, &hints, None, term(3), None, any)? == 200);
-    assert!(rt; count(alloc, &hints, None, None, term(3), any)? == 286);
-    assert!(rt; count(alloc, &hints, None, None, None, named)? == 1000);
-    assert!(rt; count(alloc, &hints, None, term(3), None, named)? == 200);
-    assert!(rt; count(alloc, &hints, term(3), None, term(3), any)? == 6);
-    assert!(rt; count(alloc, &hints, term(3), term(4), None, any)? == 0);
+    let hints = hints_of(alloc, &BESIDE_SPOG, false)?;
+    assert!(rt; are_found(alloc, &hints, false)?);
     Ok(())
+}
+
+#[test]
+fn hints_are_found_without_the_order(rt: HostRuntime) -> Result<(), AllocError> {
+    let alloc = rt.alloc();
+    let hints = hints_of(alloc, &[], false)?;
+    assert!(rt; are_found(alloc, &hints, false)?);
+    let hints = hints_of(alloc, &[Arrangement::Ogsp, Arrangement::Gpso], false)?;
+    assert!(rt; are_found(alloc, &hints, false)?);
+    Ok(())
+}
+
+#[test]
+fn hints_of_made_nodes_are_found(rt: HostRuntime) -> Result<(), AllocError> {
+    let alloc = rt.alloc();
+    let hints = hints_of(alloc, &[Arrangement::Pogs], true)?;
+    assert!(rt; are_found(alloc, &hints, true)?);
+    Ok(())
+}
+
+#[test]
+fn an_order_set_has_its_orders(rt: HostRuntime) {
+    let orders = OrderSet::of(&[Arrangement::Gspo, Arrangement::Ospg]);
+    assert!(rt; orders.has(Arrangement::Spog));
+    assert!(rt; orders.has(Arrangement::Gspo) && orders.has(Arrangement::Ospg));
+    assert!(rt; !orders.has(Arrangement::Pogs) && !orders.has(Arrangement::Gpso));
 }

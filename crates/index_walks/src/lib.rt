@@ -1,8 +1,10 @@
-//! Tests of quads in sorted orders: scans of an index by each of the sixteen sets of bound places, and hints in sorted runs, enough of them
-//! that runs are joined, found by patterns of each order.
+//! Tests of quads in sorted orders: scans of an index, and requests that hints in sorted runs name, enough of them that runs are joined, by
+//! each of the sixteen sets of bound places, beside plain filters.
 #![tactic(auto)]
 
 #[cfg(test)]
 mod hints;
+#[cfg(test)]
+mod quads;
 #[cfg(test)]
 mod scans;
