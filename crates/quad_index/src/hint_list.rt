@@ -83,7 +83,9 @@ impl HintList {
         ensures { IfOk result (λ list. hints_in list ≡ hints_in self.now ++ hints_in others.now) }
     {
         if let (HintList::Narrow(first), HintList::Narrow(second)) = (self, others) {
-            let mut known = Vec::from_slice(alloc, first)?;
+            let mut known = Vec::new(alloc);
+            known.reserve(first.len().saturating_add(second.len()))?;
+            known.extend_from_slice(first)?;
             known.extend_from_slice(second)?;
             return Ok(HintList::Narrow(known));
         }

@@ -127,6 +127,9 @@ part_of_all p xs i d c lt e go =
     (ap (λ b. b && c) (sym (list_any-append p (take (i + 1) xs) (drop (i + 1) xs)) ∙ ap (list_any p) (take-append-drop (i + 1) xs)) ∙ e) in
     with_parts p xs i d c lt parts.0 go
 
+pub any_more : {X Z : Type 0} (p : X → Bool) (xs : List X) (i : ℕ) (d : X) → i < length xs → list_any p (take (i + 1) xs) ≡ true → (list_any p (take i xs) ≡ true → Z) → (p (get_or xs i d) ≡ true → Z) → Z
+any_more p xs i d lt e before here = either (list_any p (take i xs)) (p (get_or xs i d)) before here (sym (list_any_more p xs i d lt) ∙ e)
+
 -- where all of them are tested
 pub all_parts : {X : Type 0} (p : X → Bool) (xs : List X) (i : ℕ) (c : Bool) → length xs ≤ i → (list_any p xs && c) ≡ false → (list_any p (take i xs) && c) ≡ false
 all_parts p xs i c le e = ap (λ ys. list_any p ys && c) (take_all i xs le) ∙ e

@@ -1,4 +1,4 @@
-use Rattle.std.proofs.Common.{sym, ap, ◌∙◌}
+use Rattle.std.proofs.Common.{◌≡◌, sym, ap, ◌∙◌}
 use Rattle.datasets.specs.declared.read.Read.TheVariants.{Scan}
 use Rattle.quad_index.specs.Seen.{may_match}
 use Rattle.reads.specs.Reads.{View, says, applied, covers}
