@@ -9,6 +9,7 @@ ghost use Rattle.shared.specs.Duty.{IsPassFor};
 
 use crate::crew::Crew;
 use crate::gate::Gate;
+use crate::pace::Pace;
 use crate::worker::Workers;
 use book::Book;
 use datasets::Id;
@@ -62,6 +63,7 @@ pub fn run_book<'a, R: Threads + Wait + Sync, G: Gate + Sync>(
     ensures whole { IfOk result (λ book. length block.now ≤ (state_of book).front) }
 {
     let (shared, passes) = opened(alloc, terms, base, block, workers)?;
+    let pace = Pace::new();
     let stopped = AtomicBool::new(false);
     let workers = Workers {
         rt,
@@ -71,6 +73,7 @@ pub fn run_book<'a, R: Threads + Wait + Sync, G: Gate + Sync>(
         base,
         block,
         gate,
+        pace: &pace,
         stopped: &stopped,
     };
     let passes = Crew { workers, passes }.work()?;

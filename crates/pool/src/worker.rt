@@ -7,6 +7,7 @@ ghost use Rattle.pool.specs.Duty.{IsDone};
 
 use crate::asker::Asking;
 use crate::gate::Gate;
+use crate::pace::Pace;
 use block_machine::{Entry, Event, Reply};
 use crossbeam_utils::Backoff;
 use datasets::Id;
@@ -39,6 +40,7 @@ pub struct Workers<'s, 'a, R: Wait, G: Gate> {
     pub(crate) base: &'a IndexedView,
     pub(crate) block: &'a [Request<Id>],
     pub(crate) gate: &'s G,
+    pub(crate) pace: &'s Pace,
     // Whether one of them was refused memory.
     pub(crate) stopped: &'s AtomicBool,
 }
@@ -144,6 +146,7 @@ impl<'s, 'a, R: Wait, G: Gate> Workers<'s, 'a, R, G> {
         let is_published = match found {
             Some(run) => self.publish(&mut pass, turn, run)?,
             None => {
+                self.pace.slow_down();
                 self.give_up(&mut pass, turn)?;
                 false
             }
@@ -151,7 +154,7 @@ impl<'s, 'a, R: Wait, G: Gate> Workers<'s, 'a, R, G> {
         Ok((pass, is_published))
     }
 
-    // Takes the request at a place and runs it. It answers whether a run was published.
+    // Takes the request at a place and runs it, if it is not too far ahead. It answers whether a run was published.
     fn take(&self, pass: Pass<'a>, place: usize) -> Result<(Pass<'a>, bool), AllocError>
         requires pass { IsPassFor self.now pass }
         requires size { length self.now.subject.block < 2 ^ 32 }
@@ -161,6 +164,9 @@ impl<'s, 'a, R: Wait, G: Gate> Workers<'s, 'a, R, G> {
         let Some(request) = self.block.get(place) else {
             return Ok((pass, false));
         };
+        if !self.pace.allows(place) {
+            return Ok((pass, false));
+        }
         let mut pass = pass;
         let reply = self.shared.take(self.rt, self.alloc, &mut pass, place)?;
         let Reply::Taken(incarnation) = self.shown(&pass, Event::Take(place), reply) else {
@@ -192,6 +198,9 @@ impl<'s, 'a, R: Wait, G: Gate> Workers<'s, 'a, R, G> {
             .shared
             .check(self.rt, self.alloc, pass, place, incarnation)?;
         let reply = self.shown(pass, Event::Check(place, incarnation), reply);
+        if let Reply::Aborted = reply {
+            self.pace.slow_down();
+        }
         Ok(matches!(reply, Reply::Passed | Reply::Aborted))
     }
 
@@ -201,8 +210,11 @@ impl<'s, 'a, R: Wait, G: Gate> Workers<'s, 'a, R, G> {
         ensures { IsPassFor self.now pass.new }
     {
         let reply = self.shared.commit(self.rt, self.alloc, pass, place)?;
-        let reply = self.shown(pass, Event::Commit(place), reply);
-        Ok(matches!(reply, Reply::Committed))
+        let Reply::Committed = self.shown(pass, Event::Commit(place), reply) else {
+            return Ok(false);
+        };
+        self.pace.commit();
+        Ok(true)
     }
 
     // Does a task. It answers whether the block got on by it.
@@ -289,6 +301,7 @@ impl<'s, 'a, R: Wait, G: Gate> Workers<'s, 'a, R, G> {
             base: self.base,
             block: self.block,
             gate: self.gate,
+            pace: self.pace,
             stopped: self.stopped,
         }
     }

@@ -1,8 +1,12 @@
--- Lists of mappings that have no variable in common.
-use Rattle.std.specs.Prelude.{◌≡◌, ℕ, Bool, false, List, is_some}
-use Rattle.std.specs.List.{AllByRecursion, list_any}
+-- Which variables mappings bind, and lists of mappings that have none in common.
+use Rattle.std.specs.Prelude.{◌≡◌, ℕ, Bool, false, List, is_some, is_none}
+use Rattle.std.specs.List.{AllByRecursion, list_all, list_any}
 use Rattle.datasets.specs.declared.id.Id.{Id}
 use Rattle.meaning.specs.Mapping.{Mapping, term_for, shares}
+
+-- whether a mapping binds no variable
+abbrev pub binds_none : Mapping Id → Bool
+binds_none m = list_all is_none m
 
 -- whether a variable is bound in one of these mappings
 abbrev pub is_bound_among : List (Mapping Id) → ℕ → Bool

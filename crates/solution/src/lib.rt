@@ -11,6 +11,7 @@ mod lookup;
 mod mapping;
 mod operators;
 mod solutions;
+mod unit;
 
 pub use filters::Filters;
 pub use mapping::Mapping;

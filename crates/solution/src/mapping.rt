@@ -2,6 +2,7 @@
 ghost use Rattle.std.specs.Prelude.{◌≡◌, length, IfOk};
 ghost use Rattle.datasets.specs.Id.{id_order};
 ghost use Rattle.meaning.specs.Mapping.{empty_mapping, term_for, fitted, agree, compatible, shares, merge};
+ghost use Rattle.solution.specs.Sharing.{binds_none as the_binds_none};
 
 use algebra::Place;
 use datasets::Id;
@@ -15,7 +16,7 @@ use std::marker::Model;
 /// by each variable in turn, unbound first.
 #[derive(Drop)]
 pub struct Mapping {
-    places: SmallVec<Option<Id>, 8>,
+    places: SmallVec<Option<Id>, 4>,
 }
 
 impl Model for Mapping {
@@ -132,6 +133,13 @@ impl Mapping {
         ensures { result ≡ length self.now }
     {
         self.places.len()
+    }
+
+    // Whether no variable is bound.
+    pub(crate) fn binds_none(&self) -> bool
+        ensures { result ≡ the_binds_none self.now }
+    {
+        self.places.as_slice().iter().all(|place| place.is_none())
     }
 
     /// The mapping under which a place of a pattern is this term, if there is one: a variable that is unbound comes to be bound to it.

@@ -15,6 +15,7 @@ use crate::limited::joins_up_to;
 use crate::lookup::Lookup;
 use crate::mapping::Mapping;
 use crate::operators::{apart_from, difference, joins, passing, push_fitted};
+use crate::unit::is_unit;
 use algebra::{Expression, Place, TriplePattern};
 use datasets::{Id, Quad};
 use sets::{place_of, set_of};
@@ -128,6 +129,9 @@ impl Solutions {
     pub fn join(&self, alloc: Global, right: Solutions) -> Result<Solutions, AllocError>
         ensures { IfOk result (λ found. found ≡ operators.join id_order self.now right) }
     {
+        if is_unit(&self.mappings, &right.mappings) {
+            return Ok(right);
+        }
         let right = Lookup::new(alloc, &self.mappings, right.mappings)?;
         let found = joins(alloc, &self.mappings, &right)?;
         Ok(Solutions::from_mappings(found))
@@ -144,6 +148,10 @@ impl Solutions {
     ) -> Result<Option<Solutions>, AllocError>
         ensures { IfOk result (λ found. found ≡ the_up_to limit (filter (passes_all (F.passes by.now) (map expression_of filters.now)) (operators.join id_order self.now right))) }
     {
+        if is_unit(&self.mappings, &right.mappings) {
+            let kept = right.filter(alloc, filters, by)?;
+            return Ok(kept.up_to(limit));
+        }
         let right = Lookup::new(alloc, &self.mappings, right.mappings)?;
         joins_up_to(alloc, filters, by, &self.mappings, &right, limit)
     }
