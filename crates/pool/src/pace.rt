@@ -35,12 +35,19 @@ impl Pace {
         ahead < self.eighths.load(Ordering::SeqCst) / 8
     }
 
-    /// One more request is committed.
-    pub(crate) fn commit(&self) {
+    // One more request is committed.
+    fn commit(&self) {
         self.committed.fetch_add(1, Ordering::SeqCst);
         let eighths = self.eighths.load(Ordering::SeqCst);
         self.eighths
             .store(eighths.saturating_add(1).min(MOST_EIGHTHS), Ordering::SeqCst);
+    }
+
+    /// One more request is committed, if it is so.
+    pub(crate) fn commit_if(&self, so: bool) {
+        if so {
+            self.commit();
+        }
     }
 
     /// A run came to nothing.

@@ -210,11 +210,10 @@ impl<'s, 'a, R: Wait, G: Gate> Workers<'s, 'a, R, G> {
         ensures { IsPassFor self.now pass.new }
     {
         let reply = self.shared.commit(self.rt, self.alloc, pass, place)?;
-        let Reply::Committed = self.shown(pass, Event::Commit(place), reply) else {
-            return Ok(false);
-        };
-        self.pace.commit();
-        Ok(true)
+        let reply = self.shown(pass, Event::Commit(place), reply);
+        let is_committed = matches!(reply, Reply::Committed);
+        self.pace.commit_if(is_committed);
+        Ok(is_committed)
     }
 
     // Does a task. It answers whether the block got on by it.

@@ -4,7 +4,7 @@ ghost use Rattle.std.specs.List.Sorted.{IsPermutation, IsSortedByKey};
 ghost use Rattle.datasets.specs.Id.{id_order};
 ghost use Rattle.datasets.specs.Dataset.{matches};
 ghost use Rattle.quad_index.specs.Keys.{key_of, key_order};
-ghost use Rattle.quad_index.specs.Hint.{hint_of, hints_of as the_hints_of};
+ghost use Rattle.quad_index.specs.Hint.{hints_of as the_hints_of};
 ghost use Rattle.quad_index.specs.HintList.{hints_in};
 ghost use Rattle.quad_index.specs.declared.hint.Hint.{Hint as Told};
 

@@ -3,7 +3,6 @@ ghost use Rattle.std.specs.Prelude.{◌≡◌, ◌≤◌, Bool, filter, slice_ra
 ghost use Rattle.std.specs.List.{AllWithin};
 ghost use Rattle.std.specs.List.Sorted.{IsSortedByKey, IsStrictlySortedBy};
 ghost use Rattle.std.specs.Ordering.{is_eq};
-ghost use Rattle.sets.specs.Sets.{has};
 ghost use Rattle.datasets.specs.Id.{id_order};
 ghost use Rattle.datasets.specs.Dataset.{quad_order, matches};
 ghost use Rattle.datasets.specs.declared.id.Id.{Id as Number};
@@ -11,7 +10,7 @@ ghost use Rattle.datasets.specs.declared.quad.Quad.{Quad as Spoken};
 ghost use Rattle.quad_index.specs.Keys.{key_order, key_of, order_at, is_before as the_is_before};
 
 use crate::key::{Arrangement, Depth, Key, is_before};
-use datasets::{GraphPlace, Id, Quad, QuadPattern};
+use datasets::{Id, Quad, QuadPattern};
 
 /// What has a quad.
 pub trait Entry {

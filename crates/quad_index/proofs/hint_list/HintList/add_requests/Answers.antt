@@ -1,4 +1,4 @@
-use Rattle.std.proofs.Common.{◌≡◌, ◌++◌, ◌∙◌, ap, sym, subst, rules, List, map}
+use Rattle.std.proofs.Common.{◌≡◌, ◌++◌, ◌∙◌, ap, sym, subst, List, map}
 use Rattle.std.specs.Prelude.{OnOk, filter}
 use Rattle.std.specs.List.Sorted.{IsSortedByKey}
 use Rattle.datasets.specs.Id.{id_order}
