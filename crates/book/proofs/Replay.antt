@@ -21,7 +21,7 @@ use Rattle.block_machine.specs.Machine.{Slot, State, fresh, status_of, slot_at, 
 use Rattle.block_machine.specs.Serial.{Setting, IsSetting, IsSound, IsSoundEntry, IsLawful, IsHistory, replies_to, FrontIsSerial}
 use Rattle.book.specs.declared.journal_entry.JournalEntry.{JournalEntry}
 use Rattle.book.specs.JournalEntry.{journal_entry_of, entry_in, history_from}
-use Rattle.book.specs.Run.{Run, run_of_journal, answer_at, setting, setting_of, state_of, front_run, IsReplayed, kept, IsSoundEvent}
+use Rattle.book.specs.Run.{Run, run_of_journal, answer_at, setting, setting_of, front_run, IsReplayed, kept, IsSoundEvent}
 use Rattle.book.proofs.Meaning.{is_setting, serial_run}
 
 -- before any event

@@ -1,6 +1,3 @@
-use Rattle.std.proofs.Common.{ap, ◌∙◌}
-use Rattle.block_machine.specs.Machine.{fresh}
-use Rattle.book.specs.JournalEntry.{history_from}
 use Rattle.book.proofs.Replay.{replayed_none, run_none}
 use Rattle.book.proofs.book.Book.new.Goals as goal
 

@@ -1,4 +1,4 @@
-use Rattle.std.proofs.Common.{◌≡◌, ◌+◌, ◌^◌, ◌<◌, List, [], ◌∷◌, ◌++◌, length, arith, sym, ◌∙◌, subst}
+use Rattle.std.proofs.Common.{◌≡◌, ◌+◌, ◌^◌, ◌<◌, [], ◌∷◌, ◌++◌, length, arith, sym, ◌∙◌, subst}
 use Rattle.block_machine.specs.declared.state.Reply.{Reply}
 use Rattle.block_machine.specs.Machine.{State, IsReady, IsAllowed}
 use Rattle.book.specs.JournalEntry.{journal_entry_of}
