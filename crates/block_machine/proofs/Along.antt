@@ -4,7 +4,7 @@ use Rattle.std.proofs.lemmas.Bool.{cases_lt}
 use Rattle.std.proofs.lemmas.List.{get_or_default, get_or_past}
 use Rattle.datasets.specs.Id.{id_order}
 use Rattle.change_laws.specs.Laws.{IsRising}
-use Rattle.reads.specs.Reads.{View, Read, says, covers}
+use Rattle.reads.specs.Reads.{View, Read, Answer, says, applied, covers}
 use Rattle.block_machine.specs.declared.state.Slot.{Slot as KeptSlot}
 use Rattle.block_machine.specs.Machine.{Slot, slot_at, view_at, blocker, touching}
 use Rattle.block_machine.specs.Kept.{plain, slot_by, shown}
@@ -70,8 +70,8 @@ module _ (slots : List Slot) (read : Read) where
       pub touching_all : (found : List (ℕ × ℕ)) → touching slots low read ++ found ≡ touching slots (after_first low list i k) read → touching slots low read ++ found ≡ touching slots i read
       touching_all found e = e ∙ sym (touching_at k le) ∙ ap (λ n. touching slots n read) at_end
 
-      pub part_all : (base : View) → IsRising id_order base → (part : View) → says read part ≡ says read (view_at base slots (after_first low list i k)) → says read part ≡ says read (view_at base slots i)
-      part_all base rising part e = e ∙ sym (says_at base rising k le) ∙ ap (λ n. says read (view_at base slots n)) at_end
+      pub says_all : (base : View) → IsRising id_order base → (answer : Answer) → answer ≡ says read (view_at base slots (after_first low list i k)) → answer ≡ says read (view_at base slots i)
+      says_all base rising answer e = e ∙ sym (says_at base rising k le) ∙ ap (λ n. says read (view_at base slots n)) at_end
 
 -- the next of the list
 
@@ -110,8 +110,11 @@ module _ (kept : List KeptSlot) (read : Read) (low : ℕ) (list : List ℕ) (i :
       ∙ (λ t. same t ++ (if covers (at t).delta read then (here t, (at t).version) ∷ [] else [])) ∙ ap (λ n. touching (shown kept) (after_first low list i n) read) one_more
 
   module _ (base : View) (rising : IsRising id_order base) where
-    pub part_at : (part : View) → says read part ≡ says read (view_at base (shown kept) (after_first low list i k)) → says read part ≡ says read (view_at base (shown kept) (slice_index_or list k 0))
-    part_at part so_far = so_far ∙ sym (says_at (shown kept) read low list i leads base rising k le) ∙ ap (λ n. says read (view_at base (shown kept) n)) (sym here)
-
-    pub part_more : (next : View) → says read next ≡ says read (view_at base (shown kept) (suc (slice_index_or list k 0))) → says read next ≡ says read (view_at base (shown kept) (after_first low list i (k + 1)))
-    part_more next e = e ∙ ap (λ n. says read (view_at base (shown kept) (suc n))) here ∙ ap (λ n. says read (view_at base (shown kept) (after_first low list i n))) one_more
+    pub says_more : (x : KeptSlot) (was now : Answer) → x ≡ slice_index_or kept (slice_index_or list k 0) x → was ≡ says read (view_at base (shown kept) (after_first low list i k))
+        → ((d : View) → IsRising id_order d → was ≡ says read d → now ≡ says read (applied x.delta d)) → now ≡ says read (view_at base (shown kept) (after_first low list i (k + 1)))
+    unfolding view_at
+    says_more x was now is so_far step =
+        let before = view_at base (shown kept) (request_at list i k) in
+        step before (view_rises base (shown kept) rising (request_at list i k)) (so_far ∙ sym (says_at (shown kept) read low list i leads base rising k le))
+        ∙ ap (λ (y : Slot). says read (applied y.delta before)) (slot_here x is)
+        ∙ ap (λ n. says read (view_at base (shown kept) (after_first low list i n))) one_more

@@ -62,7 +62,7 @@ module _ (a b : List KeptSlot) (low : ℕ) (same : (k : ℕ) (read : Read) → k
   notes_alike : (ns : List KeptNote) → LowNotes low ns → map (whole a) ns ≡ map (whole b) ns
   notes_alike [] h = refl
   notes_alike (n ∷ ns) h =
-      λ t. record { read = n.read; answer = n.answer; touching = same n.low n.read h.0 t ++ n.touching } ∷ notes_alike ns h.1 t
+      λ t. record { read = n.note.read; answer = n.note.answer; touching = same n.low n.note.read h.0 t ++ n.touching } ∷ notes_alike ns h.1 t
 
   slot_alike : (x : KeptSlot) → LowNotes low x.notes → slot_by (whole a) x ≡ slot_by (whole b) x
   slot_alike x h = ap (λ ns. record (slot_by plain x) { notes = ns }) (notes_alike x.notes h)
@@ -253,10 +253,10 @@ module _ (xs : List KeptSlot) (low : ℕ) (spoken : Read → ℕ → Bool) (sett
       go (m ∷ ns) zero here h lt = subst (λ (z : KeptNote). z.low ≤ low) (sym here) h.0
       go (m ∷ ns) (suc at) here h lt = go ns at here h.1 (omega (arith, lt))
 
-  pub list_verdict : (n : KeptNote) (note : Noted) → note ≡ whole xs n → (v : Verdict) → ListVerdict (shown xs) i n.read (whole xs n).touching v → ListVerdict old i note.read note.touching v
+  pub list_verdict : (n : KeptNote) (note : Noted) → note ≡ whole xs n → (v : Verdict) → ListVerdict (shown xs) i n.note.read (whole xs n).touching v → ListVerdict old i note.read note.touching v
   list_verdict n note is v h =
       subst (λ (m : Noted). ListVerdict old i m.read m.touching v) (sym is)
-      (subst (λ s. ListVerdict s i n.read (whole xs n).touching v) view (lists_shown xs i n.read (whole xs n).touching v h))
+      (subst (λ s. ListVerdict s i n.note.read (whole xs n).touching v) view (lists_shown xs i n.note.read (whole xs n).touching v h))
 
   pub answer_verdict : (base : View) (n : KeptNote) (note : Noted) → note ≡ whole xs n → (v : Verdict) → NoteVerdict base (shown xs) i (whole xs n) v → NoteVerdict base old i note v
   answer_verdict base n note is v h =

@@ -26,27 +26,6 @@ module _ (base : View) (slots : List Slot) where
   view_rises rising zero = rising
   view_rises rising (suc i) = rises (slot_at slots i).delta (view_at base slots i)
 
-  module _ (j : ℕ) (r : Read) (c : Delta) (is : c ≡ (slot_at slots j).delta) (part : View) (alike : says r part ≡ says r (view_at base slots j)) where
-    pub next_covered : (asked : Delta) (next : View) → ((d : View) → says r (applied asked d) ≡ says r (applied c d)) → next ≡ applied asked part → says r next ≡ says r (view_at base slots (suc j))
-    unfolding view_at
-    next_covered asked next same e =
-        ap (λ v. says r v) e ∙ same part ∙ depends c part (view_at base slots j) r alike ∙ ap (λ d. says r (applied d (view_at base slots j))) is
-
-    pub next_uncovered : IsRising id_order base → covers c r ≡ false → says r part ≡ says r (view_at base slots (suc j))
-    unfolding view_at
-    next_uncovered rising e =
-        alike ∙ sym (uncovered c (view_at base slots j) r (view_rises rising j) e) ∙ ap (λ d. says r (applied d (view_at base slots j))) is
-
-    -- the same, where the read is another name of this one
-
-    module _ (r' : Read) (same_read : r' ≡ r) where
-      pub covered_as : (asked : Delta) (next : View) → ((d : View) → says r' (applied asked d) ≡ says r' (applied c d)) → next ≡ applied asked part → says r next ≡ says r (view_at base slots (suc j))
-      covered_as asked next same e =
-          next_covered asked next (λ d. ap (λ z. says z (applied asked d)) (sym same_read) ∙ same d ∙ ap (λ z. says z (applied c d)) same_read) e
-
-      pub uncovered_as : IsRising id_order base → covers c r' ≡ false → says r part ≡ says r (view_at base slots (suc j))
-      uncovered_as rising e = next_uncovered rising (ap (covers c) (sym same_read) ∙ e)
-
 -- a delta takes its request's view to the next one's
 pub changes_one : (slots : List Slot) (low high : ℕ) (c : Delta) → c ≡ (slot_at slots low).delta → high ≡ suc low → (base : View) → applied c (view_at base slots low) ≡ view_at base slots high
 unfolding view_at

@@ -34,7 +34,7 @@ slot_by f x =
 
 -- a note, with the part of its list that is kept
 abbrev pub plain : KeptNote → Noted
-plain n = record { read = n.read; answer = n.answer; touching = n.touching }
+plain n = record { read = n.note.read; answer = n.note.answer; touching = n.touching }
 
 -- slots, their notes with the parts of their lists that are kept
 abbrev pub shown : List KeptSlot → List Slot
@@ -42,7 +42,7 @@ shown slots = map (slot_by plain) slots
 
 -- a note with its whole list: of the requests that were settled when it was made, that is the list of now
 abbrev pub whole : List KeptSlot → KeptNote → Noted
-whole slots n = record { read = n.read; answer = n.answer; touching = touching (shown slots) n.low n.read ++ n.touching }
+whole slots n = record { read = n.note.read; answer = n.note.answer; touching = touching (shown slots) n.low n.note.read ++ n.touching }
 
 -- the slots that are kept
 abbrev pub slots_of : List KeptSlot → List Slot
@@ -50,7 +50,7 @@ slots_of slots = map (slot_by (whole slots)) slots
 
 -- the noted read with its answer
 abbrev pub kept_note_of : KeptNote → Note
-kept_note_of n = record { read = n.read; answer = n.answer }
+kept_note_of n = n.note
 
 -- whether a request of this status may be an estimate
 abbrev pub may_estimate : Status → Bool

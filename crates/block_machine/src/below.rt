@@ -4,7 +4,7 @@ ghost use Rattle.std.specs.Prelude.{◌≡◌, ◌≤◌, ◌<◌, ◌&&◌, ◌
 ghost use Rattle.datasets.specs.Id.{id_order};
 ghost use Rattle.change_laws.specs.Laws.{IsRising};
 ghost use Rattle.reads.specs.Reads.{View as Base, says, applied, covers};
-ghost use Rattle.version_overlay.specs.Settled.{part_or};
+ghost use Rattle.version_overlay.specs.Settled.{changed_by, part_or};
 ghost use Rattle.block_machine.specs.Machine.{view_at, blocker as blocker_of, touching as touching_of};
 ghost use Rattle.block_machine.specs.Lower.{Leads};
 ghost use Rattle.block_machine.specs.Kept.{shown, Holds};
@@ -13,12 +13,13 @@ use crate::kept::Kept;
 use crate::state::Slot;
 use datasets::{Id, Read};
 use delta::Delta;
-use reads::{Answered, Scanned, View};
+use reads::{Scanned, View};
 use sets::Items;
 use std::alloc::{AllocError, Global};
+use version_overlay::along::{changed_part, push_covering};
 
 // The deltas of the requests from `low` on and below `high`, one after another, as one.
-fn changes(alloc: Global, slots: &[Slot], low: usize, high: usize) -> Result<Delta, AllocError>
+fn changes(alloc: Global, slots: &[Slot<'_>], low: usize, high: usize) -> Result<Delta, AllocError>
     requires some { low < high }
     requires within { high ≤ length slots.now }
     ensures { IfOk result (λ delta. (base : Base) → applied delta (view_at base (shown slots.now) low) ≡ view_at base (shown slots.now) high) }
@@ -35,7 +36,7 @@ fn changes(alloc: Global, slots: &[Slot], low: usize, high: usize) -> Result<Del
 /// A dataset that the requests below `low` leave, with the deltas of those from `low` on and below `high`.
 pub fn changed_from(
     alloc: Global,
-    slots: &[Slot],
+    slots: &[Slot<'_>],
     low: usize,
     high: usize,
     view: View,
@@ -50,66 +51,65 @@ pub fn changed_from(
     changes(alloc, slots, low, high)?.apply(alloc, view)
 }
 
-/// What a read says of the base with the deltas of the requests below `i`, from what it says of the base and of the settled changes: just that,
-/// where no other delta covers the read. An error comes only where memory runs out.
-pub fn answer_before(
+/// What is asked for of the base with the deltas of the requests below `i`, from what the read says of the base and of the settled changes:
+/// none where no delta has changed that. An error comes only where memory runs out.
+pub fn part_before(
     alloc: Global,
     scanned: &Scanned<'_>,
-    kept: &Kept,
+    kept: &Kept<'_>,
     list: &[usize],
     i: usize,
-) -> Result<Answered, AllocError>
+) -> Result<Option<View>, AllocError>
     requires holds { Holds kept.now }
     requires within { i ≤ length kept.now.slots.items }
     requires leads { Leads (shown kept.now.slots.items) scanned.now.read kept.now.low list.now i }
-    ensures { IfOk result (λ answer. answer ≡ says scanned.now.read (view_at scanned.now.dataset (shown kept.now.slots.items) i)) }
+    ensures { IfOk result (λ part. says scanned.now.read (part_or scanned.now.dataset part) ≡ says scanned.now.read (view_at scanned.now.dataset (shown kept.now.slots.items) i)) }
 {
     scanned.rises();
     let mut part = kept.settled.part(alloc, scanned)?;
     for request in list {
         let request = *request;
-        part = changed_part(alloc, scanned, kept, request, part)?;
+        part = changed_part(alloc, scanned, &kept.slots[request].delta, part)?;
     }
-    match part {
-        Some(part) => part.answer(alloc, scanned.read()),
-        None => scanned.answer(alloc),
-    }
+    Ok(part)
 }
 
-// What is asked for of the base, if a delta has changed it, with one delta more, where that covers the read.
-fn changed_part(
+/// The changes of the requests below `i` that the read asks for, one after another, as it says of the base with their deltas what it says
+/// after these. They are shared, and not copied.
+pub fn changes_before(
     alloc: Global,
     scanned: &Scanned<'_>,
-    kept: &Kept,
-    j: usize,
-    part: Option<View>,
-) -> Result<Option<View>, AllocError>
-    requires within { j < length kept.now.slots.items }
-    requires rising { IsRising id_order scanned.now.dataset }
-    requires alike { says scanned.now.read (part_or scanned.now.dataset part) ≡ says scanned.now.read (view_at scanned.now.dataset (shown kept.now.slots.items) j) }
-    ensures { IfOk result (λ next. says scanned.now.read (part_or scanned.now.dataset next) ≡ says scanned.now.read (view_at scanned.now.dataset (shown kept.now.slots.items) (suc j))) }
+    kept: &Kept<'_>,
+    list: &[usize],
+    i: usize,
+) -> Result<Vec<Delta>, AllocError>
+    requires holds { Holds kept.now }
+    requires within { i ≤ length kept.now.slots.items }
+    requires leads { Leads (shown kept.now.slots.items) scanned.now.read kept.now.low list.now i }
+    ensures { IfOk result (λ found. says scanned.now.read (changed_by found.items scanned.now.dataset) ≡ says scanned.now.read (view_at scanned.now.dataset (shown kept.now.slots.items) i)) }
 {
-    let (delta, read) = (&kept.slots[j].delta, scanned.read());
-    if !delta.covers(read) {
-        return Ok(part);
+    scanned.rises();
+    let mut found = kept.settled.changes(alloc, scanned.read())?;
+    for request in list {
+        let request = *request;
+        push_covering(
+            alloc,
+            &mut found,
+            &kept.slots[request].delta,
+            scanned.read(),
+        )?;
     }
-    let part = part_of(alloc, scanned, part)?;
-    let next = delta.asked(alloc, read)?.apply(alloc, part)?;
-    Ok(Some(next))
-}
-
-// What is asked for of the base, where no delta has changed it yet, or what is left of it.
-fn part_of(alloc: Global, scanned: &Scanned<'_>, part: Option<View>) -> Result<View, AllocError>
-    ensures { IfOk result (λ found. says scanned.now.read found ≡ says scanned.now.read (part_or scanned.now.dataset part)) }
-{
-    match part {
-        Some(part) => Ok(part),
-        None => scanned.part(alloc),
-    }
+    Ok(found)
 }
 
 /// The greatest request below `i` that is an estimate and whose delta covers the read. The list begins at `low`, below which all are settled.
-pub fn blocker(kept: &Kept, low: usize, list: &[usize], i: usize, read: &Read<Id>) -> Option<usize>
+pub fn blocker(
+    kept: &Kept<'_>,
+    low: usize,
+    list: &[usize],
+    i: usize,
+    read: &Read<Id>,
+) -> Option<usize>
     requires holds { Holds kept.now }
     requires low { low ≤ kept.now.low }
     requires within { i ≤ length kept.now.slots.items }
@@ -125,7 +125,12 @@ pub fn blocker(kept: &Kept, low: usize, list: &[usize], i: usize, read: &Read<Id
 }
 
 // The request of this slot, if it is an estimate whose delta covers the read.
-fn blocker_or(slot: &Slot, request: usize, read: &Read<Id>, found: Option<usize>) -> Option<usize>
+fn blocker_or(
+    slot: &Slot<'_>,
+    request: usize,
+    read: &Read<Id>,
+    found: Option<usize>,
+) -> Option<usize>
     ensures { result ≡ (if slot.now.estimate && covers slot.now.delta read.now then Some request else found) }
 {
     if slot.estimate && slot.delta.covers(read) {
@@ -138,7 +143,7 @@ fn blocker_or(slot: &Slot, request: usize, read: &Read<Id>, found: Option<usize>
 /// The requests from `low` on and below `i` whose delta covers the read, each with the incarnation of its last publication.
 pub fn touching(
     alloc: Global,
-    slots: &[Slot],
+    slots: &[Slot<'_>],
     low: usize,
     list: &[usize],
     i: usize,
@@ -159,7 +164,7 @@ pub fn touching(
 // The request of this slot, if its delta covers the read.
 fn push_touching(
     found: &mut Items<(usize, u64)>,
-    slot: &Slot,
+    slot: &Slot<'_>,
     request: usize,
     read: &Read<Id>,
 ) -> Result<(), AllocError>

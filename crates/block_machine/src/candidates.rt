@@ -39,7 +39,7 @@ fn push_between(found: &mut Vec<usize>, from: usize, to: usize) -> Result<(), Al
 /// All that are settled are among them.
 pub fn candidates_for(
     alloc: Global,
-    kept: &Kept,
+    kept: &Kept<'_>,
     from: usize,
     i: usize,
     read: &Read<Id>,

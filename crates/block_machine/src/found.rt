@@ -1,20 +1,24 @@
 //! What a read comes to at a request.
 ghost use Rattle.std.specs.Prelude.{◌≡◌, ◌≤◌, length, IfOk};
-ghost use Rattle.block_machine.specs.Kept.{Holds, IsFound};
+ghost use Rattle.reads.specs.Reads.{says};
+ghost use Rattle.block_machine.specs.Kept.{shown, Holds, IsFound};
+ghost use Rattle.block_machine.specs.Lower.{Leads};
+ghost use Rattle.block_machine.specs.Machine.{view_at};
 
-use crate::below::{answer_before, blocker, touching};
+use crate::below::{blocker, changes_before, part_before, touching};
 use crate::candidates::candidates_for;
 use crate::kept::Kept;
 use crate::state::Noted;
-use reads::{Answered, Scanned};
+use reads::{Answered, IndexedView, Scanned};
 use std::alloc::{AllocError, Global};
+use version_overlay::{LeanNote, is_long};
 
 /// What is found of a read: an estimate that blocks it, or the note of its answer.
 #[derive(Drop)]
-pub enum Found {
+pub enum Found<'a> {
     /// The greatest lower request that is an estimate and whose delta covers the read.
     Blocked(usize),
-    Noted(Noted),
+    Noted(Noted<'a>),
 }
 
 /// What a read comes to: an estimate that blocks it, or its answer, twice.
@@ -26,12 +30,14 @@ pub enum Asked {
 }
 
 /// Finds what a read says at request `i`, from what it says of the base.
-pub fn look(
+pub fn look<'a>(
     alloc: Global,
+    base: &'a IndexedView,
     scanned: &Scanned<'_>,
-    kept: &Kept,
+    kept: &Kept<'_>,
     i: usize,
-) -> Result<Found, AllocError>
+) -> Result<Found<'a>, AllocError>
+    requires base { scanned.now.dataset ≡ base.now }
     requires holds { Holds kept.now }
     requires within { i ≤ length kept.now.slots.items }
     requires above { kept.now.low ≤ i }
@@ -42,12 +48,40 @@ pub fn look(
     if let Some(j) = blocker(kept, low, &list, i, read) {
         return Ok(Found::Blocked(j));
     }
-    let answer = answer_before(alloc, scanned, kept, &list, i)?;
+    let note = note_of(alloc, base, scanned, kept, &list, i)?;
     let touching = touching(alloc, kept.slots.as_slice(), low, &list, i, read)?;
     Ok(Found::Noted(Noted {
-        read: *read,
-        answer,
+        note,
         low,
         touching,
     }))
+}
+
+// The note of what a read says at request `i`. An answer that the base alone gives is found again there, and a long one by the changes that
+// it has too.
+fn note_of<'a>(
+    alloc: Global,
+    base: &'a IndexedView,
+    scanned: &Scanned<'_>,
+    kept: &Kept<'_>,
+    list: &[usize],
+    i: usize,
+) -> Result<LeanNote<'a>, AllocError>
+    requires base { scanned.now.dataset ≡ base.now }
+    requires holds { Holds kept.now }
+    requires within { i ≤ length kept.now.slots.items }
+    requires leads { Leads (shown kept.now.slots.items) scanned.now.read kept.now.low list.now i }
+    ensures { IfOk result (λ note. note ≡ record { read = scanned.now.read; answer = says scanned.now.read (view_at scanned.now.dataset (shown kept.now.slots.items) i) }) }
+{
+    let read = scanned.read();
+    let Some(part) = part_before(alloc, scanned, kept, list, i)? else {
+        let answer = scanned.answer(alloc)?;
+        return Ok(LeanNote::lean(base, read, answer, Vec::new(alloc)));
+    };
+    let answer = part.answer(alloc, read)?;
+    if !is_long(&answer) {
+        return Ok(LeanNote::kept(base, read, answer));
+    }
+    let changes = changes_before(alloc, scanned, kept, list, i)?;
+    Ok(LeanNote::lean(base, read, answer, changes))
 }

@@ -5,8 +5,8 @@ use version_overlay::{Settled, Spoken};
 
 /// The slots of a block's requests, and what the first of them make of a dataset, as one, once they are committed.
 #[derive(Drop)]
-pub struct Kept {
-    pub slots: Vec<Slot>,
+pub struct Kept<'a> {
+    pub slots: Vec<Slot<'a>>,
     /// How many of the first requests are settled.
     pub low: usize,
     /// The changes of those that are settled.

@@ -23,8 +23,8 @@ use std::marker::Model;
 
 /// The machine of a block.
 #[derive(Drop)]
-pub struct Machine {
-    slots: Slots,
+pub struct Machine<'a> {
+    slots: Slots<'a>,
     clock: u64,
     front: usize,
     // The last change of a committed request.
@@ -33,7 +33,7 @@ pub struct Machine {
     standings: StampTree,
 }
 
-impl Model for Machine {
+impl<'a> Model for Machine<'a> {
     ghost use Rattle.block_machine.specs.Machine.{State};
 
     ghost Value = { State };
@@ -45,9 +45,13 @@ impl Model for Machine {
     ghost invariant = { λ m. KeepsBeside m.slots m.front m.latest m.standings };
 }
 
-impl Machine {
+impl<'a> Machine<'a> {
     /// The machine of a block of this many requests. The orders are those in which committed changes are kept beside SPOG.
-    pub fn new(alloc: Global, size: usize, orders: &[Arrangement]) -> Result<Machine, AllocError>
+    pub fn new(
+        alloc: Global,
+        size: usize,
+        orders: &[Arrangement],
+    ) -> Result<Machine<'a>, AllocError>
         ensures { IfOk result (λ m. m ≡ fresh size) }
     {
         let standing = Standing {
@@ -93,7 +97,7 @@ impl Machine {
     }
 
     /// The reads of a request's incarnation, in order.
-    pub fn notes(&self, i: usize) -> &[Noted]
+    pub fn notes(&self, i: usize) -> &[Noted<'a>]
         ensures { map kept_note_of result.now ≡ transcript_of (slot_at self.now.slots i).notes }
     {
         self.slots.notes(i)
@@ -135,7 +139,7 @@ impl Machine {
     pub fn step(
         &mut self,
         alloc: Global,
-        base: &IndexedView,
+        base: &'a IndexedView,
         worker: u32,
         event: &Event,
         scans: &[Scanned<'_>],
@@ -149,7 +153,7 @@ impl Machine {
     {
         match event {
             Event::Take(i) => Ok(twice(self.take(worker, *i))),
-            Event::Read(i, n, _) => self.read(alloc, &scans[0], worker, *i, *n),
+            Event::Read(i, n, _) => self.read(alloc, base, &scans[0], worker, *i, *n),
             Event::Publish(i, n, finished) => {
                 let reply = self.publish(alloc, worker, *i, *n, finished.as_ref())?;
                 Ok(twice(reply))
@@ -200,11 +204,13 @@ impl Machine {
     fn read(
         &mut self,
         alloc: Global,
+        base: &'a IndexedView,
         scanned: &Scanned<'_>,
         worker: u32,
         i: usize,
         n: u64,
     ) -> Result<(Reply, Reply), AllocError>
+        requires { scanned.now.dataset ≡ base.now }
         ensures same { IfOk result (λ replies. replies.1 ≡ replies.0) }
         ensures allowed { IfOk result (λ replies. IsAllowed scanned.now.dataset self.old worker (Event.Read i n scanned.now.read) replies.0) }
         ensures changed { IfOk result (λ replies. self.new ≡ after self.old worker (Event.Read i n scanned.now.read) replies.0) }
@@ -215,7 +221,7 @@ impl Machine {
             return Ok(twice(refusal));
         }
         self.slots.settle(alloc, self.front)?;
-        match self.slots.read(alloc, scanned, i)? {
+        match self.slots.read(alloc, base, scanned, i)? {
             Asked::Blocked(j) => Ok((Reply::Blocked(j), Reply::Blocked(j))),
             Asked::Answered(answer, again) => {
                 Ok((Reply::Answered(answer), Reply::Answered(again)))
@@ -245,7 +251,7 @@ impl Machine {
         let Some(finished) = finished else {
             return Ok(Reply::NotYet);
         };
-        if !self.slots.has_transcript(i, finished) {
+        if !self.slots.has_transcript(alloc, i, finished)? {
             return Ok(Reply::NotYet);
         }
         self.store(alloc, i, n, finished)?;

@@ -7,7 +7,7 @@ use crate::kept::Kept;
 use std::alloc::{AllocError, Global};
 
 // The first request that is not settled is settled. After want of memory nothing is.
-fn settle_next(alloc: Global, kept: &mut Kept) -> Result<(), AllocError>
+fn settle_next(alloc: Global, kept: &mut Kept<'_>) -> Result<(), AllocError>
     requires holds { Holds kept.old }
     requires within { kept.old.low < length kept.old.slots.items }
     requires closed { is_closed (Some (slot_at (shown kept.old.slots.items) kept.old.low).status) ≡ true }
@@ -22,7 +22,7 @@ fn settle_next(alloc: Global, kept: &mut Kept) -> Result<(), AllocError>
 }
 
 /// The requests below `to` are settled, as far as there is memory.
-pub fn settle(alloc: Global, kept: &mut Kept, to: usize) -> Result<(), AllocError>
+pub fn settle(alloc: Global, kept: &mut Kept<'_>, to: usize) -> Result<(), AllocError>
     requires holds { Holds kept.old }
     requires within { to ≤ length kept.old.slots.items }
     requires closed { (j : ℕ) → j < to → is_closed (Some (slot_at (shown kept.old.slots.items) j).status) ≡ true }

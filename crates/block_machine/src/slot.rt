@@ -13,7 +13,7 @@ use stamp_tree::{Due, Standing};
 use std::alloc::{AllocError, Global};
 
 /// A request before its first event.
-pub fn fresh(alloc: Global) -> Slot
+pub fn fresh<'a>(alloc: Global) -> Slot<'a>
     ensures { result ≡ fresh_kept }
 {
     Slot {
@@ -30,7 +30,7 @@ pub fn fresh(alloc: Global) -> Slot
 }
 
 /// When something is to be done for the request but to commit it, and its last change.
-pub fn standing(slot: &Slot) -> Standing
+pub fn standing(slot: &Slot<'_>) -> Standing
     ensures { result ≡ standing_of (slot_by plain slot.now) }
 {
     let due = match slot.status {
@@ -48,7 +48,7 @@ pub fn standing(slot: &Slot) -> Standing
 }
 
 /// The worker executes incarnation `n`, with no notes yet.
-pub fn take(slot: &mut Slot, n: u64, worker: u32)
+pub fn take(slot: &mut Slot<'_>, n: u64, worker: u32)
     ensures by { (f : KeptNote → Described) → slot_by f slot.new ≡ taken (slot_by f slot.old) n worker }
     ensures notes { slot.new.notes ≡ [] }
 {
@@ -57,15 +57,15 @@ pub fn take(slot: &mut Slot, n: u64, worker: u32)
 }
 
 /// One more note. After want of memory the slot is as before.
-pub fn note(slot: &mut Slot, noted: Noted) -> Result<(), AllocError>
-    ensures ok { OnOk result (slot.new ≡ record slot.old { notes = slot.old.notes ++ noted ∷ [] }) }
+pub fn note<'a>(slot: &mut Slot<'a>, noted: Noted<'a>) -> Result<(), AllocError>
+    ensures ok { OnOk result (slot.new ≡ record slot.old { notes = slot.old.notes ++ noted.entry ∷ [] }) }
     ensures err { OnErr result (slot.new ≡ slot.old) }
 {
     slot.notes.push(noted)
 }
 
 /// A pass begins. With no notes there is nothing to check, and the stamp is the clock.
-pub fn begin(slot: &mut Slot, clock: u64)
+pub fn begin(slot: &mut Slot<'_>, clock: u64)
     ensures by { (f : KeptNote → Described) → slot_by f slot.new ≡ begun_slot (slot_by f slot.old) (map f slot.old.notes) clock }
     ensures notes { slot.new.notes ≡ slot.old.notes }
 {
@@ -82,7 +82,7 @@ pub fn begin(slot: &mut Slot, clock: u64)
 }
 
 /// The next note comes. After the last one the pass is over, and its start is the stamp.
-pub fn pass(slot: &mut Slot, stands: Pass)
+pub fn pass(slot: &mut Slot<'_>, stands: Pass)
     requires { stands.next < length slot.old.notes }
     ensures by { (f : KeptNote → Described) → slot_by f slot.new ≡ passed_slot (slot_by f slot.old) (Some stands) }
     ensures notes { slot.new.notes ≡ slot.old.notes }
@@ -101,7 +101,7 @@ pub fn pass(slot: &mut Slot, stands: Pass)
 }
 
 /// The next incarnation is ready. The delta stays, as an estimate.
-pub fn abort(slot: &mut Slot, n: u64)
+pub fn abort(slot: &mut Slot<'_>, n: u64)
     requires { n + 1 < 2 ^ 64 }
     ensures by { (f : KeptNote → Described) → slot_by f slot.new ≡ aborted_slot (slot_by f slot.old) n }
     ensures notes { slot.new.notes ≡ [] }
@@ -113,7 +113,7 @@ pub fn abort(slot: &mut Slot, n: u64)
 }
 
 /// The next incarnation is ready. The delta and its mark stay.
-pub fn give_up(slot: &mut Slot, n: u64)
+pub fn give_up(slot: &mut Slot<'_>, n: u64)
     requires { n + 1 < 2 ^ 64 }
     ensures by { (f : KeptNote → Described) → slot_by f slot.new ≡ given_slot (slot_by f slot.old) n }
     ensures notes { slot.new.notes ≡ [] }
@@ -123,7 +123,7 @@ pub fn give_up(slot: &mut Slot, n: u64)
 }
 
 /// The request is committed.
-pub fn commit(slot: &mut Slot)
+pub fn commit(slot: &mut Slot<'_>)
     ensures by { (f : KeptNote → Described) → slot_by f slot.new ≡ committed_slot (slot_by f slot.old) slot.old.status }
     ensures notes { slot.new.notes ≡ slot.old.notes }
 {
@@ -135,7 +135,7 @@ pub fn commit(slot: &mut Slot)
 /// A publication. It answers whether the delta is as before. After want of memory the slot is as before.
 pub fn publish(
     alloc: Global,
-    slot: &mut Slot,
+    slot: &mut Slot<'_>,
     n: u64,
     finished: &Finished,
     clock: u64,
@@ -158,5 +158,29 @@ pub fn publish(
     slot.estimate = false;
     slot.pass = None;
     slot.stamp = None;
+    forget_all(alloc, &mut slot.notes);
     Ok(same)
+}
+
+// What can give memory back that contracts don't see.
+trait Forget: Drop {
+    fn forget(&mut self)
+        ensures { self.new ≡ self.old };
+}
+
+impl<'a> Forget for Noted<'a> {
+    // Its answer is no longer kept, where it can be found again.
+    fn forget(&mut self) {
+        self.note.forget();
+    }
+}
+
+fn forget_all<T: Forget>(alloc: Global, list: &mut Items<T>)
+    ensures { list.new ≡ list.old }
+{
+    let mut items = std::mem::replace(list, Items::new(alloc)).into_vec();
+    for item in items.iter_mut() {
+        item.forget();
+    }
+    *list = Items::from_vec(items);
 }

@@ -23,11 +23,11 @@ use version_overlay::{Settled, Spoken};
 
 /// The slots of a block's requests, in their order. Contracts see each with its whole notes.
 #[derive(Drop)]
-pub struct Slots {
-    kept: Kept,
+pub struct Slots<'a> {
+    kept: Kept<'a>,
 }
 
-impl Model for Slots {
+impl<'a> Model for Slots<'a> {
     ghost use Rattle.std.specs.Prelude.{List};
     ghost use Rattle.block_machine.specs.Machine.{Slot};
     ghost use Rattle.block_machine.specs.Kept.{slots_of, Holds};
@@ -39,9 +39,9 @@ impl Model for Slots {
     ghost invariant = { λ s. Holds s.kept };
 }
 
-impl Slots {
+impl<'a> Slots<'a> {
     /// Those of this many requests before their first event. The orders are those in which what they change is kept beside SPOG.
-    pub fn new(alloc: Global, size: usize, orders: &[Arrangement]) -> Result<Slots, AllocError>
+    pub fn new(alloc: Global, size: usize, orders: &[Arrangement]) -> Result<Slots<'a>, AllocError>
         ensures { IfOk result (λ slots. slots ≡ replicate size fresh_slot) }
     {
         let mut slots = Vec::new(alloc);
@@ -110,7 +110,7 @@ impl Slots {
     }
 
     /// The reads of the request's incarnation, in order.
-    pub fn notes(&self, i: usize) -> &[Noted]
+    pub fn notes(&self, i: usize) -> &[Noted<'a>]
         ensures { map kept_note_of result.now ≡ transcript_of (slot_at self.now i).notes }
     {
         if i < self.kept.slots.len() {
@@ -120,11 +120,16 @@ impl Slots {
         }
     }
 
-    /// Whether the run's transcript is the notes.
-    pub fn has_transcript(&self, i: usize, finished: &Finished) -> bool
-        ensures { IsTrue result ↔ (finished.now.transcript ≡ transcript_of (slot_at self.now i).notes) }
+    /// Whether the run's transcript is the notes. An error comes only where memory runs out.
+    pub fn has_transcript(
+        &self,
+        alloc: Global,
+        i: usize,
+        finished: &Finished,
+    ) -> Result<bool, AllocError>
+        ensures { IfOk result (λ same. IsTrue same ↔ (finished.now.transcript ≡ transcript_of (slot_at self.now i).notes)) }
     {
-        is_transcript(self.notes(i), finished.transcript.as_slice())
+        is_transcript(alloc, self.notes(i), finished.transcript.as_slice())
     }
 
     /// The base with the deltas of the first `n` requests.
@@ -184,19 +189,21 @@ impl Slots {
     pub fn read(
         &mut self,
         alloc: Global,
+        base: &'a IndexedView,
         scanned: &Scanned<'_>,
         i: usize,
     ) -> Result<Asked, AllocError>
-        requires { is_closed (status_of self.old i) ≡ false }
+        requires base { scanned.now.dataset ≡ base.now }
+        requires still { is_closed (status_of self.old i) ≡ false }
         ensures ok { IfOk result (λ asked. IsAsked scanned.now.dataset self.old self.new i scanned.now.read asked) }
         ensures err { OnErr result (self.new ≡ self.old) }
     {
-        let noted = match look(alloc, scanned, &self.kept, i)? {
+        let noted = match look(alloc, base, scanned, &self.kept, i)? {
             Found::Blocked(j) => return Ok(Asked::Blocked(j)),
             Found::Noted(noted) => noted,
         };
-        let answer = noted.answer.copied(alloc)?;
-        let again = noted.answer.copied(alloc)?;
+        let answer = noted.note.answer(alloc)?;
+        let again = noted.note.answer(alloc)?;
         slot::note(&mut self.kept.slots[i], noted)?;
         Ok(Asked::Answered(answer, again))
     }
@@ -285,7 +292,7 @@ impl Slots {
 #[tactic(auto, unfolding(crate::specs::Serial::replies_to))]
 fn replies_before(
     alloc: Global,
-    slots: &[Slot],
+    slots: &[Slot<'_>],
     n: usize,
 ) -> Result<Vec<meaning::Reply>, AllocError>
     requires { n ≤ length slots.now }

@@ -4,6 +4,7 @@ use datasets::{Id, Read};
 use delta::{Delta, Finished};
 use reads::Answered;
 use sets::Items;
+use version_overlay::LeanNote;
 
 /// A request's incarnation, counted from 0, and how far it has come.
 #[derive(Clone, Copy)]
@@ -25,9 +26,9 @@ pub struct Pass {
 /// A read as it was answered, with the lower requests whose deltas touched it, each by the incarnation of its last publication. Those that
 /// were settled by then never change again, and are left out.
 #[derive(Drop)]
-pub struct Noted {
-    pub read: Read<Id>,
-    pub answer: Answered,
+pub struct Noted<'a> {
+    /// The read and its answer, which is kept while the request is executed, and later found again.
+    pub note: LeanNote<'a>,
     /// How many of the first requests were settled when the read was answered.
     pub low: usize,
     pub touching: Items<(usize, u64)>,
@@ -35,10 +36,10 @@ pub struct Noted {
 
 /// One request's part of the machine.
 #[derive(Drop)]
-pub struct Slot {
+pub struct Slot<'a> {
     pub status: Status,
     /// The reads of this incarnation, in order.
-    pub notes: Items<Noted>,
+    pub notes: Items<Noted<'a>>,
     /// The delta of the last publication, at first empty.
     pub delta: Delta,
     /// The incarnation of the last publication.

@@ -1,29 +1,26 @@
 //! Whether a run's transcript is what its request has noted.
-ghost use Rattle.std.specs.Prelude.{◌≡◌, ◌↔◌, IsTrue, map};
+ghost use Rattle.std.specs.Prelude.{◌≡◌, ◌↔◌, IsTrue, IfOk, map};
 ghost use Rattle.block_machine.specs.Kept.{kept_note_of};
 
 use crate::state::Noted;
 use reads::Note;
-use reads::same::same_reads;
+use std::alloc::{AllocError, Global};
 
-/// Whether these are the noted reads with their answers.
-pub fn is_transcript(notes: &[Noted], transcript: &[Note]) -> bool
-    ensures { IsTrue result ↔ (transcript.now ≡ map kept_note_of notes.now) }
+/// Whether these are the noted reads with their answers. An error comes only where memory runs out.
+pub fn is_transcript(
+    alloc: Global,
+    notes: &[Noted<'_>],
+    transcript: &[Note],
+) -> Result<bool, AllocError>
+    ensures { IfOk result (λ same. IsTrue same ↔ (transcript.now ≡ map kept_note_of notes.now)) }
 {
     if notes.len() != transcript.len() {
-        return false;
+        return Ok(false);
     }
     for at in 0..notes.len() {
-        if !is_entry(&notes[at], &transcript[at]) {
-            return false;
+        if !notes[at].note.is_note(alloc, &transcript[at])? {
+            return Ok(false);
         }
     }
-    true
-}
-
-// Whether this is the noted read with its answer.
-fn is_entry(note: &Noted, entry: &Note) -> bool
-    ensures { IsTrue result ↔ (entry.now ≡ kept_note_of note.now) }
-{
-    same_reads(&entry.read, &note.read) && entry.answer.is_same(&note.answer)
+    Ok(true)
 }

@@ -3,12 +3,13 @@ ghost use Rattle.std.specs.Prelude.{◌≡◌, ◌≤◌, ◌↔◌, length, IsT
 ghost use Rattle.block_machine.specs.Machine.{NoteVerdict, ListVerdict};
 ghost use Rattle.block_machine.specs.Kept.{shown, whole, Holds};
 
-use crate::below::{answer_before, blocker, touching};
+use crate::below::{blocker, part_before, touching};
 use crate::candidates::candidates_for;
 use crate::kept::Kept;
 use crate::state::Noted;
 use reads::{IndexedView, Scanned};
 use std::alloc::{AllocError, Global};
+use version_overlay::along::answer_of;
 
 /// What a check of a note finds.
 #[derive(Clone, Copy)]
@@ -25,22 +26,24 @@ pub enum Verdict {
 pub(crate) fn check(
     alloc: Global,
     base: &IndexedView,
-    kept: &Kept,
+    kept: &Kept<'_>,
     i: usize,
-    note: &Noted,
+    note: &Noted<'_>,
 ) -> Result<Verdict, AllocError>
     requires holds { Holds kept.now }
     requires within { i ≤ length kept.now.slots.items }
     requires above { kept.now.low ≤ i }
     ensures { IfOk result (λ verdict. NoteVerdict base.now (shown kept.now.slots.items) i (whole kept.now.slots.items note.now) verdict) }
 {
-    let list = candidates_for(alloc, kept, kept.low, i, &note.read)?;
-    if let Some(j) = blocker(kept, kept.low, &list, i, &note.read) {
+    let read = note.note.read();
+    let list = candidates_for(alloc, kept, kept.low, i, read)?;
+    if let Some(j) = blocker(kept, kept.low, &list, i, read) {
         return Ok(Verdict::Blocked(j));
     }
-    let scanned = Scanned::new(alloc, base, &note.read)?;
-    let now = answer_before(alloc, &scanned, kept, &list, i)?;
-    if note.answer.is_same(&now) {
+    let scanned = Scanned::new(alloc, base, read)?;
+    let part = part_before(alloc, &scanned, kept, &list, i)?;
+    let now = answer_of(alloc, &scanned, part)?;
+    if note.note.is_answer(alloc, &now)? {
         Ok(Verdict::Same)
     } else {
         Ok(Verdict::Changed)
@@ -51,22 +54,23 @@ pub(crate) fn check(
 /// answer is computed.
 pub(crate) fn check_list(
     alloc: Global,
-    kept: &Kept,
+    kept: &Kept<'_>,
     i: usize,
-    note: &Noted,
+    note: &Noted<'_>,
 ) -> Result<Verdict, AllocError>
     requires holds { Holds kept.now }
     requires within { i ≤ length kept.now.slots.items }
     requires low { note.now.low ≤ kept.now.low }
     requires above { kept.now.low ≤ i }
-    ensures { IfOk result (λ verdict. ListVerdict (shown kept.now.slots.items) i note.now.read (whole kept.now.slots.items note.now).touching verdict) }
+    ensures { IfOk result (λ verdict. ListVerdict (shown kept.now.slots.items) i note.now.note.read (whole kept.now.slots.items note.now).touching verdict) }
 {
-    let along = candidates_for(alloc, kept, note.low, i, &note.read)?;
-    if let Some(j) = blocker(kept, note.low, &along, i, &note.read) {
+    let read = note.note.read();
+    let along = candidates_for(alloc, kept, note.low, i, read)?;
+    if let Some(j) = blocker(kept, note.low, &along, i, read) {
         return Ok(Verdict::Blocked(j));
     }
     let slots = kept.slots.as_slice();
-    let now = touching(alloc, slots, note.low, &along, i, &note.read)?;
+    let now = touching(alloc, slots, note.low, &along, i, read)?;
     if is_same_list(note.touching.as_slice(), now.as_slice()) {
         Ok(Verdict::Same)
     } else {

@@ -1,6 +1,9 @@
 -- A book is the replay of its journal, before and after a step.
-use Rattle.std.proofs.Common.{◌≡◌, ℕ, ◌<◌, ◌≤◌, List, [], ◌∷◌, ◌++◌, length, Option, Some, None, Ok, option_map, slice_get, refl, sym, ap, ◌∙◌, subst, arith}
+use Rattle.std.proofs.Common.{◌≡◌, ℕ, ◌==◌, ◌<◌, ◌≤◌, Bool, true, false, if◌then◌else◌, List, [], ◌∷◌, ◌++◌, length, map, Option, Some, None, Ok, option_map, slice_get, refl, sym, ap, ◌∙◌, subst, arith}
+use Rattle.std.specs.Prelude.{◌≢◌}
+use Rattle.std.proofs.lemmas.List.{map-append, length-map}
 use Rattle.std.proofs.lemmas.Option.{slice_get-get_or, slice_get_within}
+use Rattle.terms.specs.declared.term.Term.{Term}
 use Rattle.datasets.specs.declared.id.Id.{Id}
 use Rattle.dict.specs.Dictionary.{numbers}
 use Rattle.meaning.specs.Run.{Request, answer_of, run_of_first}
@@ -8,32 +11,51 @@ use Rattle.reads.specs.Reads.{View, IsDataset}
 use Rattle.delta.specs.Sound.{IsSoundFor}
 use Rattle.delta.specs.declared.finished.Finished.{Finished}
 use Rattle.block_machine.specs.declared.state.Event.{Event}
-use Rattle.block_machine.specs.declared.state.Event.TheVariants.{Publish}
+use Rattle.block_machine.specs.declared.state.Event.TheVariants.{Read, Publish}
 use Rattle.block_machine.specs.declared.state.Reply.{Reply}
-use Rattle.block_machine.specs.declared.state.Reply.TheVariants.{Published, Stale, NotYet}
+use Rattle.block_machine.specs.declared.state.Reply.TheVariants.{Answered, Published, Stale, NotYours, NotYet}
+use Rattle.block_machine.specs.declared.state.Status.{Status}
+use Rattle.block_machine.specs.declared.state.Status.TheVariants.{Ready, Executing, Executed, Committed}
 use Rattle.block_machine.specs.declared.state.Entry.{Entry}
 use Rattle.block_machine.specs.Machine.{Slot, State, fresh, status_of, slot_at, execution_refusal, Unless, PublishReply, IsAllowed, after, state_after, view_at}
 use Rattle.block_machine.specs.Serial.{Setting, IsSetting, IsSound, IsSoundEntry, IsLawful, IsHistory, replies_to, FrontIsSerial}
-use Rattle.book.specs.Run.{Run, answer_at, setting, setting_of, front_run, IsReplayed, kept, IsSoundEvent}
+use Rattle.book.specs.declared.journal_entry.JournalEntry.{JournalEntry}
+use Rattle.book.specs.JournalEntry.{journal_entry_of, entry_in, history_from}
+use Rattle.book.specs.Run.{Run, run_of_journal, answer_at, setting, setting_of, front_run, IsReplayed, kept, IsSoundEvent}
 use Rattle.book.proofs.Meaning.{is_setting, serial_run}
 
 -- before any event
-pub replayed_none : (run : Run) (machine : State) → IsDataset run.base → run.history ≡ [] → machine ≡ fresh (length run.block) → IsReplayed run machine
+pub run_none : (terms : List Term) (base : View) (block : List (Request Id)) (journal : List JournalEntry) → journal ≡ [] → run_of_journal terms base block journal ≡ record { terms = terms; base = base; block = block; history = [] }
+unfolding history_from
+run_none terms base block journal none = ap (run_of_journal terms base block) none
+
+none_yet : (run : Run) (machine : State) → IsDataset run.base → run.history ≡ [] → machine ≡ fresh (length run.block) → IsReplayed run [] machine
 unfolding state_after IsHistory
-replayed_none run machine h none e =
+none_yet run machine h none e =
     record {
       base = h;
       lawful = subst (λ (es : List Entry). IsHistory (setting_of run) es) (sym none) tt;
+      kept = ap (map journal_entry_of) none;
       state = e ∙ ap (λ (es : List Entry). state_after (fresh (length run.block)) es) (sym none);
     }
 
-module _ (run : Run) (machine : State) (r : IsReplayed run machine) where
+pub replayed_none : (terms : List Term) (base : View) (block : List (Request Id)) (journal : List JournalEntry) (machine : State) → IsDataset base → journal ≡ [] → machine ≡ fresh (length block)
+    → IsReplayed (run_of_journal terms base block journal) journal machine
+unfolding history_from
+replayed_none terms base block journal machine h none e =
+    subst (λ (es : List JournalEntry). IsReplayed (run_of_journal terms base block es) es machine) (sym none)
+    (none_yet (run_of_journal terms base block []) machine h refl e)
+
+module _ (run : Run) (journal : List JournalEntry) (machine : State) (r : IsReplayed run journal machine) where
   -- what a law says of every history, said of the book's journal and its machine
   pub said_of_book : (Says : Setting → List Entry → State → Type 0) → ((m : Setting) (history : List Entry) → IsSetting m → IsHistory m history → Says m history (state_after (fresh m.size) history)) → Says (setting_of run) run.history machine
   unfolding setting
   said_of_book Says law =
       subst (λ (s : State). Says (setting_of run) run.history s) (sym r.state)
       (law (setting_of run) run.history (is_setting run.terms run.base run.block r.base) r.lawful)
+
+  pub as_long : length run.history ≡ length journal
+  as_long = sym (length-map run.history journal_entry_of) ∙ ap length r.kept
 
   -- WHAT THE FRONT IS
 
@@ -87,7 +109,48 @@ published_within base s w i n f h = go (slice_get s.slots i) refl h
     go None e h = absurd (let stale : Published ≡ Stale = h in (cc))
     go (Some x) e h = slice_get_within s.slots i x e
 
-module _ (run : Run) (machine : State) (old : IsReplayed run machine) (size : length machine.slots ≡ length run.block) where
+-- WHAT IS KEPT STANDS FOR THE WHOLE
+
+-- the row of a reply that is no refusal
+no_refusal : (o : Option Status) (n w : ℕ) (r : Reply) (P : Type 0) → r ≢ Stale → r ≢ NotYours → Unless (execution_refusal o n w) r P → P
+no_refusal None n w r P a b h = absurd (a h)
+no_refusal (Some (Ready m)) n w r P a b h = absurd (a h)
+no_refusal (Some (Executed m)) n w r P a b h = absurd (a h)
+no_refusal (Some (Committed m)) n w r P a b h = absurd (a h)
+no_refusal (Some (Executing m by)) n w r P a b h = go (m == n) (by == w) h
+  where
+    go : (same mine : Bool) → Unless (if same then (if mine then None else Some NotYours) else Some Stale) r P → P
+    go true true h = h
+    go true false h = absurd (b h)
+    go false mine h = absurd (a h)
+
+module _ (base : View) (s : State) (w : ℕ) where
+  -- what is kept of a lawful entry stands for it
+  entry_again : (e : Event) (r : Reply) → IsAllowed base s w e r → entry_in base s (journal_entry_of (record { worker = w; event = kept e r; reply = r })) ≡ record { worker = w; event = kept e r; reply = r }
+  entry_again (Read i n q) (Answered a) h =
+      let says = no_refusal (status_of s.slots i) n w (Answered a) _ (λ (e : Answered a ≡ Stale). (cc)) (λ (e : Answered a ≡ NotYours). (cc)) h in
+      λ t. record { worker = w; event = Read i n q; reply = Answered (sym says.1 t) }
+  entry_again (Publish i n (Some f)) Published h =
+      let same = no_refusal (status_of s.slots i) n w Published _ (λ (e : Published ≡ Stale). (cc)) (λ (e : Published ≡ NotYours). (cc)) h in
+      λ t. record { worker = w; event = Publish i n (Some (record f { transcript = sym same t })); reply = Published }
+  entry_again (Publish i n None) Published h = refl
+  entry_again (Publish i n None) r h = refl
+  entry_again (Publish i n (Some f)) r h = refl
+  entry_again e r h = refl
+
+-- a journal with one entry more stands for a history with one more
+history_more : (base : View) (s : State) (es : List JournalEntry) (e : JournalEntry) → history_from base s (es ++ e ∷ []) ≡ history_from base s es ++ entry_in base (state_after s (history_from base s es)) e ∷ []
+unfolding history_from state_after
+history_more base s [] e = refl
+history_more base s (x ∷ xs) e =
+    let y = entry_in base s x in
+    ap (λ es. y ∷ es) (history_more base (after s y.worker y.event y.reply) xs e)
+
+-- a history and a lawful entry after it are a history, which leads one step further
+abbrev pub GoesOn : Setting → Type 0
+GoesOn m = (es : List Entry) (e : Entry) → IsHistory m es → IsLawful m (state_after (fresh m.size) es) e → IsHistory m (es ++ e ∷ []) × (state_after (fresh m.size) (es ++ e ∷ []) ≡ after (state_after (fresh m.size) es) e.worker e.event e.reply)
+
+module _ (run : Run) (journal : List JournalEntry) (machine : State) (old : IsReplayed run journal machine) (size : length machine.slots ≡ length run.block) where
   kept_sound : (w : ℕ) (e : Event) (r : Reply) → IsSoundEvent run e → IsAllowed run.base machine w e r → IsSoundEntry (setting_of run) (kept e r) r
   kept_sound w (Publish i n (Some f)) Published h allowed =
       sound_at run i f (let lt = published_within run.base machine w i n (Some f) allowed in omega (arith, lt, size)) h
@@ -95,19 +158,40 @@ module _ (run : Run) (machine : State) (old : IsReplayed run machine) (size : le
   kept_sound w (Publish i n f) r h allowed = tt
   kept_sound w e r h allowed = tt
 
-  -- a history and a lawful entry after it are a history, which leads one step further
-  abbrev GoesOn : Setting → Type 0
-  GoesOn m = (es : List Entry) (e : Entry) → IsHistory m es → IsLawful m (state_after (fresh m.size) es) e → IsHistory m (es ++ e ∷ []) × (state_after (fresh m.size) (es ++ e ∷ []) ≡ after (state_after (fresh m.size) es) e.worker e.event e.reply)
-
   -- after one more event
-  pub replayed_more : GoesOn (setting_of run) → (machine' : State) (w : ℕ) (e : Event) (r : Reply) → IsSoundEvent run e → IsAllowed run.base machine w e r → machine' ≡ after machine w e r → IsReplayed (record run { history = run.history ++ record { worker = w; event = kept e r; reply = r } ∷ [] }) machine'
+  one_more : GoesOn (setting_of run) → (machine' : State) (w : ℕ) (e : Event) (r : Reply) → IsSoundEvent run e → IsAllowed run.base machine w e r → machine' ≡ after machine w e r
+      → IsReplayed (record run { history = run.history ++ record { worker = w; event = kept e r; reply = r } ∷ [] }) (journal ++ journal_entry_of (record { worker = w; event = kept e r; reply = r }) ∷ []) machine'
   unfolding setting
-  replayed_more goes_on machine' w e r sound allowed is =
+  one_more goes_on machine' w e r sound allowed is =
       let entry : Entry = record { worker = w; event = kept e r; reply = r } in
       let lawful : IsLawful (setting_of run) machine entry = (kept_allowed run.base machine w e r allowed, kept_sound w e r sound allowed) in
       let next = goes_on run.history entry old.lawful (subst (λ (s : State). IsLawful (setting_of run) s entry) old.state lawful) in
       record {
         base = old.base;
         lawful = next.0;
+        kept = map-append journal_entry_of run.history (entry ∷ []) ∙ ap (λ es. es ++ journal_entry_of entry ∷ []) old.kept;
         state = is ∙ sym (kept_after machine w e r) ∙ ap (λ (x : State). after x w (kept e r) r) old.state ∙ sym next.1;
       }
+
+-- the same of the run that a journal stands for
+module _ (terms : List Term) (base : View) (block : List (Request Id)) (journal : List JournalEntry) (machine : State) (old : IsReplayed (run_of_journal terms base block journal) journal machine) where
+  abbrev run : Run
+  run = run_of_journal terms base block journal
+
+  module _ (w : ℕ) (e : Event) (r : Reply) (allowed : IsAllowed base machine w e r) (journal' : List JournalEntry)
+      (is : journal' ≡ journal ++ journal_entry_of (record { worker = w; event = kept e r; reply = r }) ∷ []) where
+    pub run_more : run_of_journal terms base block journal' ≡ record run { history = run.history ++ record { worker = w; event = kept e r; reply = r } ∷ [] }
+    run_more =
+        let entry : Entry = record { worker = w; event = kept e r; reply = r } in
+        ap (run_of_journal terms base block) is
+        ∙ ap (λ (es : List Entry). record run { history = es })
+        (history_more base (fresh (length block)) journal (journal_entry_of entry)
+        ∙ ap (λ (s : State). run.history ++ entry_in base s (journal_entry_of entry) ∷ []) (sym old.state)
+        ∙ ap (λ (x : Entry). run.history ++ x ∷ []) (entry_again base machine w e r allowed))
+
+    pub replayed_more : length machine.slots ≡ length block → GoesOn (setting_of run) → (machine' : State) → IsSoundEvent run e → machine' ≡ after machine w e r
+        → IsReplayed (run_of_journal terms base block journal') journal' machine'
+    replayed_more size goes_on machine' sound led =
+        subst (λ (es : List JournalEntry). IsReplayed (run_of_journal terms base block journal') es machine') (sym is)
+        (subst (λ (x : Run). IsReplayed x (journal ++ journal_entry_of (record { worker = w; event = kept e r; reply = r }) ∷ []) machine') (sym run_more)
+        (one_more run journal machine old size goes_on machine' w e r sound allowed led))

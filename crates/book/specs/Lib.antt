@@ -1,1 +1,2 @@
+pub mod JournalEntry
 pub mod Run

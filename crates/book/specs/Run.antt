@@ -1,5 +1,5 @@
 -- What a book is seen as, and what it keeps.
-use Rattle.std.specs.Prelude.{◌≡◌, ℕ, List, length, Option, Some, None, slice_get}
+use Rattle.std.specs.Prelude.{◌≡◌, ℕ, List, length, map, Option, Some, None, slice_get}
 use Rattle.terms.specs.declared.term.Term.{Term}
 use Rattle.datasets.specs.declared.id.Id.{Id}
 use Rattle.dict.specs.Dictionary.{numbers}
@@ -16,6 +16,8 @@ use Rattle.block_machine.specs.declared.state.Reply.TheVariants.{Published}
 use Rattle.block_machine.specs.declared.state.Entry.{Entry}
 use Rattle.block_machine.specs.Machine.{State, fresh, state_after}
 use Rattle.block_machine.specs.Serial.{Setting, IsHistory}
+use Rattle.book.specs.declared.journal_entry.JournalEntry.{JournalEntry}
+use Rattle.book.specs.JournalEntry.{journal_entry_of, history_from}
 
 -- the terms that are numbered, a base, a block, and the events that were answered so far
 pub record Run : Type 0 where
@@ -45,10 +47,16 @@ state_of run = state_after (fresh (length run.block)) run.history
 abbrev pub front_run : Run → View × List request.Reply
 front_run run = run_of_first (numbers run.terms) (state_of run).front run.block run.base
 
--- the base is a dataset, the journal is a history, and the machine is where it leads
-pub record IsReplayed (run : Run) (machine : State) : Type 0 where
+-- the run that a journal stands for
+abbrev pub run_of_journal : List Term → View → List (Request Id) → List JournalEntry → Run
+run_of_journal terms base block journal =
+    record { terms = terms; base = base; block = block; history = history_from base (fresh (length block)) journal }
+
+-- the base is a dataset, the journal is what is kept of a history, and the machine is where that leads
+pub record IsReplayed (run : Run) (journal : List JournalEntry) (machine : State) : Type 0 where
   pub base : IsDataset run.base
   pub lawful : IsHistory (setting_of run) run.history
+  pub kept : map journal_entry_of run.history ≡ journal
   pub state : machine ≡ state_of run
 
 -- a run that is published is kept; another is not

@@ -6,9 +6,11 @@ ghost use Rattle.block_machine.specs.Machine.{IsAllowed, wanted_reply, is_closed
 ghost use Rattle.block_machine.specs.Scans.{questions_of};
 ghost use Rattle.block_machine.specs.Serial.{IsHistory};
 ghost use Rattle.block_machine.specs.Waiting.{has_work, IsLeastWork};
+ghost use Rattle.book.specs.JournalEntry.{journal_entry_of};
 ghost use Rattle.book.specs.Run.{state_of, setting_of, front_run, kept, IsSoundEvent};
 
 use crate::copies::{copy_of_event, kept_event};
+use crate::journal_entry::JournalEntry;
 use block_machine::laws::{front_is_serial, front_is_within, history_goes_on, ready_after};
 use block_machine::{Entry, Event, Machine, Noted, Pass, Reply, Status, scans_of};
 use datasets::Id;
@@ -20,29 +22,29 @@ use sets::Items;
 use std::alloc::{AllocError, Global};
 use std::marker::Model;
 
-/// A run of a block: what it is of, and every event that was answered, in order.
+/// A run of a block: what it is of, and every event that was answered, in order. Contracts see each with its answer and its transcript.
 #[derive(Drop)]
 pub struct Book<'a> {
     terms: &'a Dict,
     base: &'a IndexedView,
     block: &'a [Request<Id>],
-    machine: Machine,
-    journal: Vec<Entry>,
+    machine: Machine<'a>,
+    journal: Vec<JournalEntry>,
 }
 
 impl<'a> Model for Book<'a> {
     ghost use Rattle.std.specs.Coded.{codes};
     ghost use Rattle.algebra.specs.Codes.{plan_code};
-    ghost use Rattle.book.specs.Run.{Run, IsReplayed};
+    ghost use Rattle.book.specs.Run.{Run, run_of_journal, IsReplayed};
     ghost use Rattle.datasets.specs.declared.id.Id.{Id as Number};
 
     ghost Value = { Run };
 
     ghost coded = { Prim.hlevel (codes, plan_code {K = Number} (Prim.hlevel codes)) };
 
-    ghost view = { λ b. record { terms = b.terms.now; base = b.base.now; block = b.block.now; history = b.journal.items } };
+    ghost view = { λ b. run_of_journal b.terms.now b.base.now b.block.now b.journal.items };
 
-    ghost invariant = { λ b. IsReplayed (record { terms = b.terms.now; base = b.base.now; block = b.block.now; history = b.journal.items }) b.machine };
+    ghost invariant = { λ b. IsReplayed (run_of_journal b.terms.now b.base.now b.block.now b.journal.items) b.journal.items b.machine };
 }
 
 impl<'a> Book<'a> {
@@ -67,8 +69,8 @@ impl<'a> Book<'a> {
         })
     }
 
-    /// One event of a worker, which the journal keeps as it is, with what its read says of the base. Its reply is lawful, and the journal has
-    /// both at its end. After want of memory the book is as before.
+    /// One event of a worker, with what its read says of the base. Its reply is lawful, and the history has both at its end. After want of
+    /// memory the book is as before.
     pub fn step_scanned(
         &mut self,
         alloc: Global,
@@ -93,7 +95,7 @@ impl<'a> Book<'a> {
             event,
             reply,
         };
-        match self.journal.push(entry) {
+        match self.journal.push(JournalEntry::new(entry)) {
             Ok(()) => Ok(told),
             Err(_) => unreachable!(),
         }
@@ -115,7 +117,7 @@ impl<'a> Book<'a> {
         self.step_scanned(alloc, worker, event, &scans)
     }
 
-    /// The same of an event that the caller keeps: the journal has a copy of its finished run.
+    /// The same of an event that the caller keeps: its finished run is shared, and not copied.
     pub fn step(&mut self, alloc: Global, worker: u32, event: &Event) -> Result<Reply, AllocError>
         requires { IsSoundEvent self.old event.now }
         ensures lawful { IfOk result (λ reply. IsAllowed self.old.base (state_of self.old) worker event.now reply) }
@@ -153,7 +155,7 @@ impl<'a> Book<'a> {
             event: Event::Check(i, n),
             reply,
         };
-        match self.journal.push(checked) {
+        match self.journal.push(JournalEntry::new(checked)) {
             Ok(()) => Ok(told),
             Err(_) => unreachable!(),
         }
@@ -189,7 +191,7 @@ impl<'a> Book<'a> {
     }
 
     /// The reads of a request's incarnation, in order.
-    pub fn notes(&self, i: usize) -> &[Noted]
+    pub fn notes(&self, i: usize) -> &[Noted<'a>]
         ensures { map kept_note_of result.now ≡ transcript_of (slot_at (state_of self.now).slots i).notes }
     {
         self.machine.notes(i)
@@ -240,9 +242,9 @@ impl<'a> Book<'a> {
         })
     }
 
-    /// Every event that was answered, in order: each is lawful where those before it lead.
-    pub fn journal(&self) -> &[Entry]
-        ensures journal { result.now ≡ self.now.history }
+    /// What is kept of every event that was answered, in order: each is lawful where those before it lead.
+    pub fn journal(&self) -> &[JournalEntry]
+        ensures journal { result.now ≡ map journal_entry_of self.now.history }
         ensures lawful { IsHistory (setting_of self.now) self.now.history }
     {
         self.journal.as_slice()

@@ -6,5 +6,7 @@
 
 mod book;
 mod copies;
+mod journal_entry;
 
 pub use book::Book;
+pub use journal_entry::{JournalEntry, Kept, count};

@@ -1,4 +1,5 @@
 pub mod Finding
+pub mod Printed
 pub mod Replies
 pub mod Steps
 pub mod Going

@@ -1,4 +1,5 @@
 pub mod Lines
+pub mod Kept
 pub mod Found
 pub mod Replays
 pub mod Following

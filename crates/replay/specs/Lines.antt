@@ -1,5 +1,5 @@
 -- Entries of a journal as lines, with terms for the numbers of their reads and counts for answers.
-use Rattle.std.specs.Prelude.{◌≡◌, ℕ, Bool, true, false, ◌&&◌, List, length, map}
+use Rattle.std.specs.Prelude.{◌≡◌, Bool, true, ◌&&◌, List, map}
 use Rattle.std.specs.List.{list_all}
 use Rattle.std.specs.Option.{option_map}
 use Rattle.terms.specs.declared.term.Term.{Term}
@@ -8,15 +8,14 @@ use Rattle.datasets.specs.declared.read.GraphPlace.TheVariants.{Any, Only}
 use Rattle.datasets.specs.declared.read.QuadPattern.{QuadPattern}
 use Rattle.datasets.specs.declared.read.Read as reading
 use Rattle.datasets.specs.declared.read.Read.TheVariants.{Scan, GraphIs, Graphs}
-use Rattle.datasets.specs.Dataset.{Quads, Is, Names}
 use Rattle.dict.specs.Dictionary.{term_of, is_known}
 use Rattle.meaning_laws.specs.Renaming.{option_known}
-use Rattle.reads.specs.Reads.{Answer}
 use Rattle.block_machine.specs.declared.state.Event.{Event}
 use Rattle.block_machine.specs.declared.state.Event.TheVariants as event
 use Rattle.block_machine.specs.declared.state.Reply.{Reply}
 use Rattle.block_machine.specs.declared.state.Reply.TheVariants as reply
 use Rattle.block_machine.specs.declared.state.Entry.{Entry}
+use Rattle.book.specs.JournalEntry.{count_of}
 use Rattle.journal.specs.declared.lines.Line.{Line}
 use Rattle.journal.specs.declared.lines.Event as told_event
 use Rattle.journal.specs.declared.lines.Event.TheVariants.{Take, Read, Publish, Begin, Check, Commit, GiveUp}
@@ -55,13 +54,6 @@ module _ {A : Type 0} (known : A → Bool) where
   read_known (Scan p) = pattern_known p
   read_known (GraphIs g) = known g
   read_known Graphs = true
-
--- how many quads or names an answer has, or 0 or 1 for whether a graph is there
-abbrev pub count_of : Answer → ℕ
-count_of (Quads quads) = length quads
-count_of (Is true) = 1
-count_of (Is false) = 0
-count_of (Names names) = length names
 
 -- an event by the terms of its read, and without the run that it publishes
 abbrev pub line_event : List Term → Event → told_event.Event

@@ -14,13 +14,13 @@ use update::execute;
 
 // What answers the reads of a run: its notes, in their order. Asked for anything else it stops.
 #[derive(Drop)]
-struct Answering<'n> {
+struct Answering<'n, 'a> {
     alloc: Global,
-    notes: &'n [Noted],
+    notes: &'n [Noted<'a>],
     next: usize,
 }
 
-impl<'n> Source for Answering<'n> {
+impl<'n, 'a> Source for Answering<'n, 'a> {
     ghost use Rattle.std.specs.Prelude.{◌≡◌};
     ghost use Rattle.replay.specs.Noted.{IsNext};
 
@@ -28,9 +28,9 @@ impl<'n> Source for Answering<'n> {
 
     fn ask(&mut self, read: &Read<Id>) -> Result<Answered, Stop> {
         match self.notes.get(self.next) {
-            Some(note) if same_reads(&note.read, read) => {
+            Some(noted) if same_reads(noted.note.read(), read) => {
                 self.next += 1;
-                Ok(note.answer.copied(self.alloc)?)
+                Ok(noted.note.answer(self.alloc)?)
             }
             _ => Err(Stop::Stale),
         }

@@ -1,30 +1,14 @@
 //! The lines of a book's journal.
 ghost use Rattle.std.specs.Prelude.{◌≡◌, map, IfOk, OnOk};
-ghost use Rattle.replay.specs.Lines.{count_of, line_event as the_event, line_reply as the_reply, line_of as the_line};
+ghost use Rattle.replay.specs.Lines.{line_event as the_event, line_reply as the_reply, line_of as the_line};
+ghost use Rattle.replay.specs.Kept.{event_of_kept, reply_of_kept, line_of_kept};
 
 use crate::naming::name_read;
-use block_machine::{Entry, Event, Reply};
-use book::Book;
+use block_machine::{Event, Reply};
+use book::{Book, JournalEntry, Kept, count};
 use dict::Dict;
 use journal::{Event as LineEvent, Line, Reply as LineReply};
-use reads::Answered;
 use std::alloc::{AllocError, Global};
-
-// How many quads or names an answer has, or 0 or 1 for whether a graph is there.
-fn count(answer: &Answered) -> u64
-    ensures { result ≡ count_of answer.now }
-{
-    if let Some(quads) = answer.quads() {
-        return quads.len() as u64;
-    }
-    if let Some(names) = answer.names() {
-        return names.len() as u64;
-    }
-    match answer.is() {
-        Some(true) => 1,
-        _ => 0,
-    }
-}
 
 /// A reply, with the count of an answer.
 pub fn line_reply(reply: &Reply) -> LineReply
@@ -61,14 +45,40 @@ fn line_event(alloc: Global, terms: &Dict, event: &Event) -> Result<LineEvent, A
     }
 }
 
+// The event of what a journal keeps.
+fn event_of(alloc: Global, terms: &Dict, kept: &Kept) -> Result<LineEvent, AllocError>
+    ensures { IfOk result (λ told. told ≡ event_of_kept terms.now kept.now) }
+{
+    match kept {
+        Kept::Answered(i, n, read, _) => Ok(LineEvent::Read(
+            *i,
+            *n,
+            name_read(alloc, terms, read)?,
+        )),
+        Kept::Published(i, n, _, _) => Ok(LineEvent::Publish(*i, *n)),
+        Kept::Other(event, _) => line_event(alloc, terms, event),
+    }
+}
+
+// The reply of what a journal keeps.
+fn reply_of(kept: &Kept) -> LineReply
+    ensures { result ≡ reply_of_kept kept.now }
+{
+    match kept {
+        Kept::Answered(_, _, _, count) => LineReply::Answered(*count),
+        Kept::Published(_, _, _, _) => LineReply::Published,
+        Kept::Other(_, reply) => line_reply(reply),
+    }
+}
+
 // The line of an entry.
-fn line_of(alloc: Global, terms: &Dict, entry: &Entry) -> Result<Line, AllocError>
-    ensures { IfOk result (λ line. line ≡ the_line terms.now entry.now) }
+fn line_of(alloc: Global, terms: &Dict, entry: &JournalEntry) -> Result<Line, AllocError>
+    ensures { IfOk result (λ line. line ≡ line_of_kept terms.now entry.now) }
 {
     Ok(Line {
         worker: entry.worker,
-        event: line_event(alloc, terms, &entry.event)?,
-        reply: line_reply(&entry.reply),
+        event: event_of(alloc, terms, &entry.kept)?,
+        reply: reply_of(&entry.kept),
     })
 }
 

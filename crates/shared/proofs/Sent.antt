@@ -62,6 +62,7 @@ use Rattle.version_overlay.specs.contracts.generation.Generation as Generation
 use Rattle.version_overlay.specs.contracts.spoken.Spoken as Spoken
 use Rattle.version_overlay.specs.contracts.level.Level as Level
 use Rattle.version_overlay.specs.contracts.settled.Settled as Settled
+use Rattle.version_overlay.specs.contracts.lean_note.LeanNote as LeanNote
 use Rattle.quad_index.proofs.key.Arrangement.TheSendSync as arrangement
 use Rattle.quad_index.specs.contracts.run.Run as Run
 use Rattle.quad_index.specs.contracts.run.Hint as Hint
@@ -82,6 +83,8 @@ use Rattle.stamp_tree.proofs.tree.StampTree.TheLaws.TheKnot as trees
 use Rattle.block_machine.specs.contracts.kept.Kept as KeptSlots
 use Rattle.block_machine.specs.contracts.slots.Slots as Slots
 use Rattle.block_machine.specs.contracts.machine.Machine as Machine
+use Rattle.book.specs.contracts.journal_entry.Kept as KeptEvent
+use Rattle.book.specs.contracts.journal_entry.JournalEntry as JournalEntry
 use Rattle.book.specs.contracts.book.Book as Book
 use Rattle.blocklock.proofs.Sent.{lock, pass}
 use Rattle.blocklock.specs.contracts.pass.Pass as Pass
@@ -233,20 +236,11 @@ finished = let t = transcript in let d = delta in search (sendable, crosses) dep
 
 -- ---- the machine
 
-noted : IsSend (Noted.the_row)
-noted = let a = answered in let r = read in search (sendable, crosses) depth 20
-
-notes : IsSend (Items.the_row Noted.the_row)
-notes = let n = noted in search (sendable, crosses) depth 20
-
 replied : IsSend (Option.the_field Replied.the_row).row
 replied = option.the_field_send Replied.the_row a_reply.the_send
 
 passed : IsSend (Option.the_field MachinePass.the_row).row
 passed = option.the_field_send MachinePass.the_row a_pass.the_send
-
-slot : IsSend (Slot.the_row)
-slot = let n = notes in let d = delta in let s = a_status.the_field_send in let r = replied in let p = passed in search (sendable, crosses) depth 20
 
 hint : IsSend (Hint.the_row)
 hint = let q = quad_field in search (sendable, crosses) depth 20
@@ -299,17 +293,8 @@ level = let d = delta_field in let i = index_send in search (sendable, crosses) 
 settled : IsSend (Settled.the_field).row
 settled = let l = level in let s = seen_quads in let a = arrangement.the_send in search (sendable, crosses) depth 20
 
-kept_slots : IsSend (KeptSlots.the_field).row
-kept_slots = let s = slot in let p = spoken in let t = settled in search (sendable, crosses) depth 20
-
-slots : IsSend (Slots.the_field).row
-slots = let k = kept_slots in search (sendable, crosses) depth 20
-
 tree : IsSend (StampTree.the_field).row
 tree = search (sendable, crosses, trees.crosses) depth 20
-
-machine : IsSend (Machine.the_row)
-machine = let s = slots in let t = tree in search (sendable, crosses) depth 20
 
 event : IsSend (Event.the_field).row
 event = let f = finished in let r = read in search (sendable, crosses) depth 20
@@ -317,14 +302,47 @@ event = let f = finished in let r = read in search (sendable, crosses) depth 20
 reply : IsSend (MachineReply.the_field).row
 reply = let a = answered in search (sendable, crosses) depth 20
 
-entry : IsSend (Entry.the_row)
-entry = let e = event in let r = reply in search (sendable, crosses) depth 20
+kept_event : IsSend (KeptEvent.the_field).row
+kept_event = let e = event in let r = reply in let q = read in let d = delta in let a = a_reply.the_send in search (sendable, crosses) depth 20
+
+journal_entry : IsSend (JournalEntry.the_row)
+journal_entry = let k = kept_event in search (sendable, crosses) depth 20
+
+forgotten : IsSend (Option.the_field Answered.the_row).row
+forgotten = option.the_field_send Answered.the_row answered
+
+deltas : IsSend (Items.the_row Delta.the_row)
+deltas = let d = delta in search (sendable, crosses) depth 20
+
+found_by : IsSend (Option.the_field (Items.the_row Delta.the_row)).row
+found_by = option.the_field_send (Items.the_row Delta.the_row) deltas
 
 -- ---- the book, shared
 
 module _ (a : NamedLft) where
+  lean_note : IsSend (LeanNote.the_row a)
+  lean_note = let r = read in let f = forgotten in let b = found_by in let v = indexed_view in search (sendable, crosses) depth 20
+
+  noted : IsSend (Noted.the_row a)
+  noted = let n = lean_note in search (sendable, crosses) depth 20
+
+  notes : IsSend (Items.the_row (Noted.the_row a))
+  notes = let n = noted in search (sendable, crosses) depth 20
+
+  slot : IsSend (Slot.the_row a)
+  slot = let n = notes in let d = delta in let s = a_status.the_field_send in let r = replied in let p = passed in search (sendable, crosses) depth 20
+
+  kept_slots : IsSend (KeptSlots.the_field a).row
+  kept_slots = let s = slot in let p = spoken in let t = settled in search (sendable, crosses) depth 20
+
+  slots : IsSend (Slots.the_field a).row
+  slots = let k = kept_slots in search (sendable, crosses) depth 20
+
+  machine : IsSend (Machine.the_row a)
+  machine = let s = slots in let t = tree in search (sendable, crosses) depth 20
+
   book : IsSend (Book.the_row a)
-  book = let r = requests in let d = dict in let v = indexed_view in let m = machine in let e = entry in search (sendable, crosses) depth 20
+  book = let r = requests in let d = dict in let v = indexed_view in let m = machine in let e = journal_entry in search (sendable, crosses) depth 20
 
   kept : IsSend (Kept.the_row a)
   kept = let b = book in search (sendable, crosses) depth 20

@@ -1,3 +1,4 @@
 pub mod Generation
+pub mod LeanNote
 pub mod Settled
 pub mod Spoken

@@ -11,6 +11,7 @@ ghost use Rattle.change_laws.specs.Laws.{IsRising};
 ghost use Rattle.reads.specs.Reads.{View as Dataset, says, applied};
 ghost use Rattle.version_overlay.specs.Settled.{part_or};
 
+use crate::along::{changed_part, part_of};
 use datasets::{Id, Quad, QuadPattern, Read};
 use delta::Delta;
 use quad_index::{Arrangement, Index};
@@ -98,34 +99,6 @@ impl Level {
         let (quads, _names) = part_of(alloc, scanned, part)?.into_parts();
         let quads = quads_union(quads_without(quads, going), coming)?;
         Ok(Some(View::from_sets(quads, Vec::new(alloc))))
-    }
-}
-
-// What is asked for of a dataset, if changes have changed it, with one change more, where that covers the read.
-fn changed_part(
-    alloc: Global,
-    scanned: &Scanned<'_>,
-    delta: &Delta,
-    part: Option<View>,
-) -> Result<Option<View>, AllocError>
-    ensures { IfOk result (λ next. (d : Dataset) → IsRising id_order d → says scanned.now.read (part_or scanned.now.dataset part) ≡ says scanned.now.read d → says scanned.now.read (part_or scanned.now.dataset next) ≡ says scanned.now.read (applied delta.now d)) }
-{
-    let read = scanned.read();
-    if !delta.covers(read) {
-        return Ok(part);
-    }
-    let part = part_of(alloc, scanned, part)?;
-    let next = delta.asked(alloc, read)?.apply(alloc, part)?;
-    Ok(Some(next))
-}
-
-// What is asked for of the dataset, where no change has changed it yet, or what is left of it.
-fn part_of(alloc: Global, scanned: &Scanned<'_>, part: Option<View>) -> Result<View, AllocError>
-    ensures { IfOk result (λ found. says scanned.now.read found ≡ says scanned.now.read (part_or scanned.now.dataset part)) }
-{
-    match part {
-        Some(part) => Ok(part),
-        None => scanned.part(alloc),
     }
 }
 

@@ -8,6 +8,7 @@ ghost use Rattle.change_laws.specs.Laws.{IsRising};
 ghost use Rattle.reads.specs.Reads.{View as Dataset, says, applied, no_change};
 ghost use Rattle.version_overlay.specs.Settled.{changed_by, part_or};
 
+use crate::along::push_covering;
 use crate::filters::put_all;
 use crate::level::Level;
 use datasets::{Id, Read};
@@ -92,6 +93,17 @@ impl Settled {
             part = level.part_after(alloc, scanned, part)?;
         }
         Ok(part)
+    }
+
+    /// Those that a read asks for, one after another: what it says after them is what it says after all. They are shared, and not copied.
+    pub fn changes(&self, alloc: Global, read: &Read<Id>) -> Result<Vec<Delta>, AllocError>
+        ensures { IfOk result (λ found. (d : Dataset) → IsRising id_order d → says read.now (changed_by found.items d) ≡ says read.now (changed_by self.now d)) }
+    {
+        let mut found = Vec::new(alloc);
+        for each in &self.levels {
+            push_covering(alloc, &mut found, each.change(), read)?;
+        }
+        Ok(found)
     }
 
     /// The dataset after the changes. An error comes only where memory runs out.

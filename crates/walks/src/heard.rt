@@ -1,7 +1,7 @@
 //! What a pool's gate sees of the workers, beside the journal of their book.
 
 use crate::blocks::are_short;
-use crate::lines::{Line, line_of};
+use crate::lines::{Line, line_of, line_of_kept};
 use crate::numbers::numbered;
 use block_machine::Entry;
 use book::Book;
@@ -35,7 +35,7 @@ impl<'r, R: Wait> Gate for Sees<'r, R> {
 fn has_seen(book: &Book<'_>, lines: &[(u32, Line)], worker: u32) -> bool {
     let seen = lines.iter().filter(|line| line.0 == worker);
     let kept = book.journal().iter().filter(|entry| entry.worker == worker);
-    seen.map(|line| line.1).eq(kept.map(line_of))
+    seen.map(|line| line.1).eq(kept.map(line_of_kept))
 }
 
 // Whether the journal has of each of four workers what the gate saw of it and nothing else, and its outcome is that of the block.

@@ -1,5 +1,6 @@
 //! What workers do and are told, without terms.
 use block_machine::{Entry, Event, Reply};
+use book::{JournalEntry, Kept};
 
 /// What a worker does: an event at the request of a place, where it matters with its incarnation.
 #[derive(Clone, Copy, PartialEq, Eq)]
@@ -58,9 +59,9 @@ pub fn told_by(reply: &Reply) -> Told {
     }
 }
 
-/// An entry of a journal as a line.
-pub fn line_of(entry: &Entry) -> Line {
-    let step = match &entry.event {
+// An event and its reply as a line.
+fn line_by(event: &Event, reply: &Reply) -> Line {
+    let step = match event {
         Event::Take(i) => Step::Take(*i),
         Event::Read(i, n, _) => Step::Read(*i, *n),
         Event::Publish(i, n, _) => Step::Publish(*i, *n),
@@ -71,6 +72,26 @@ pub fn line_of(entry: &Entry) -> Line {
     };
     Line {
         step,
-        told: told_by(&entry.reply),
+        told: told_by(reply),
+    }
+}
+
+/// An answered event as a line.
+pub fn line_of(entry: &Entry) -> Line {
+    line_by(&entry.event, &entry.reply)
+}
+
+/// An entry of a journal as a line.
+pub fn line_of_kept(entry: &JournalEntry) -> Line {
+    match &entry.kept {
+        Kept::Answered(i, n, _, _) => Line {
+            step: Step::Read(*i, *n),
+            told: Told::Answered,
+        },
+        Kept::Published(i, n, _, _) => Line {
+            step: Step::Publish(*i, *n),
+            told: Told::Published,
+        },
+        Kept::Other(event, reply) => line_by(event, reply),
     }
 }

@@ -77,6 +77,14 @@ const TWICE: &str =
 const ONCE: &str =
     "INSERT DATA { <x:a> <x:p> <x:b> }\n----\nINSERT { ?x <x:q> <x:c> } WHERE { ?x <x:p> ?y }";
 
+/// The fourth request reads by a pattern the 70 quads that the first has put in. Meanwhile the second has put in one more, which the third has
+/// taken out since.
+const LONG: &str =
+    "INSERT DATA { <x:a> <x:p> 10,11,12,13,14,15,16,17,18,19,20,21,22,23,24,25,26,27,28,29,30,31,32,33,34,35,36,37,38,39,40,41,42,43,44,\
+    45,46,47,48,49,50,51,52,53,54,55,56,57,58,59,60,61,62,63,64,65,66,67,68,69,70,71,72,73,74,75,76,77,78,79 }\n----\n\
+    INSERT DATA { <x:a> <x:p> 9 }\n----\nDELETE DATA { <x:a> <x:p> 9 }\n----\n\
+    INSERT { ?x <x:q> <x:c> } WHERE { ?x <x:p> ?y }";
+
 const CHANGED_TWICE: [(u32, Step, Told); 7] = [
     (2, Take(2), Taken(0)),
     (2, Publish(2, 0), Published),
@@ -101,7 +109,30 @@ const UNCHANGED: [(u32, Step, Told); 3] = [
     (1, Begin(1, 0), Begun),
 ];
 
-const CHOICES: [Choice; 8] = [
+/// The first and the fourth request, and then the second and maybe the third.
+const LONG_CHANGED: [(u32, Step, Told); 9] = [
+    (0, Take(0), Taken(0)),
+    (0, Publish(0, 0), Published),
+    (3, Take(3), Taken(0)),
+    (3, Publish(3, 0), Published),
+    (1, Take(1), Taken(0)),
+    (1, Publish(1, 0), Published),
+    (2, Take(2), Taken(0)),
+    (2, Publish(2, 0), Published),
+    (3, Begin(3, 0), Begun),
+];
+
+const LONG_LONGER: [(u32, Step, Told); 7] = [
+    (0, Take(0), Taken(0)),
+    (0, Publish(0, 0), Published),
+    (3, Take(3), Taken(0)),
+    (3, Publish(3, 0), Published),
+    (1, Take(1), Taken(0)),
+    (1, Publish(1, 0), Published),
+    (3, Begin(3, 0), Begun),
+];
+
+const CHOICES: [Choice; 11] = [
     // The answer is the same and the requests that it came from are others: both replies are lawful.
     Choice {
         block: TWICE,
@@ -146,6 +177,28 @@ const CHOICES: [Choice; 8] = [
         place: 1,
         passed: false,
         told: Passed,
+    },
+    // A long answer, which was forgotten and is found again: it is the same, the list is another, or it is another one.
+    Choice {
+        block: LONG,
+        lines: &LONG_CHANGED,
+        place: 3,
+        passed: true,
+        told: Passed,
+    },
+    Choice {
+        block: LONG,
+        lines: &LONG_CHANGED,
+        place: 3,
+        passed: false,
+        told: Aborted,
+    },
+    Choice {
+        block: LONG,
+        lines: &LONG_LONGER,
+        place: 3,
+        passed: true,
+        told: Aborted,
     },
     // No pass stands, or there is no run.
     Choice {

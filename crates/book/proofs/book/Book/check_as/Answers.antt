@@ -1,17 +1,19 @@
-use Rattle.std.proofs.Common.{◌≡◌, ◌+◌, ◌^◌, ◌<◌, List, [], ◌∷◌, ◌++◌, length, arith, sym, ◌∙◌, subst}
+use Rattle.std.proofs.Common.{◌≡◌, ◌+◌, ◌^◌, ◌<◌, [], ◌∷◌, ◌++◌, length, arith, sym, ◌∙◌}
 use Rattle.block_machine.specs.declared.state.Event.{Event}
 use Rattle.block_machine.specs.declared.state.Event.TheVariants.{Check}
-use Rattle.block_machine.specs.declared.state.Entry.{Entry}
 use Rattle.block_machine.specs.Machine.{IsReady}
-use Rattle.book.specs.Run.{Run, setting, setting_of, IsReplayed}
-use Rattle.book.proofs.Replay.{said_of_book, replayed_more}
+use Rattle.book.specs.JournalEntry.{journal_entry_of}
+use Rattle.book.specs.Run.{Run, run_of_journal, setting, setting_of}
+use Rattle.book.proofs.Replay.{said_of_book, as_long, run_more, replayed_more}
 use Rattle.book.proofs.book.Book.check_as.Goals as goal
 
 pub check_as-requires : goal.check_as-requires
 unfolding setting
 check_as-requires c =
-    let short : length c.self.inside.journal.items + 1 < 2 ^ 64 = omega (arith, c.in_ok-reserve.ensures.ok, c.in_ok-reserve.ensures.len, c.self.inside.journal.ok.0, c.reserve.new.self.small) in
-    said_of_book _ _ c.self.invariant (λ m history s. length history + 1 < 2 ^ 64 → IsReady m.base s) c.ready_after.ensures short
+    let long = as_long _ _ _ c.self.invariant in
+    let short : length (run_of_journal c.self.inside.terms.now c.self.inside.base.now c.self.inside.block.now c.self.inside.journal.items).history + 1 < 2 ^ 64 =
+    omega (arith, long, c.in_ok-reserve.ensures.ok, c.in_ok-reserve.ensures.len, c.self.inside.journal.ok.0, c.reserve.new.self.small) in
+    said_of_book _ _ _ c.self.invariant (λ m history s. length history + 1 < 2 ^ 64 → IsReady m.base s) c.ready_after.ensures short
 
 pub invariant_of-self-2 : goal.invariant_of-self-2
 unfolding setting
@@ -19,9 +21,20 @@ invariant_of-self-2 c =
     let old = c.self.inside in
     let reply = c.in_ok-reply.reply in
     let event : Event = Check c.args.i c.args.n in
-    let run : Run = record { terms = old.terms.now; base = old.base.now; block = old.block.now; history = old.journal.items } in
-    let items : c.push.new.self.items ≡ old.journal.items ++ record { worker = c.args.worker; event = event; reply = reply } ∷ [] =
-    c.in-Ok.ensures.items ∙ (λ t. c.in_ok-reserve.ensures.items t ++ record { worker = c.args.worker; event = event; reply = reply } ∷ []) in
-    let size = said_of_book run old.machine c.self.invariant (λ m history s. length s.slots ≡ m.size) c.front_is_within.ensures.slots in
-    subst (λ (h : List Entry). IsReplayed (record run { history = h }) c.check_as.new.self) (sym items)
-    (replayed_more run old.machine c.self.invariant size (c.history_goes_on.ensures (setting_of run)) c.check_as.new.self c.args.worker event reply tt c.in_ok-reply.ensures.allowed c.in_ok-reply.ensures.changed)
+    let run : Run = run_of_journal old.terms.now old.base.now old.block.now old.journal.items in
+    let items : c.push.new.self.items ≡ old.journal.items ++ journal_entry_of (record { worker = c.args.worker; event = event; reply = reply }) ∷ [] =
+    c.in-Ok.ensures.items ∙ (λ t. c.in_ok-reserve.ensures.items t ++ c.new.ensures t ∷ []) in
+    let size = said_of_book run old.journal.items old.machine c.self.invariant (λ m history s. length s.slots ≡ m.size) c.front_is_within.ensures.slots in
+    replayed_more old.terms.now old.base.now old.block.now old.journal.items old.machine c.self.invariant c.args.worker event reply c.in_ok-reply.ensures.allowed c.push.new.self.items items
+    size (c.history_goes_on.ensures (setting_of run)) c.check_as.new.self tt c.in_ok-reply.ensures.changed
+
+pub returns-clause-entry : goal.returns-clause-entry
+unfolding setting
+returns-clause-entry c =
+    let old = c.self.inside in
+    let reply = c.in_ok-reply.reply in
+    let event : Event = Check c.args.i c.args.n in
+    let items : c.push.new.self.items ≡ old.journal.items ++ journal_entry_of (record { worker = c.args.worker; event = event; reply = reply }) ∷ [] =
+    c.in-Ok.ensures.items ∙ (λ t. c.in_ok-reserve.ensures.items t ++ c.new.ensures t ∷ []) in
+    run_more old.terms.now old.base.now old.block.now old.journal.items old.machine c.self.invariant c.args.worker event reply c.in_ok-reply.ensures.allowed c.push.new.self.items items
+    ∙ (λ t. record (c.self.view_is t) { history = (c.self.view_is t).history ++ record { worker = c.args.worker; event = event; reply = sym c.in_ok-reply.ensures.same t } ∷ [] })

@@ -1,7 +1,7 @@
 use Rattle.std.proofs.Common.{ap, sym, ◌∙◌}
 use Rattle.reads.specs.Reads.{covers}
 use Rattle.version_overlay.proofs.Changing.{uncovered, covered_as}
-use Rattle.version_overlay.proofs.level.changed_part.Goals as goal
+use Rattle.version_overlay.proofs.along.changed_part.Goals as goal
 
 pub returns-then-not-covers : goal.returns-then-not-covers
 returns-then-not-covers c =

@@ -4,7 +4,7 @@ use Rattle.version_overlay.specs.Settled.{part_or}
 use Rattle.block_machine.specs.Machine.{view_at}
 use Rattle.block_machine.specs.Kept.{shown}
 use Rattle.block_machine.specs.Lower.{after_first}
-use Rattle.block_machine.proofs.below.answer_before.Given as goal
+use Rattle.block_machine.proofs.below.part_before.Given as goal
 
 abbrev pub invariant-loop-request : goal.invariant-loop-request
 invariant-loop-request l =

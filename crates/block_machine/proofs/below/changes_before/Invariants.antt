@@ -1,0 +1,11 @@
+use Rattle.std.proofs.Common.{◌≡◌}
+use Rattle.reads.specs.Reads.{says}
+use Rattle.version_overlay.specs.Settled.{changed_by}
+use Rattle.block_machine.specs.Machine.{view_at}
+use Rattle.block_machine.specs.Kept.{shown}
+use Rattle.block_machine.specs.Lower.{after_first}
+use Rattle.block_machine.proofs.below.changes_before.Given as goal
+
+abbrev pub invariant-loop-request : goal.invariant-loop-request
+invariant-loop-request l =
+    says l.scanned.read (changed_by l.found.items l.scanned.dataset) ≡ says l.scanned.read (view_at l.scanned.dataset (shown l.kept.slots.items) (after_first l.kept.low l.list l.i l.request-index))

@@ -1,0 +1,21 @@
+-- The lines of what a journal keeps are those of its history.
+use Rattle.std.proofs.Common.{◌≡◌, ℕ, List, [], ◌∷◌, map, Some, refl}
+use Rattle.terms.specs.declared.term.Term.{Term}
+use Rattle.block_machine.specs.declared.state.Event.{Event}
+use Rattle.block_machine.specs.declared.state.Event.TheVariants.{Read, Publish}
+use Rattle.block_machine.specs.declared.state.Reply.{Reply}
+use Rattle.block_machine.specs.declared.state.Reply.TheVariants.{Answered, Published}
+use Rattle.block_machine.specs.declared.state.Entry.{Entry}
+use Rattle.book.specs.JournalEntry.{kept_of, journal_entry_of}
+use Rattle.replay.specs.Lines.{line_event, line_reply, line_of}
+use Rattle.replay.specs.Kept.{line_of_kept}
+
+module _ (terms : List Term) where
+  same : (w : ℕ) (e : Event) (r : Reply) → line_of_kept terms (record { worker = w; kept = kept_of e r }) ≡ record { worker = w; event = line_event terms e; reply = line_reply r }
+  same w (Read i n q) (Answered a) = refl
+  same w (Publish i n (Some f)) Published = refl
+  same w e r = refl
+
+  pub same_lines : (history : List Entry) → map (line_of_kept terms) (map journal_entry_of history) ≡ map (line_of terms) history
+  same_lines [] = refl
+  same_lines (e ∷ es) = λ t. same e.worker e.event e.reply t ∷ same_lines es t
