@@ -1,3 +1,5 @@
 pub mod DataSetLaws
 pub mod PlacedLaws
+pub mod UniteLaws
+pub mod Sent
 pub mod FormLaws
