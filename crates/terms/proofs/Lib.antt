@@ -1,5 +1,4 @@
 pub mod DataSetLaws
 pub mod PlacedLaws
 pub mod UniteLaws
-pub mod Sent
 pub mod FormLaws
