@@ -1,3 +1,4 @@
 pub mod DataSetLaws
 pub mod PlacedLaws
+pub mod UniteLaws
 pub mod FormLaws

@@ -3,7 +3,7 @@
 use Rattle.std.specs.Prelude.{◌≡◌, Bool, false, List, [], ◌∷◌, ◌++◌, Option, Some, None}
 use Rattle.std.specs.Option.{option_to_list}
 use Rattle.std.specs.Ordering.{eq_by_cmp}
-use Rattle.sets.specs.Sets.{set_of, with}
+use Rattle.sets.specs.Sets.{set_of, with, union}
 use Rattle.datasets.specs.declared.quad.Quad.{Quad}
 use Rattle.datasets.specs.Dataset.{Dataset, quad_order}
 use Rattle.terms.specs.declared.term.Term.{Term}
@@ -36,3 +36,11 @@ with_graph g d = record d { names = with term_order g d.names }
 -- the law of adding: lists with one more are the dataset with one more
 abbrev pub ListsGrowAsDatasets : Type 0
 ListsGrowAsDatasets = (quads : List (Quad Term)) (names : List Term) (q : Quad Term) → dataset_of (quads ++ q ∷ []) (names ++ option_to_list q.graph) ≡ with_quad q (dataset_of quads names)
+
+-- the quads of both datasets, and the graphs of both
+abbrev pub united : Dataset Term → Dataset Term → Dataset Term
+united d e = record { quads = union (quad_order term_order) d.quads e.quads; names = union term_order d.names e.names }
+
+-- the law of uniting: lists, one behind the other, are both their datasets
+abbrev pub ListsUnite : Type 0
+ListsUnite = (quads quads' : List (Quad Term)) (names names' : List Term) → dataset_of (quads ++ quads') (names ++ names') ≡ united (dataset_of quads names) (dataset_of quads' names')

@@ -1,5 +1,5 @@
 -- Quads and names by places in a list of terms.
-use Rattle.std.specs.Prelude.{◌≡◌, ℕ, Bool, true, ◌&&◌, nat_lt, List, ◌++◌, Option, Some, None, length, map, slice_index_or}
+use Rattle.std.specs.Prelude.{◌≡◌, ℕ, Bool, true, ◌&&◌, nat_lt, List, ◌++◌, Option, Some, None, length, map, slice_index, slice_index_or}
 use Rattle.std.specs.List.{list_all}
 use Rattle.std.specs.Option.{option_map}
 use Rattle.datasets.specs.declared.quad.Quad.{Quad}
@@ -44,3 +44,11 @@ AreApart terms = (a b : ℕ) → is_within terms a ≡ true → is_within terms 
 -- the law of going on: each term stays at its place
 abbrev pub TermsKeepPlaces : Type 0
 TermsKeepPlaces = (old new : List Term) → GoesOn old new → (place : ℕ) → is_within old place ≡ true → (term_at new place ≡ term_at old place) × (is_within new place ≡ true)
+
+-- these places of a list have the terms of another, one after another
+abbrev pub AreAt : List Term → List ℕ → List Term → Type 0
+AreAt terms places others = (map (term_at terms) places ≡ others) × (list_all (is_within terms) places ≡ true)
+
+-- a quad of numbers of places, with those places
+abbrev pub quad_of_places : List ℕ → Quad ℕ → Quad ℕ
+quad_of_places places q = record { subject = slice_index places q.subject; predicate = slice_index places q.predicate; object = slice_index places q.object; graph = option_map (slice_index places) q.graph }

@@ -1,10 +1,11 @@
 //! Datasets.
-ghost use Rattle.std.specs.Prelude.{◌≡◌, ◌++◌, ◌∷◌, [], true, IfOk, OnOk, OnErr};
+ghost use Rattle.std.specs.Prelude.{◌≡◌, ◌++◌, ◌∷◌, [], true, IfOk, OnOk, OnErr, map, slice_index};
+ghost use Rattle.std.specs.List.{list_all};
 ghost use Rattle.std.specs.Option.{option_to_list, option_map};
 ghost use Rattle.datasets.specs.Dataset.{IsDataset};
 ghost use Rattle.terms.specs.Term.{term_order};
-ghost use Rattle.terms.specs.DataSet.{with_quad, with_graph};
-ghost use Rattle.terms.specs.Placed.{term_at, quad_at, is_within, is_name_within, is_quad_within, AreWithin, AreApart, GoesOn, dataset_at};
+ghost use Rattle.terms.specs.DataSet.{with_quad, with_graph, united};
+ghost use Rattle.terms.specs.Placed.{term_at, quad_at, is_within, is_name_within, is_quad_within, quad_of_places, AreWithin, AreApart, GoesOn, dataset_at};
 
 use crate::table::TermTable;
 use crate::term::Term;
@@ -92,6 +93,87 @@ fn push_both(
     Ok(())
 }
 
+/// A quad of numbers of places, with those places.
+fn quad_of_places(places: &[u32], quad: &Quad<u32>) -> Quad<u32>
+    requires { is_quad_within places.now quad.now ≡ true }
+    ensures { result ≡ quad_of_places places.now quad.now }
+{
+    Quad {
+        subject: places[quad.subject as usize],
+        predicate: places[quad.predicate as usize],
+        object: places[quad.object as usize],
+        graph: match quad.graph {
+            Some(name) => Some(places[name as usize]),
+            None => None,
+        },
+    }
+}
+
+fn quads_of_places(
+    alloc: Global,
+    places: &[u32],
+    quads: &[Quad<u32>],
+) -> Result<Vec<Quad<u32>>, AllocError>
+    requires { list_all (is_quad_within places.now) quads.now ≡ true }
+    ensures { IfOk result (λ placed. placed.items ≡ map (quad_of_places places.now) quads.now) }
+{
+    let mut placed = Vec::new(alloc);
+    placed.reserve(quads.len())?;
+    for quad in quads {
+        placed.push(quad_of_places(places, quad))?;
+    }
+    Ok(placed)
+}
+
+fn names_of_places(alloc: Global, places: &[u32], names: &[u32]) -> Result<Vec<u32>, AllocError>
+    requires { list_all (is_within places.now) names.now ≡ true }
+    ensures { IfOk result (λ placed. placed.items ≡ map (slice_index places.now) names.now) }
+{
+    let mut placed = Vec::new(alloc);
+    for name in names {
+        placed.push(places[*name as usize])?;
+    }
+    Ok(placed)
+}
+
+/// Puts quads and names at the ends of two lists.
+fn append_both(
+    quads: &mut Vec<Quad<u32>>,
+    names: &mut Vec<u32>,
+    other_quads: &[Quad<u32>],
+    other_names: &[u32],
+) -> Result<(), AllocError>
+    ensures quads { OnOk result (quads.new.items ≡ quads.old.items ++ other_quads.now) }
+    ensures names { OnOk result (names.new.items ≡ names.old.items ++ other_names.now) }
+    ensures err { OnErr result ((quads.new.items ≡ quads.old.items) × (names.new.items ≡ names.old.items)) }
+{
+    quads.reserve(other_quads.len())?;
+    names.extend_from_slice(other_names)?;
+    quads.extend_from_slice(other_quads)
+}
+
+/// The quads and names of a dataset, at places in a table that gets its terms.
+fn parts_in(
+    alloc: Global,
+    terms: &mut TermTable,
+    other: DataSet,
+) -> Result<(Vec<Quad<u32>>, Vec<u32>), AllocError>
+    ensures parts { IfOk result (λ r. dataset_at terms.new r.0.items r.1.items ≡ other) }
+    ensures within { IfOk result (λ r. AreWithin terms.new r.0.items r.1.items) }
+    ensures dataset { IsDataset term_order other }
+    ensures kept { GoesOn terms.old terms.new }
+{
+    let DataSet {
+        terms: others,
+        quads,
+        names,
+    } = other;
+    let places = terms.places_of(alloc, others)?;
+    let quads = quads_of_places(alloc, places.as_slice(), quads.as_slice())?;
+    let names = names_of_places(alloc, places.as_slice(), names.as_slice())?;
+    Ok((quads, names))
+}
+
 impl DataSet {
     /// No quad and no name.
     pub fn new(alloc: Global) -> DataSet
@@ -134,6 +216,22 @@ impl DataSet {
     {
         let place = self.terms.place_of(name)?;
         self.names.push(place)?;
+        Ok(())
+    }
+
+    /// Puts in all quads and graphs of another dataset. An `Err`, which comes only where memory runs out, leaves the dataset as it was.
+    pub fn unite(&mut self, other: DataSet) -> Result<(), AllocError>
+        ensures ok { OnOk result (self.new ≡ united self.old other) }
+        ensures err { OnErr result (self.new ≡ self.old) }
+    {
+        let alloc = *self.quads.allocator();
+        let (quads, names) = parts_in(alloc, &mut self.terms, other)?;
+        append_both(
+            &mut self.quads,
+            &mut self.names,
+            quads.as_slice(),
+            names.as_slice(),
+        )?;
         Ok(())
     }
 

@@ -6,12 +6,17 @@ ghost use Rattle.datasets.specs.declared.quad.Quad.{Quad};
 ghost use Rattle.datasets.specs.Dataset.{quad_order, names_of};
 ghost use Rattle.terms.specs.declared.term.Term.{Term};
 ghost use Rattle.terms.specs.Term.{term_order, text_cmp};
-ghost use Rattle.terms.specs.DataSet.{in_named, ListsGrowAsDatasets};
+ghost use Rattle.terms.specs.DataSet.{in_named, ListsGrowAsDatasets, ListsUnite};
 ghost use Rattle.terms.specs.Placed.{TermsKeepPlaces};
 
 /// The dataset of a list with one more quad is the dataset of the list with that quad put in.
 pub fn lists_grow_as_datasets()
     ensures { ListsGrowAsDatasets }
+{}
+
+/// The dataset of lists, one behind the other, has the quads and graphs of both lists' datasets.
+pub fn lists_unite()
+    ensures { ListsUnite }
 {}
 
 /// Quads name a graph exactly where one of them is in it.

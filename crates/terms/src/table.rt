@@ -1,6 +1,6 @@
 //! Terms by their places.
 ghost use Rattle.std.specs.Prelude.{◌≡◌, true, [], IfOk};
-ghost use Rattle.terms.specs.Placed.{term_at, is_within, AreApart, GoesOn};
+ghost use Rattle.terms.specs.Placed.{term_at, is_within, AreApart, AreAt, GoesOn};
 
 use crate::term::Term;
 use indexmap::IndexSet;
@@ -50,6 +50,20 @@ impl TermTable {
         let (place, _) = self.terms.insert_full(term)?;
         let place = narrowed(place)?;
         Ok(place)
+    }
+
+    /// The places of another table's terms, in their order there: those that are new come last. It fails where memory runs out; whatever
+    /// comes, no term changes its place.
+    pub fn places_of(&mut self, alloc: Global, others: TermTable) -> Result<Vec<u32>, AllocError>
+        ensures places { IfOk result (λ places. AreAt self.new places.items others) }
+        ensures kept { GoesOn self.old self.new }
+    {
+        let mut places = Vec::new(alloc);
+        for term in others.terms {
+            let place = self.place_of(term)?;
+            places.push(place)?;
+        }
+        Ok(places)
     }
 }
 

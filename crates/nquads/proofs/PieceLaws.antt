@@ -1,0 +1,108 @@
+-- Reading a text in two pieces, of which the first ends with an LF.
+use Rattle.std.specs.Prelude.{Bool, IfOk, Result, Ok}
+use Rattle.std.proofs.Common.{◌≡◌, ℕ, true, false, cond, eqb, List, [], ◌∷◌, ◌++◌, Some, refl, sym, ap, ◌∙◌, subst, append_assoc}
+use Rattle.std.proofs.lemmas.List.{append-nil}
+use Rattle.std.specs.List.{onto_first}
+use Rattle.std.specs.Option.{option_to_list}
+use Rattle.datasets.specs.declared.quad.Quad.{Quad}
+use Rattle.datasets.specs.Dataset.{Dataset}
+use Rattle.terms.specs.declared.term.Term.{Term}
+use Rattle.terms.specs.DataSet.{dataset_of, united, ListsUnite}
+use Rattle.nquads.specs.declared.stop.Line.{Line}
+use Rattle.nquads.specs.declared.stop.Line.TheVariants.{Nothing, Graph, Statement}
+use Rattle.nquads.specs.Lines.{lines, lines_after}
+use Rattle.nquads.specs.Line.{IsLine, nothing, at_end}
+use Rattle.nquads.specs.Reading.{line_of, LinesAreRead}
+use Rattle.nquads.specs.Spelled.{AreLines, none, more, stated, declared, Spells}
+use Rattle.nquads.specs.Pieces.{ArePieces}
+
+-- ---- the lines of two pieces
+
+-- the lines before what follows the LF, and that there is one where no CR came before
+abbrev Before : (cr : Bool) → ((List ℕ) → List (List ℕ)) → Type 0
+Before cr all = (before : List (List ℕ)) × ((ys : List ℕ) → all ys ≡ before ++ lines_after false ys) × (cr ≡ false → (first : List ℕ) × (others : List (List ℕ)) × (before ≡ first ∷ others))
+
+-- one byte more in front, by whether it is an LF or a CR
+one_byte : (n m cr : Bool) (b : ℕ) (after inner : List ℕ → List (List ℕ)) → Before true after → Before false inner
+    → Before cr (λ ys. cond n (cond cr (inner ys) ([] ∷ inner ys)) (cond m ([] ∷ after ys) (onto_first b (inner ys))))
+one_byte true m true b after inner x y = (y.0, y.1, λ e. absurd cc)
+one_byte true m false b after inner x y = ([] ∷ y.0, λ ys. ap (λ ls. [] ∷ ls) (y.1 ys), λ e. ([], y.0, refl))
+one_byte false true cr b after inner x y = ([] ∷ x.0, λ ys. ap (λ ls. [] ∷ ls) (x.1 ys), λ e. ([], x.0, refl))
+one_byte false false cr b after inner x y =
+    let some = y.2 refl in
+    ((b ∷ some.0) ∷ some.1, λ ys. ap (onto_first b) (y.1 ys ∙ ap (λ ls. ls ++ lines_after false ys) some.2), λ e. (b ∷ some.0, some.1, refl))
+
+lines_before : (front : List ℕ) (cr : Bool) → Before cr (λ ys. lines_after cr (front ++ 10 ∷ ys))
+lines_before [] true = ([], λ ys. refl, λ e. absurd cc)
+lines_before [] false = ([] ∷ [], λ ys. refl, λ e. ([], [], refl))
+lines_before (b ∷ bs) cr =
+    one_byte (eqb b 10) (eqb b 13) cr b (λ ys. lines_after true (bs ++ 10 ∷ ys)) (λ ys. lines_after false (bs ++ 10 ∷ ys)) (lines_before bs true) (lines_before bs false)
+
+-- ---- what they say
+
+module _ where
+  are_both : {xs ys : List (List ℕ)} {s t : List Line} → AreLines xs s → AreLines ys t → AreLines (xs ++ ys) (s ++ t)
+  are_both none h = h
+  are_both (more is later) h = more is (are_both later h)
+
+  -- lines in two parts
+  in_parts : (xs ys : List (List ℕ)) (said : List Line) → AreLines (xs ++ ys) said → (s : List Line) × (t : List Line) × AreLines xs s × AreLines ys t × (said ≡ s ++ t)
+  in_parts [] ys said h = ([], said, none, h, refl)
+  in_parts (x ∷ xs) ys [] h = elim h [ ]
+  in_parts (x ∷ xs) ys (l ∷ said) (more is later) =
+      let r = in_parts xs ys said later in (l ∷ r.0, r.1, more is r.2, r.3, ap (λ ls. l ∷ ls) r.4)
+
+  stated_both : (s t : List Line) → stated (s ++ t) ≡ stated s ++ stated t
+  stated_both [] t = refl
+  stated_both (Nothing ∷ s) t = stated_both s t
+  stated_both (Graph g ∷ s) t = stated_both s t
+  stated_both (Statement q ∷ s) t = ap (λ qs. q ∷ qs) (stated_both s t)
+
+  declared_both : (s t : List Line) → declared (s ++ t) ≡ declared s ++ declared t
+  declared_both [] t = refl
+  declared_both (Nothing ∷ s) t = declared_both s t
+  declared_both (Graph g ∷ s) t = ap (λ ns. g ∷ ns) (declared_both s t)
+  declared_both (Statement q ∷ s) t =
+      ap (λ ns. option_to_list q.graph ++ ns) (declared_both s t) ∙ sym (append_assoc (option_to_list q.graph) (declared s) (declared t))
+
+module _ (read : LinesAreRead) where
+  -- an empty line says nothing
+  empty_line : (said : Line) → IsLine [] said → said ≡ Nothing
+  empty_line said is =
+      let empty : IsLine [] Nothing = record { utf8 = is.utf8; says = nothing (at_end (record { blanks = []; cut = refl; each = refl })) refl } in
+      let e : Some Nothing ≡ Some said = sym ((read [] Nothing).1 empty) ∙ (read [] said).1 is in
+      cc
+
+  last_says : (t : List Line) → AreLines ([] ∷ []) t → t ≡ Nothing ∷ []
+  last_says [] h = elim h [ ]
+  last_says (l ∷ []) (more is later) = ap (λ x. x ∷ []) (empty_line l is)
+  last_says (l ∷ k ∷ t) (more is later) = elim later [ ]
+
+  -- ---- and the dataset
+
+  module _ (unite : ListsUnite) where
+    pub united_spelled : (text first rest : List ℕ) (d e : Dataset Term) → ArePieces text first rest → Spells first d → Spells rest e → Spells text (united d e)
+    united_spelled text first rest d e pieces a b =
+        let before = lines_before pieces.0 false in
+        let front : lines first ≡ before.0 ++ [] ∷ [] = ap lines pieces.1 ∙ before.1 [] in
+        let whole : lines text ≡ before.0 ++ lines rest = ap lines (pieces.2 ∙ ap (λ t. t ++ rest) pieces.1 ∙ append_assoc pieces.0 (10 ∷ []) rest) ∙ before.1 rest in
+        let parts = in_parts before.0 ([] ∷ []) a.said (subst (λ ls. AreLines ls a.said) front a.each) in
+        let said : a.said ≡ parts.0 ++ Nothing ∷ [] = parts.4 ∙ ap (λ t. parts.0 ++ t) (last_says parts.1 parts.3) in
+        let quads : stated a.said ≡ stated parts.0 = ap stated said ∙ stated_both parts.0 (Nothing ∷ []) ∙ append-nil (stated parts.0) in
+        let names : declared a.said ≡ declared parts.0 = ap declared said ∙ declared_both parts.0 (Nothing ∷ []) ∙ append-nil (declared parts.0) in
+        let both : united d e ≡ dataset_of (stated (parts.0 ++ b.said)) (declared (parts.0 ++ b.said)) =
+        (λ i. united (record { quads = a.quads i; names = a.names i }) (record { quads = b.quads i; names = b.names i }))
+        ∙ (λ i. united (dataset_of (quads i) (names i)) (dataset_of (stated b.said) (declared b.said)))
+        ∙ sym (unite (stated parts.0) (stated b.said) (declared parts.0) (declared b.said))
+        ∙ sym (let e : dataset_of (stated (parts.0 ++ b.said)) (declared (parts.0 ++ b.said)) ≡ dataset_of (stated parts.0 ++ stated b.said) (declared parts.0 ++ declared b.said) =
+        λ i. dataset_of (stated_both parts.0 b.said i) (declared_both parts.0 b.said i) in
+        e) in
+        record {
+          said = parts.0 ++ b.said;
+          each = subst (λ ls. AreLines ls (parts.0 ++ b.said)) (sym whole) (are_both parts.2 b.each);
+          quads = ap (λ (x : Dataset Term). x.quads) both;
+          names = ap (λ (x : Dataset Term). x.names) both;
+        }
+
+pub at_ok : {A E : Type 0} (P : A → Type 0) {r : Result A E} {x : A} → IfOk r P → r ≡ Ok x → P x
+at_ok P h e = subst (λ r. IfOk r P) e h
