@@ -11,7 +11,7 @@ ghost use Rattle.cli.specs.Inputs.{IsFaultOf};
 ghost use Rattle.update.specs.Asked.{AreShort};
 ghost use Rattle.cli.specs.Outputs.{IsAnswerTo, Wrote, WroteInPart};
 
-use crate::inputs::{read_base, read_block};
+use crate::inputs::{read_base_by, read_block};
 use crate::outputs::{Texts, write_texts};
 use command_line::{Fault, File, replies_text};
 use delta::Outcome;
@@ -27,14 +27,24 @@ use std::sync::Wait;
 use std::thread::Threads;
 use terms::DataSet;
 
-/// A way to run a block at numbers of terms.
+/// A way to read a base, and to run a block at numbers of terms.
 pub(crate) trait Runs {
-    ghost use Rattle.std.specs.Prelude.{◌<◌, ◌^◌, length, IfOk};
+    ghost use Rattle.std.specs.Prelude.{◌<◌, ◌-◌, ◌^◌, length, IfOk, IfSome};
     ghost use Rattle.update.specs.Asked.{AreShort};
+    ghost use Rattle.cli.specs.Failures.{is_unread, FailedIf, TellsNoOther};
+    ghost use Rattle.cli.specs.Inputs.{IsBaseAnswer};
     ghost use Rattle.cli.specs.Outputs.{IsWhole};
 
     // What it takes of its types.
     ghost Ready: { Type 0 };
+
+    /// The dataset that a base spells.
+    fn read<R: Read>(&self, alloc: Global, base: &mut Watched<R>) -> Result<DataSet, Fault>
+        requires ready { Ready }
+        requires failures { base.old.failures < 2 ^ 64 - 1 }
+        ensures answer { IfSome (R.remaining base.old.inner) (λ text. IsBaseAnswer text result) }
+        ensures failures { FailedIf (is_unread File.Base result) base.old.failures base.new.failures }
+        ensures others { TellsNoOther File.Base result };
 
     /// The outcome of the whole block.
     fn outcome(&self, alloc: Global, numbered: &Numbered) -> Result<Outcome, AllocError>
@@ -118,7 +128,7 @@ pub(crate) fn run_by<W: Runs, B: Read, K: Read, D: Write, A: Write>(
     ensures block_failures { FailedIf (is_unread File.Block result) block.old.failures block.new.failures }
     ensures write_failures { OneFailedIf (is_unwritten result) dataset.old.failures dataset.new.failures replies.old.failures replies.new.failures }
 {
-    let read = read_base(alloc, base)?;
+    let read = way.read(alloc, base)?;
     let requests = read_block(alloc, block)?;
     match texts_of(way, alloc, read, &requests) {
         Ok(texts) => write_texts(&texts, dataset, replies),
@@ -139,6 +149,10 @@ impl<'r, T: Threads + Wait + Sync> Runs for Workers<'r, T> {
     ghost use Rattle.std.specs.Thread.{IsSync};
 
     ghost Ready = { IsSync T.row };
+
+    fn read<R: Read>(&self, alloc: Global, base: &mut Watched<R>) -> Result<DataSet, Fault> {
+        read_base_by(self.rt, alloc, base, self.count)
+    }
 
     #[tactic(auto, using(crate::proofs::Composed::whole_run))]
     fn outcome(&self, alloc: Global, numbered: &Numbered) -> Result<Outcome, AllocError> {

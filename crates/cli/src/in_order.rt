@@ -5,6 +5,7 @@ ghost use Rattle.cli.specs.Inputs.{IsFaultOf};
 ghost use Rattle.cli.specs.Outputs.{Wrote, WroteInPart};
 
 use crate::engine::{Runs, run_by};
+use crate::inputs::read_base;
 use command_line::{Fault, File};
 use delta::Outcome;
 use devices::Watched;
@@ -12,6 +13,7 @@ use numbering::Numbered;
 use serial::run;
 use std::alloc::{AllocError, Global};
 use std::io::{Read, Write};
+use terms::DataSet;
 
 /// One request after another.
 #[derive(Drop)]
@@ -19,6 +21,10 @@ struct OneByOne;
 
 impl Runs for OneByOne {
     ghost Ready = { Unit {0} };
+
+    fn read<R: Read>(&self, alloc: Global, base: &mut Watched<R>) -> Result<DataSet, Fault> {
+        read_base(alloc, base)
+    }
 
     fn outcome(&self, alloc: Global, numbered: &Numbered) -> Result<Outcome, AllocError> {
         run(alloc, &numbered.base, numbered.block.as_slice())

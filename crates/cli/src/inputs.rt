@@ -15,6 +15,7 @@ use rules::{Block, BlockFault, Verdict, split, verdicts};
 use sets::Items;
 use std::alloc::Global;
 use std::io::Read;
+use std::thread::Threads;
 use terms::DataSet;
 
 /// The most bytes of a block.
@@ -62,6 +63,24 @@ pub fn read_base<R: Read>(alloc: Global, reader: &mut Watched<R>) -> Result<Data
     ensures others { TellsNoOther File.Base result }
 {
     match nquads::read(alloc, reader) {
+        Ok(dataset) => Ok(dataset),
+        Err(fault) => Err(base_fault(fault)),
+    }
+}
+
+/// The same, read by so many threads.
+pub fn read_base_by<T: Threads + Sync, R: Read>(
+    rt: &T,
+    alloc: Global,
+    reader: &mut Watched<R>,
+    threads: u32,
+) -> Result<DataSet, Fault>
+    requires { reader.old.failures < 2 ^ 64 - 1 }
+    ensures answer { IfSome (R.remaining reader.old.inner) (λ text. IsBaseAnswer text result) }
+    ensures failures { FailedIf (is_unread File.Base result) reader.old.failures reader.new.failures }
+    ensures others { TellsNoOther File.Base result }
+{
+    match nquads::read_by(rt, alloc, reader, threads as usize) {
         Ok(dataset) => Ok(dataset),
         Err(fault) => Err(base_fault(fault)),
     }

@@ -6,7 +6,7 @@ ghost use Rattle.cli.specs.Journals.{IsFaultWithJournal, IsJournalAt, IsJournalO
 ghost use Rattle.cli.specs.Outputs.{IsAnswerTo, IsWhole, Wrote, WroteInPart};
 
 use crate::engine::texts_of_outcome;
-use crate::inputs::{read_base, read_block};
+use crate::inputs::{read_base_by, read_block};
 use crate::outputs::{Texts, write_journal, write_texts};
 use command_line::{Fault, File};
 use delta::Outcome;
@@ -136,7 +136,7 @@ pub fn run_with_journal_engine<
     ensures write_failures { OneFailedIf (is_unwritten result) dataset.old.failures dataset.new.failures replies.old.failures replies.new.failures }
     ensures journal_failures { FailedIf (is_journal_unwritten result) journal.old.failures journal.new.failures }
 {
-    let read = read_base(alloc, base)?;
+    let read = read_base_by(rt, alloc, base, workers)?;
     let requests = read_block(alloc, block)?;
     let Ok(texts) = texts_with_journal(rt, alloc, read, &requests, workers) else {
         return Err(Fault::Memory);

@@ -13,6 +13,8 @@ mod made;
 #[cfg(test)]
 mod objects;
 #[cfg(test)]
+mod pieces;
+#[cfg(test)]
 mod slow_devices;
 #[cfg(test)]
 mod texts;

@@ -7,7 +7,7 @@ use std::test::Fail;
 use terms::DataSet;
 
 /// Texts, and the canonical text of what each spells.
-const TEXTS: [(&str, &str); 22] = [
+pub const TEXTS: [(&str, &str); 22] = [
     ("", ""),
     ("\n\r\n\r\t # nothing", ""),
     ("<x:a><x:b><x:c>.", "<x:a> <x:b> <x:c> .\n"),
@@ -98,7 +98,7 @@ fn tags(rt: HostRuntime) -> Result<(), BaseFault> {
 }
 
 /// Texts, and the number of the first bad line of each.
-const BAD: [(&[u8], usize); 24] = [
+pub const BAD: [(&[u8], usize); 24] = [
     (b"x", 1),
     (b"\n<x:a> <x:b> <x:c>", 2),
     (b"\r\n\r<x:a> <x:b> .\r\r", 3),
@@ -126,7 +126,7 @@ const BAD: [(&[u8], usize); 24] = [
 ];
 
 /// Whether the line of this number is the first bad one. An `Err` where memory ran out.
-fn is_bad_at(outcome: Result<DataSet, BaseFault>, number: usize) -> Result<bool, BaseFault> {
+pub fn is_bad_at(outcome: Result<DataSet, BaseFault>, number: usize) -> Result<bool, BaseFault> {
     Ok(matches!(fault_of(outcome)?, Some(BaseFault::BadLine(at)) if at == number))
 }
 

@@ -1,0 +1,104 @@
+//! Texts that are read in pieces, by several threads.
+use crate::made::fault_of;
+use crate::texts::{BAD, TEXTS, is_bad_at};
+use devices::Watched;
+use nquads::{BaseFault, canonical_text, read_by};
+use std::alloc::Global;
+use std::thread::Threads;
+
+const THREADS: [usize; 5] = [0, 1, 2, 3, 8];
+
+/// Texts that are cut at several places, and the canonical text of what each spells.
+const CUT: [(&str, &str); 9] = [
+    ("\n\n\n\n\n\n\n\n\n", ""),
+    (
+        "<x:b> <x:p> <x:c> .\r\n<x:a> <x:p> <x:c> .\r\n",
+        "<x:a> <x:p> <x:c> .\n<x:b> <x:p> <x:c> .\n",
+    ),
+    (
+        "<x:b> <x:p> <x:c> .\r<x:a> <x:p> <x:c> .\r",
+        "<x:a> <x:p> <x:c> .\n<x:b> <x:p> <x:c> .\n",
+    ),
+    (
+        "<x:b> <x:p> <x:c> .\r\r\n\r\r\n\n\r\n<x:a> <x:p> <x:c> .\r",
+        "<x:a> <x:p> <x:c> .\n<x:b> <x:p> <x:c> .\n",
+    ),
+    (
+        "<x:a> <x:p> <x:c> .\n<x:a> <x:p> <x:c> .\n<x:a> <x:p> <x:c> .\n<x:a> <x:p> <x:c> .",
+        "<x:a> <x:p> <x:c> .\n",
+    ),
+    (
+        "#@graph <x:g>\n#@graph <x:e>\n<x:a> <x:p> <x:c> <x:g> .\n<x:c> <x:p> <x:a> <x:g> .\n",
+        "#@graph <x:e>\n<x:a> <x:p> <x:c> <x:g> .\n<x:c> <x:p> <x:a> <x:g> .\n",
+    ),
+    (
+        "<x:a> <x:p> <x:c> <x:g> .\n<x:c> <x:p> <x:a> <x:h> .\n#@graph <x:e>\n#@graph <x:g>\n",
+        "#@graph <x:e>\n<x:a> <x:p> <x:c> <x:g> .\n<x:c> <x:p> <x:a> <x:h> .\n",
+    ),
+    (
+        "_:a <x:p> \"1\" .\n_:b <x:p> \"1\" .\n_:a <x:q> _:b .\n<x:p> <x:q> \"1\"@en .\n",
+        "<x:p> <x:q> \"1\"@en .\n_:a <x:p> \"1\" .\n_:a <x:q> _:b .\n_:b <x:p> \"1\" .\n",
+    ),
+    (
+        "<x:4> <x:p> <x:1> .\n<x:3> <x:p> <x:2> .\n# none\n<x:2> <x:p> <x:3> .\n<x:1> <x:p> <x:4> .\n",
+        "<x:1> <x:p> <x:4> .\n<x:2> <x:p> <x:3> .\n<x:3> <x:p> <x:2> .\n<x:4> <x:p> <x:1> .\n",
+    ),
+];
+
+/// Whether what so many threads read of a text has that canonical text.
+fn is_read<T: Threads + Sync>(
+    rt: &T,
+    alloc: Global,
+    text: &str,
+    threads: usize,
+    canonical: &str,
+) -> Result<bool, BaseFault> {
+    let mut reader = Watched::new(text.as_bytes());
+    let dataset = read_by(rt, alloc, &mut reader, threads)?;
+    let written = canonical_text(alloc, &dataset, 1)?;
+    Ok(written.as_slice() == canonical.as_bytes() && reader.failures == 0)
+}
+
+#[test]
+fn read_by_threads(rt: HostRuntime) -> Result<(), BaseFault> {
+    for threads in &THREADS {
+        for (text, canonical) in &TEXTS {
+            assert!(rt;
+                is_read(&rt, rt.alloc(), text, *threads, canonical)?,
+                "{threads} {text:?}"
+            );
+        }
+        for (text, canonical) in &CUT {
+            assert!(rt;
+                is_read(&rt, rt.alloc(), text, *threads, canonical)?,
+                "{threads} {text:?}"
+            );
+        }
+    }
+    Ok(())
+}
+
+/// Texts of several pieces, and the number of the first bad line of each.
+const BAD_PIECES: [(&[u8], usize); 6] = [
+    (b"x\n#\n#\n#\n#\n#\n#\n#\n", 1),
+    (b"#\n#\n#\nx\n#\n#\n#\n#\n", 4),
+    (b"#\n#\n#\n#\n#\n#\n#\nx", 8),
+    (b"#\n#\nx\n#\n#\nx\n#\n#\n", 3),
+    (b"#\r#\r\n#\r#\r#\n\rx\n#\n\xff", 7),
+    (b"<x:a> <x:p> \"a\nb\" .\n<x:a> <x:p> <x:b> .\n", 1),
+];
+
+#[test]
+fn bad_lines_by_threads(rt: HostRuntime) -> Result<(), BaseFault> {
+    for threads in &THREADS {
+        for (text, number) in &BAD {
+            let outcome = read_by(&rt, rt.alloc(), &mut Watched::new(*text), *threads);
+            assert!(rt; is_bad_at(outcome, *number)?, "{threads} {text:?}");
+        }
+        for (text, number) in &BAD_PIECES {
+            let outcome = read_by(&rt, rt.alloc(), &mut Watched::new(*text), *threads);
+            assert!(rt; is_bad_at(outcome, *number)?, "{threads} {text:?}");
+        }
+    }
+    Ok(())
+}
