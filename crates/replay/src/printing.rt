@@ -82,16 +82,27 @@ fn line_of(alloc: Global, terms: &Dict, entry: &JournalEntry) -> Result<Line, Al
     })
 }
 
-/// The lines of a book's journal, one an entry, in order. An error comes only where memory runs out.
-pub fn lines_of(alloc: Global, book: &Book<'_>) -> Result<Vec<Line>, AllocError>
-    ensures { IfOk result (λ lines. lines.items ≡ map (the_line book.now.terms) book.now.history) }
+// The lines of entries, in order.
+fn entry_lines(
+    alloc: Global,
+    terms: &Dict,
+    journal: &[JournalEntry],
+) -> Result<Vec<Line>, AllocError>
+    ensures { IfOk result (λ lines. lines.items ≡ map (line_of_kept terms.now) journal.now) }
 {
-    let terms = book.terms();
-    let journal = book.journal();
     let mut lines = Vec::new(alloc);
     lines.reserve(journal.len())?;
     for entry in journal {
         lines.push(line_of(alloc, terms, entry)?)?;
     }
     Ok(lines)
+}
+
+/// The lines of a book's journal, one an entry, in order. An error comes only where memory runs out.
+pub fn lines_of(alloc: Global, book: &Book<'_>) -> Result<Vec<Line>, AllocError>
+    ensures { IfOk result (λ lines. lines.items ≡ map (the_line book.now.terms) book.now.history) }
+{
+    let terms = book.terms();
+    let journal = book.journal();
+    entry_lines(alloc, terms, journal)
 }
