@@ -65,7 +65,10 @@ use Rattle.version_overlay.specs.contracts.settled.Settled as Settled
 use Rattle.version_overlay.specs.contracts.lean_note.LeanNote as LeanNote
 use Rattle.quad_index.proofs.key.Arrangement.TheSendSync as arrangement
 use Rattle.quad_index.specs.contracts.run.Run as Run
-use Rattle.quad_index.specs.contracts.run.Hint as Hint
+use Rattle.quad_index.specs.contracts.hint.Hint as Hint
+use Rattle.quad_index.specs.contracts.hint.KnownHint as KnownHint
+use Rattle.quad_index.specs.contracts.hint_list.HintList as HintList
+use Rattle.quad_index.specs.contracts.order_set.OrderSet as OrderSet
 use Rattle.block_machine.specs.contracts.state.Noted as Noted
 use Rattle.block_machine.specs.contracts.state.Slot as Slot
 use Rattle.block_machine.specs.contracts.state.Pass as MachinePass
@@ -242,17 +245,29 @@ replied = option.the_field_send Replied.the_row a_reply.the_send
 passed : IsSend (Option.the_field MachinePass.the_row).row
 passed = option.the_field_send MachinePass.the_row a_pass.the_send
 
+known_quad_send : IsSend (KnownQuad.the_row)
+known_quad_send = search (sendable, crosses) depth 20
+
 hint : IsSend (Hint.the_row)
 hint = let q = quad_field in search (sendable, crosses) depth 20
 
+known_hint : IsSend (KnownHint.the_row)
+known_hint = let k = known_quad_send in search (sendable, crosses) depth 20
+
+hint_list : IsSend (HintList.the_field).row
+hint_list = let h = hint in let k = known_hint in search (sendable, crosses) depth 20
+
 run : IsSend (Run.the_row)
-run = let h = hint in search (sendable, crosses) depth 20
+run = let l = hint_list in let a = arrangement.the_field_send in search (sendable, crosses) depth 20
 
 sorted_hints : IsSend (SortedHints.the_field).row
-sorted_hints = let r = run in let h = hint in let a = arrangement.the_field_send in search (sendable, crosses) depth 20
+sorted_hints = let r = run in let a = arrangement.the_field_send in search (sendable, crosses) depth 20
+
+order_set : IsSend (OrderSet.the_field).row
+order_set = search (sendable, crosses) depth 20
 
 ordered_hints : IsSend (OrderedHints.the_field).row
-ordered_hints = let s = sorted_hints in search (sendable, crosses) depth 20
+ordered_hints = let s = sorted_hints in let o = order_set in search (sendable, crosses) depth 20
 
 seen : IsSend (Seen.the_field).row
 seen = search (sendable, crosses) depth 20
@@ -264,13 +279,10 @@ hints : IsSend (Hints.the_field).row
 hints = let o = ordered_hints in let h = hint in search (sendable, crosses) depth 20
 
 generation : IsSend (Generation.the_field).row
-generation = let h = hints in let i = id.the_send in search (sendable, crosses, maps.crosses) depth 20
+generation = let h = hints in let i = id.the_send in let o = order_set in search (sendable, crosses, maps.crosses) depth 20
 
 spoken : IsSend (Spoken.the_field).row
-spoken = let g = generation in let s = seen_quads in search (sendable, crosses) depth 20
-
-known_quad_send : IsSend (KnownQuad.the_row)
-known_quad_send = search (sendable, crosses) depth 20
+spoken = let g = generation in let s = seen_quads in let o = order_set in search (sendable, crosses) depth 20
 
 entries_send : IsSend (Entries.the_field).row
 entries_send = let k = known_quad_send in let q = quad in search (sendable, crosses) depth 20
