@@ -7,6 +7,7 @@ ghost use Rattle.nquads.specs.Spelled.{Spells};
 use crate::fault::BaseFault;
 use crate::laws::lines_are_read;
 use crate::reader::read_bytes;
+use crate::sorted::share;
 use std::alloc::Global;
 use std::thread::{Threads, join};
 use terms::DataSet;
@@ -22,14 +23,6 @@ fn end_of_lf(bytes: &[u8], from: usize) -> Option<usize>
         }
     }
     None
-}
-
-/// The place at which so many bytes are parted among so many threads, half of them before it.
-fn share(len: usize, threads: usize) -> usize
-    requires { 0 < threads }
-    ensures { result ≤ len }
-{
-    len / threads * (threads / 2)
 }
 
 /// A text in two pieces for the two halves of so many threads, where an LF comes late enough. The first piece ends with it.
