@@ -39,8 +39,10 @@ impl Pace {
     fn commit(&self) {
         self.committed.fetch_add(1, Ordering::SeqCst);
         let eighths = self.eighths.load(Ordering::SeqCst);
-        self.eighths
-            .store(eighths.saturating_add(1).min(MOST_EIGHTHS), Ordering::SeqCst);
+        self.eighths.store(
+            eighths.saturating_add(1).min(MOST_EIGHTHS),
+            Ordering::SeqCst,
+        );
     }
 
     /// One more request is committed, if it is so.
