@@ -53,6 +53,33 @@ rising_more lines made new line lt text last h = record {
       all_push (λ x. text_cmp x above ≡ Less) lines line (all_under lines line above under (h.last line lt)) under;
 }
 
+all_both : (p : List ℕ → Type 0) (xs ys : List (List ℕ)) → AllByRecursion p xs → AllByRecursion p ys → AllByRecursion p (xs ++ ys)
+all_both p [] ys h k = k
+all_both p (x ∷ xs) ys h k = (h.0, all_both p xs ys h.1 k)
+
+all_over : (x line : List ℕ) (ys : List (List ℕ)) → text_cmp x line ≡ Less → AllByRecursion (λ y. text_cmp line y ≡ Less) ys → AllByRecursion (λ y. text_cmp x y ≡ Less) ys
+all_over x line [] e h = tt
+all_over x line (y ∷ ys) e h = (text_total.trans x line y e h.0, all_over x line ys e h.1)
+
+-- lines below another, and those from it on
+sorted_both : (xs : List (List ℕ)) (line : List ℕ) (ys : List (List ℕ)) → IsStrictlySortedBy text_cmp xs → AllByRecursion (λ x. text_cmp x line ≡ Less) xs
+    → IsStrictlySortedBy text_cmp (line ∷ ys) → IsStrictlySortedBy text_cmp (xs ++ line ∷ ys)
+sorted_both [] line ys s below t = t
+sorted_both (x ∷ xs) line ys s below t =
+    sorted-cons text_cmp x (xs ++ line ∷ ys)
+    (all_both (λ y. text_cmp x y ≡ Less) xs (line ∷ ys) (below_tail text_cmp x xs s) (below.0, all_over x line ys below.0 (below_tail text_cmp line ys t)))
+    (sorted_both xs line ys (All-tail_of text_cmp x xs s) below.1 t)
+
+pub rising_both : (lines others : List (List ℕ)) (line : List ℕ) (low high new : Rising) → text_cmp low.last.items line ≡ Less → new.text.items ≡ low.text.items ++ high.text.items
+    → new.last.items ≡ high.last.items → IsRising lines low → IsRising (line ∷ others) high → IsRising (lines ++ line ∷ others) new
+rising_both lines others line low high new lt text last h k = record {
+  text = text ∙ (λ i. h.text i ++ k.text i) ∙ sym (flat_map-append ended lines (line ∷ others));
+  rises = sorted_both lines line others h.rises (h.last line lt) k.rises;
+  last = λ above e.
+      let over : AllByRecursion (λ x. text_cmp x above ≡ Less) (line ∷ others) = k.last above (ap (λ t. text_cmp t above) (sym last) ∙ e) in
+      all_both (λ x. text_cmp x above ≡ Less) lines (line ∷ others) (all_under lines line above over.0 (h.last line lt)) over;
+}
+
 or_comm : (b c : Bool) → (b || c) ≡ (c || b)
 or_comm true true = refl
 or_comm true false = refl

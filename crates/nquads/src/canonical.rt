@@ -10,12 +10,14 @@ ghost use Rattle.nquads.specs.Canonical.{ended, canonical as canonical_of};
 ghost use Rattle.nquads.specs.Placed.{text_at, graph_text_at, quad_text_at, graph_line_at, is_name_at, is_in_at};
 
 use crate::rising::rising_text;
+use crate::rising_pieces::rising_text_by;
 use crate::text_line::TextLine;
-use crate::text_order::{names_by_text, quads_by_text};
+use crate::text_order::{names_by_text, quads_by_text, quads_by_text_by};
 use datasets::Quad;
 use sets::set_of;
 use std::alloc::{AllocError, Global};
 use std::collections::HashSet;
+use std::thread::Threads;
 use terms::laws::{quads_name_their_graphs, sets_pass_alike};
 use terms::{DataSet, Term, term_text};
 
@@ -209,6 +211,37 @@ fn text_of_lines(
     }
 }
 
+/// The same text, made by so many threads, where they can be had.
+fn text_of_lines_by<T: Threads + Sync>(
+    rt: &T,
+    alloc: Global,
+    texts: &[TextLine],
+    quads: &[Quad<u32>],
+    names: &[u32],
+    full: &HashSet<u32>,
+    threads: usize,
+) -> Result<Vec<u8>, AllocError>
+    requires quads { list_all (is_quad_within texts.now) quads.now ≡ true }
+    requires names { list_all (is_within texts.now) names.now ≡ true }
+    ensures { IfOk result (λ text. text.items ≡ flat_map ended (set_of_lines text_cmp (map (quad_text_at texts.now) quads.now ++ map (graph_line_at texts.now) (filter (λ name. not (contains nat_eq full.now name)) names.now)))) }
+{
+    let quads_in_order = quads_by_text_by(rt, alloc, texts, quads)?;
+    let names_in_order = names_by_text(alloc, texts, names)?;
+    let found = rising_text_by(
+        rt,
+        alloc,
+        texts,
+        &quads_in_order,
+        &names_in_order,
+        full,
+        threads,
+    )?;
+    if let Some(text) = found {
+        return Ok(text);
+    }
+    sorted_text(alloc, texts, quads, names, full)
+}
+
 /// The canonical text of a dataset, where `tag` is in the labels of made nodes. It fails only where memory runs out.
 pub fn canonical_text(alloc: Global, dataset: &DataSet, tag: u32) -> Result<Vec<u8>, AllocError>
     ensures { IfOk result (λ text. text.items ≡ canonical_of dataset.now tag) }
@@ -219,5 +252,35 @@ pub fn canonical_text(alloc: Global, dataset: &DataSet, tag: u32) -> Result<Vec<
     let texts = texts_of(alloc, parts.terms, tag)?;
     let full = full_graphs(alloc, parts.quads)?;
     let text = text_of_lines(alloc, texts.as_slice(), parts.quads, parts.names, &full)?;
+    Ok(text)
+}
+
+/// The same text, made by so many threads, where they can be had.
+pub fn canonical_text_by<T: Threads + Sync>(
+    rt: &T,
+    alloc: Global,
+    dataset: &DataSet,
+    tag: u32,
+    threads: usize,
+) -> Result<Vec<u8>, AllocError>
+    ensures { IfOk result (λ text. text.items ≡ canonical_of dataset.now tag) }
+{
+    sets_pass_alike();
+    quads_name_their_graphs();
+    if threads <= 1 {
+        return canonical_text(alloc, dataset, tag);
+    }
+    let parts = dataset.parts();
+    let texts = texts_of(alloc, parts.terms, tag)?;
+    let full = full_graphs(alloc, parts.quads)?;
+    let text = text_of_lines_by(
+        rt,
+        alloc,
+        texts.as_slice(),
+        parts.quads,
+        parts.names,
+        &full,
+        threads,
+    )?;
     Ok(text)
 }

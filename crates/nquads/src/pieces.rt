@@ -24,8 +24,8 @@ fn end_of_lf(bytes: &[u8], from: usize) -> Option<usize>
     None
 }
 
-/// The place at which so many bytes are parted among so many threads, half of them before it.
-fn share(len: usize, threads: usize) -> usize
+/// The place at which so many items are parted among so many threads, half of them before it.
+pub(crate) fn share(len: usize, threads: usize) -> usize
     requires { 0 < threads }
     ensures { result ≤ len }
 {

@@ -20,12 +20,12 @@ use std::mem::swap;
 /// A text whose lines rise, as far as it is made, and its last line.
 #[derive(Drop)]
 pub(crate) struct Rising {
-    text: Vec<u8>,
-    last: Vec<u8>,
+    pub(crate) text: Vec<u8>,
+    pub(crate) last: Vec<u8>,
 }
 
 /// Whether a line is above another.
-fn is_above(last: &[u8], line: &[u8]) -> bool
+pub(crate) fn is_above(last: &[u8], line: &[u8]) -> bool
     ensures { result ≡ is_lt (text_cmp last.now line.now) }
 {
     last.cmp(&line).is_lt()
@@ -77,7 +77,7 @@ fn push_one_graph(
 }
 
 /// Adds the lines of the quads, if they rise, and says whether they do.
-fn push_quads(
+pub(crate) fn push_quads(
     made: &mut Rising,
     line: &mut Vec<u8>,
     texts: &[TextLine],
@@ -96,7 +96,7 @@ fn push_quads(
 }
 
 /// Adds the lines of the graphs that have no quad, if they rise, and says whether they do.
-fn push_graphs(
+pub(crate) fn push_graphs(
     made: &mut Rising,
     line: &mut Vec<u8>,
     texts: &[TextLine],

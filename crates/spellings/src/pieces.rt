@@ -2,8 +2,8 @@
 use crate::made::fault_of;
 use crate::texts::{BAD, TEXTS, is_bad_at};
 use devices::Watched;
-use nquads::{BaseFault, canonical_text, read_by};
-use std::alloc::Global;
+use nquads::{BaseFault, canonical_text, canonical_text_by, read_by, read_bytes};
+use std::alloc::{AllocError, Global};
 use std::thread::Threads;
 
 const THREADS: [usize; 5] = [0, 1, 2, 3, 8];
@@ -45,7 +45,7 @@ const CUT: [(&str, &str); 9] = [
     ),
 ];
 
-/// Whether what so many threads read of a text has that canonical text.
+/// Whether what so many threads read of a text has that canonical text, made by one thread and by as many.
 fn is_read<T: Threads + Sync>(
     rt: &T,
     alloc: Global,
@@ -55,8 +55,13 @@ fn is_read<T: Threads + Sync>(
 ) -> Result<bool, BaseFault> {
     let mut reader = Watched::new(text.as_bytes());
     let dataset = read_by(rt, alloc, &mut reader, threads)?;
-    let written = canonical_text(alloc, &dataset, 1)?;
-    Ok(written.as_slice() == canonical.as_bytes() && reader.failures == 0)
+    let by_one = canonical_text(alloc, &dataset, 1)?;
+    let by_threads = canonical_text_by(rt, alloc, &dataset, 1, threads)?;
+    Ok(
+        by_one.as_slice() == canonical.as_bytes()
+            && by_threads.as_slice() == canonical.as_bytes()
+            && reader.failures == 0,
+    )
 }
 
 #[test]
@@ -100,5 +105,27 @@ fn bad_lines_by_threads(rt: HostRuntime) -> Result<(), BaseFault> {
             assert!(rt; is_bad_at(outcome, *number)?, "{threads} {text:?}");
         }
     }
+    Ok(())
+}
+
+// Lines of so many quads, of which each has another subject, from the last to the first.
+fn falling(alloc: Global, quads: u32) -> Result<Vec<u8>, AllocError> {
+    let mut text = Vec::new(alloc);
+    for number in 0..quads {
+        let subject = quads.saturating_sub(number).saturating_add(100_000);
+        let line = format!(in alloc; "<x:{subject}> <x:p> \"{number}\" .\n")?;
+        text.extend_from_slice(line.as_bytes())?;
+    }
+    Ok(text)
+}
+
+#[test]
+fn long_texts_by_threads(rt: HostRuntime) -> Result<(), BaseFault> {
+    let alloc = rt.alloc();
+    let dataset = read_bytes(alloc, falling(alloc, 10_000)?.as_slice())?;
+    let by_one = canonical_text(alloc, &dataset, 1)?;
+    let by_threads = canonical_text_by(&rt, alloc, &dataset, 1, 8)?;
+    assert!(rt; by_one.starts_with(b"<x:100001> <x:p> \"9999\" .\n<x:100002> <x:p> \"9998\" .\n"));
+    assert!(rt; by_one.as_slice() == by_threads.as_slice());
     Ok(())
 }

@@ -1,0 +1,140 @@
+//! The text of lines that come in their order, made in pieces by several threads.
+ghost use Rattle.std.specs.Prelude.{◌≡◌, ◌++◌, ◌∷◌, [], ℕ, List, true, not, map, filter, nat_eq, IfOk, IfSome};
+ghost use Rattle.std.specs.List.{flat_map, list_all};
+ghost use Rattle.std.specs.HashSet.{contains};
+ghost use Rattle.std.specs.Thread.{IsSync};
+ghost use Rattle.sets.specs.Sets.{set_of};
+ghost use Rattle.terms.specs.Term.{text_cmp};
+ghost use Rattle.terms.specs.Placed.{is_within, is_quad_within};
+ghost use Rattle.nquads.specs.Canonical.{ended};
+ghost use Rattle.nquads.specs.Placed.{quad_text_at, graph_line_at};
+ghost use Rattle.nquads.specs.Rising.{IsRising};
+
+use crate::canonical::push_quad;
+use crate::pieces::share;
+use crate::rising::{Rising, is_above, push_graphs, push_quads};
+use crate::text_line::TextLine;
+use datasets::Quad;
+use std::alloc::{AllocError, Global};
+use std::collections::HashSet;
+use std::thread::{Threads, join};
+
+/// A text and another behind it that begins with this line, if the line is above the first text's last.
+fn behind(low: Rising, high: Rising, line: &[u8]) -> Result<Option<Rising>, AllocError>
+    ensures { IfOk result (λ found. IfSome found (λ made. (lines others : List (List ℕ)) → IsRising lines low → IsRising (line.now ∷ others) high → IsRising (lines ++ line.now ∷ others) made)) }
+{
+    if !is_above(low.last.as_slice(), line) {
+        return Ok(None);
+    }
+    let (mut text, mut rest) = (low.text, high.text);
+    text.append(&mut rest)?;
+    Ok(Some(Rising {
+        text,
+        last: high.last,
+    }))
+}
+
+/// A text and the text of the lines of these quads behind it, if they rise on.
+fn behind_quads(
+    alloc: Global,
+    low: Rising,
+    high: Rising,
+    texts: &[TextLine],
+    quads: &[Quad<u32>],
+) -> Result<Option<Rising>, AllocError>
+    requires { list_all (is_quad_within texts.now) quads.now ≡ true }
+    ensures { IfOk result (λ found. IfSome found (λ made. (lines : List (List ℕ)) → IsRising lines low → IsRising (map (quad_text_at texts.now) quads.now) high → IsRising (lines ++ map (quad_text_at texts.now) quads.now) made)) }
+{
+    let Some(first) = quads.first() else {
+        return Ok(Some(low));
+    };
+    let mut line = Vec::new(alloc);
+    push_quad(&mut line, texts, first)?;
+    let made = behind(low, high, line.as_slice())?;
+    Ok(made)
+}
+
+/// The text of the lines of these quads, if they rise.
+fn rising_piece(
+    alloc: Global,
+    texts: &[TextLine],
+    quads: &[Quad<u32>],
+) -> Result<Option<Rising>, AllocError>
+    requires { list_all (is_quad_within texts.now) quads.now ≡ true }
+    ensures { IfOk result (λ found. IfSome found (IsRising (map (quad_text_at texts.now) quads.now))) }
+{
+    let mut made = Rising {
+        text: Vec::new(alloc),
+        last: Vec::new(alloc),
+    };
+    let mut line = Vec::new(alloc);
+    let rises = push_quads(&mut made, &mut line, texts, quads)?;
+    if !rises {
+        return Ok(None);
+    }
+    Ok(Some(made))
+}
+
+/// The text of the lines of these quads, made by so many threads, if they rise.
+fn rising_quads<T: Threads + Sync>(
+    rt: &T,
+    alloc: Global,
+    texts: &[TextLine],
+    quads: &[Quad<u32>],
+    threads: usize,
+) -> Result<Option<Rising>, AllocError>
+    requires { list_all (is_quad_within texts.now) quads.now ≡ true }
+    ensures { IfOk result (λ found. IfSome found (IsRising (map (quad_text_at texts.now) quads.now))) }
+{
+    if threads <= 1 {
+        return rising_piece(alloc, texts, quads);
+    }
+    let (first, rest) = quads.split_at(share(quads.len(), threads));
+    let (low, high) = join(
+        rt,
+        || -> Result<Option<Rising>, AllocError>
+            requires { IsSync T.row × (list_all (is_quad_within texts.now) first.now ≡ true) }
+            ensures { IfOk result (λ found. IfSome found (IsRising (map (quad_text_at texts.entry.now) first.entry.now))) }
+        { rising_quads(rt, alloc, texts, first, threads / 2) },
+        || -> Result<Option<Rising>, AllocError>
+            requires { IsSync T.row × (list_all (is_quad_within texts.now) rest.now ≡ true) }
+            ensures { IfOk result (λ found. IfSome found (IsRising (map (quad_text_at texts.entry.now) rest.entry.now))) }
+        { rising_quads(rt, alloc, texts, rest, threads - threads / 2) },
+    );
+    match (low?, high?) {
+        (Some(low), Some(high)) => behind_quads(alloc, low, high, texts, rest),
+        _ => Ok(None),
+    }
+}
+
+/// The lines of the graphs that have no quad and those of the quads, made by so many threads, if each is above the one before it.
+pub(crate) fn rising_text_by<T: Threads + Sync>(
+    rt: &T,
+    alloc: Global,
+    texts: &[TextLine],
+    quads: &[Quad<u32>],
+    names: &[u32],
+    full: &HashSet<u32>,
+    threads: usize,
+) -> Result<Option<Vec<u8>>, AllocError>
+    requires quads { list_all (is_quad_within texts.now) quads.now ≡ true }
+    requires names { list_all (is_within texts.now) names.now ≡ true }
+    ensures { IfOk result (λ found. IfSome found (λ text. text.items ≡ flat_map ended (set_of text_cmp (map (quad_text_at texts.now) quads.now ++ map (graph_line_at texts.now) (filter (λ name. not (contains nat_eq full.now name)) names.now))))) }
+{
+    let mut made = Rising {
+        text: Vec::new(alloc),
+        last: Vec::new(alloc),
+    };
+    let mut line = Vec::new(alloc);
+    let graphs_rise = push_graphs(&mut made, &mut line, texts, names, full)?;
+    if !graphs_rise {
+        return Ok(None);
+    }
+    let Some(high) = rising_quads(rt, alloc, texts, quads, threads)? else {
+        return Ok(None);
+    };
+    match behind_quads(alloc, made, high, texts, quads)? {
+        Some(whole) => Ok(Some(whole.text)),
+        None => Ok(None),
+    }
+}
