@@ -5,11 +5,12 @@ ghost use Rattle.sets.specs.Sets.{set_of as the_set_of, has};
 ghost use Rattle.terms.specs.Term.{term_order};
 ghost use Rattle.dict.specs.Dictionary.{IsDictionary, is_written, is_known, term_of as the_term_of, numbers};
 
-use crate::ranks::{in_order, numbered};
+use crate::ranks::{in_order, in_order_by, numbered};
 use datasets::Id;
 use sets::{place_of, set_of};
 use std::alloc::{AllocError, Global};
 use std::marker::Model;
+use std::thread::Threads;
 use terms::Term;
 
 /// Terms, each once and in their order. The number of a term is its place, counted from 0. A node that a request makes is in no
@@ -57,6 +58,24 @@ impl Dict {
         ensures known { IfOk result (λ r. list_all (is_known r.0) r.1.items ≡ true) }
     {
         let placed = in_order(alloc, terms, more)?;
+        let (found, mut ids) = numbered(alloc, placed.as_slice(), placed.len())?;
+        ids.truncate(terms.len());
+        Ok((Dict { terms: found }, ids))
+    }
+
+    /// The same, where several threads put the terms in order.
+    pub fn numbered_by<T: Threads + Sync>(
+        rt: &T,
+        alloc: Global,
+        terms: &[Term],
+        more: &[Term],
+    ) -> Result<(Dict, Vec<Id>), AllocError>
+        ensures terms { IfOk result (λ r. r.0 ≡ the_set_of term_order (filter is_written (terms.now ++ more.now))) }
+        ensures form { IfOk result (λ r. IsDictionary r.0) }
+        ensures renamed { IfOk result (λ r. map (the_term_of r.0) r.1.items ≡ terms.now) }
+        ensures known { IfOk result (λ r. list_all (is_known r.0) r.1.items ≡ true) }
+    {
+        let placed = in_order_by(rt, alloc, terms, more)?;
         let (found, mut ids) = numbered(alloc, placed.as_slice(), placed.len())?;
         ids.truncate(terms.len());
         Ok((Dict { terms: found }, ids))

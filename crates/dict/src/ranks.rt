@@ -9,8 +9,10 @@ ghost use Rattle.dict.specs.Ranks.{IsGathered, ArePlaced, IsNumberOf, term_in, e
 
 use crate::parts::{Parts, Stand};
 use datasets::Id;
+use sorting::sorted_by;
 use std::alloc::{AllocError, Global};
 use std::cmp::Ordering;
+use std::thread::Threads;
 use terms::Term;
 
 /// A term that lies in a list, its place there, and where it stands in its order.
@@ -86,6 +88,23 @@ pub(crate) fn in_order<'a>(
     placed.sort_unstable_by(|left, right| by_stands(left, right));
     placed.sort_unstable_by(|left, right| left.term.cmp(right.term));
     Ok(placed)
+}
+
+/// The same, put in order by several threads.
+pub(crate) fn in_order_by<'a, T: Threads + Sync>(
+    rt: &T,
+    alloc: Global,
+    terms: &'a [Term],
+    more: &'a [Term],
+) -> Result<Vec<Placed<'a>>, AllocError>
+    ensures placed { IfOk result (λ placed. ArePlaced (terms.now ++ more.now) placed.items) }
+    ensures same { IfOk result (λ placed. IsPermutation (terms.now ++ more.now) (map term_in placed.items)) }
+    ensures sorted { IfOk result (λ placed. IsSortedByKey term_in term_order placed.items) }
+{
+    let placed = gathered(alloc, terms, more)?;
+    let mut moved = sorted_by(rt, placed, |left, right| by_stands(left, right));
+    moved.sort_unstable_by(|left, right| left.term.cmp(right.term));
+    Ok(moved)
 }
 
 fn ends_with(found: &[Term], term: &Term) -> bool

@@ -11,7 +11,7 @@ use datasets::Id;
 use meaning::Request;
 use rules::Block;
 use std::alloc::{AllocError, Global};
-use store::Base;
+use store::{Base, Hands};
 use terms::{DataSet, Term};
 
 /// A base and a block at numbers of terms, by the base's dictionary.
@@ -32,11 +32,17 @@ fn terms_of(alloc: Global, block: &Block) -> Result<Vec<Term>, AllocError>
 /// A base and a block at numbers, by the dictionary of the terms of the base and of the block's accepted requests. The base's terms have
 /// their numbers from the sort that makes the dictionary, and the base is kept in the orders that the block can use. An error comes only
 /// where memory runs out.
-pub fn number(alloc: Global, dataset: &DataSet, block: &Block) -> Result<Numbered, AllocError>
+pub fn number<H: Hands>(
+    hands: &H,
+    alloc: Global,
+    dataset: &DataSet,
+    block: &Block,
+) -> Result<Numbered, AllocError>
+    requires { H.Ready }
     ensures { IfOk result (λ n. IsNumbered dataset.now block.now n.base n.block.items) }
 {
     let orders = orders_for(alloc, block)?;
-    let base = Base::new(alloc, dataset, terms_of(alloc, block)?, &orders)?;
+    let base = Base::new(hands, alloc, dataset, terms_of(alloc, block)?, &orders)?;
     let block = number_requests(alloc, base.terms(), block.as_slice())?;
     Ok(Numbered { base, block })
 }

@@ -2,6 +2,7 @@ pub mod Alike
 pub mod Filtering
 pub mod Joined
 pub mod Looking
+pub mod Mapped
 pub mod Orders
 pub mod Requests
 pub mod Searching

@@ -2,6 +2,7 @@ pub mod Keys
 pub mod OrderSet
 pub mod Looks
 pub mod Known
+pub mod KnownOrder
 pub mod Hint
 pub mod HintList
 pub mod Hints

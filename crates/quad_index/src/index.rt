@@ -2,6 +2,7 @@
 ghost use Rattle.std.specs.Prelude.{◌≡◌, ◌∷◌, ◌<◌, ◌^◌, IfOk, IfSome, IfNone, filter, length};
 ghost use Rattle.std.specs.List.{Contains};
 ghost use Rattle.std.specs.List.Sorted.{IsPermutation, IsStrictlySortedBy};
+ghost use Rattle.sets.specs.Sets.{set_of as the_set_of};
 ghost use Rattle.datasets.specs.Id.{id_order};
 ghost use Rattle.datasets.specs.Dataset.{quad_order, matches};
 ghost use Rattle.quad_index.specs.Keys.{arrangement_for};
@@ -65,6 +66,20 @@ impl Index {
         ensures { IfOk result (λ index. index ≡ record { quads = quads.now; orders = Arrangement.Spog ∷ arrangements.now }) }
     {
         let spog = Order::of_set(alloc, quads)?;
+        let others = orders_of(alloc, &spog, arrangements)?;
+        Ok(Index { spog, others })
+    }
+
+    /// The set of these quads, in any order and with doubles, in SPOG and in these orders. An error comes only where memory runs out, as it does
+    /// for 2^62 quads.
+    pub fn of_quads(
+        alloc: Global,
+        quads: Vec<Quad<Id>>,
+        arrangements: &[Arrangement],
+    ) -> Result<Index, AllocError>
+        ensures { IfOk result (λ index. index ≡ record { quads = the_set_of (quad_order id_order) quads.items; orders = Arrangement.Spog ∷ arrangements.now }) }
+    {
+        let spog = Order::of_quads(alloc, quads)?;
         let others = orders_of(alloc, &spog, arrangements)?;
         Ok(Index { spog, others })
     }

@@ -3,6 +3,7 @@ ghost use Rattle.std.specs.Prelude.{◌≡◌, ◌+◌, ◌-◌, ◌<◌, ◌≤
 ghost use Rattle.std.specs.List.{AllWithin};
 ghost use Rattle.std.specs.List.Sorted.{IsPermutation, IsSortedByKey, IsStrictlySortedBy};
 ghost use Rattle.std.proofs.Common.{get_or};
+ghost use Rattle.sets.specs.Sets.{set_of as the_set_of};
 ghost use Rattle.datasets.specs.Id.{id_order};
 ghost use Rattle.datasets.specs.Dataset.{quad_order, matches as the_matches};
 ghost use Rattle.quad_index.specs.Keys.{arrangement_for, order_at, key_of, key_order, is_before as the_is_before};
@@ -10,10 +11,11 @@ ghost use Rattle.quad_index.specs.Looks.{IsSearch, IsScan};
 ghost use Rattle.quad_index.specs.Sorted.{quads_in};
 
 use crate::key::{Arrangement, Depth, Key, is_before};
-use crate::known::{KnownQuad, known_quads, sorted_known};
+use crate::known::{KnownQuad, known_quads, known_set, sorted_known};
 use crate::looks::Looks;
 use crate::matching::matches;
 use datasets::{Id, Quad, QuadPattern};
+use sets::set_of;
 use std::alloc::{AllocError, Global};
 use std::marker::Model;
 
@@ -80,6 +82,24 @@ impl Order {
         Ok(Order {
             arrangement: Arrangement::Spog,
             entries,
+        })
+    }
+
+    /// The set of these quads, in any order and with doubles, in SPOG. 2^62 quads and more are out of memory.
+    pub fn of_quads(alloc: Global, quads: Vec<Quad<Id>>) -> Result<Order, AllocError>
+        ensures { IfOk result (λ order. order ≡ record { arrangement = Arrangement.Spog; quads = the_set_of (quad_order id_order) quads.items }) }
+    {
+        let Some(known) = known_quads(alloc, quads.as_slice())? else {
+            return Order::of_set(alloc, set_of(quads).as_slice());
+        };
+        drop(quads);
+        let known = known_set(known);
+        if known.len() >= 0x4000_0000_0000_0000 {
+            return Err(AllocError);
+        }
+        Ok(Order {
+            arrangement: Arrangement::Spog,
+            entries: Entries::Narrow(known),
         })
     }
 

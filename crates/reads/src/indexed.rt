@@ -1,14 +1,15 @@
 //! Datasets whose quads are kept in several orders.
 ghost use Rattle.std.specs.Prelude.{◌≡◌, IfOk, [], filter};
 ghost use Rattle.datasets.specs.Id.{id_order};
-ghost use Rattle.datasets.specs.Dataset.{matches};
+ghost use Rattle.datasets.specs.Dataset.{matches, quad_order};
+ghost use Rattle.sets.specs.Sets.{set_of};
 ghost use Rattle.change_laws.specs.Laws.{IsRising};
 ghost use Rattle.reads.specs.Reads.{says};
 
 use crate::answered::Answered;
 use crate::lists::copied_names;
 use crate::view::View;
-use datasets::{Answer, GraphPlace, Id, QuadPattern, Read};
+use datasets::{Answer, GraphPlace, Id, Quad, QuadPattern, Read};
 use quad_index::{Arrangement, Index};
 use std::alloc::{AllocError, Global};
 use std::marker::Model;
@@ -51,6 +52,22 @@ impl IndexedView {
         let (quads, names) = dataset.into_parts();
         let quads = Index::new(alloc, &quads, orders)?;
         let named = View::from_sets(Vec::new(alloc), names);
+        Ok(IndexedView { quads, named })
+    }
+
+    /// The dataset of these quads and graph names, in any order and with doubles, its quads in these orders beside SPOG. An error comes only
+    /// where memory runs out.
+    pub fn of_parts(
+        alloc: Global,
+        quads: Vec<Quad<Id>>,
+        names: Vec<Id>,
+        orders: &[Arrangement],
+    ) -> Result<IndexedView, AllocError>
+        ensures quads { IfOk result (λ indexed. indexed.quads ≡ set_of (quad_order id_order) quads.items) }
+        ensures names { IfOk result (λ indexed. indexed.names ≡ set_of id_order names.items) }
+    {
+        let quads = Index::of_quads(alloc, quads, orders)?;
+        let named = View::from_parts(Vec::new(alloc), names);
         Ok(IndexedView { quads, named })
     }
 

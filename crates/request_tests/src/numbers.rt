@@ -7,6 +7,7 @@ use reads::View;
 use rules::{Block, split};
 use std::alloc::{AllocError, Global};
 use std::test::Fail;
+use store::Alone;
 use terms::DataSet;
 
 const BASE: &str = "<x:c> <x:b> <x:a> <x:d> .\n";
@@ -31,7 +32,7 @@ fn base(alloc: Global) -> Result<DataSet, BaseFault> {
 /// Whether the base comes to its numbers.
 fn comes_to_numbers(alloc: Global, block: &Block) -> Result<bool, BaseFault> {
     let dataset = base(alloc)?;
-    let numbered = number(alloc, &dataset, block)?;
+    let numbered = number(&Alone, alloc, &dataset, block)?;
     let copy = numbered.base.dataset().copied(alloc)?;
     Ok(is_numbered(&numbered, &copy))
 }
@@ -39,7 +40,7 @@ fn comes_to_numbers(alloc: Global, block: &Block) -> Result<bool, BaseFault> {
 // To numbers and back.
 fn back(alloc: Global, dataset: &DataSet, block: &Block) -> Result<DataSet, AllocError> {
     let _ = dataset.parts();
-    let numbered = number(alloc, dataset, block)?;
+    let numbered = number(&Alone, alloc, dataset, block)?;
     let dataset = numbered.base.dataset().copied(alloc)?;
     named(alloc, numbered.base.terms(), &dataset)
 }

@@ -1,20 +1,18 @@
 //! The base of a block.
 ghost use Rattle.std.specs.Prelude.{◌≡◌, true, IfOk};
 ghost use Rattle.std.specs.List.{list_all};
-ghost use Rattle.sets.specs.Sets.{set_of};
-ghost use Rattle.datasets.specs.Id.{id_order};
-ghost use Rattle.datasets.specs.Dataset.{quad_order};
 ghost use Rattle.reads.specs.Reads.{IsDataset};
 ghost use Rattle.store.specs.Base.{IsBaseOf};
 ghost use Rattle.store.specs.Held.{is_held};
 
+use crate::hands::Hands;
 use crate::numbers::{name_numbers, quad_numbers};
 use datasets::{Id, Quad, Read};
 use dict::Dict;
 use dict::laws::is_renaming;
 use nquads::tag;
 use quad_index::Arrangement;
-use reads::{Answered, IndexedView, Source, Stop, View};
+use reads::{Answered, IndexedView, Source, Stop};
 use std::alloc::{AllocError, Global};
 use std::marker::Model;
 use terms::{DataSet, Term};
@@ -40,38 +38,27 @@ impl Model for Base {
     ghost invariant = { λ b. IsDataset b.dataset };
 }
 
-// The dataset of these quads and graph names, its quads in these orders beside SPOG.
-fn in_orders(
-    alloc: Global,
-    quads: Vec<Quad<Id>>,
-    names: Vec<Id>,
-    orders: &[Arrangement],
-) -> Result<IndexedView, AllocError>
-    ensures quads { IfOk result (λ dataset. dataset.quads ≡ set_of (quad_order id_order) quads.items) }
-    ensures names { IfOk result (λ dataset. dataset.names ≡ set_of id_order names.items) }
-{
-    IndexedView::new(alloc, View::from_parts(quads, names), orders)
-}
-
 impl Base {
     /// The base of a dataset, with the dictionary of its terms and of more, its quads in these orders beside SPOG. The numbers of its terms
-    /// come of the sort that puts them in order. An error comes only where memory runs out.
-    pub fn new(
+    /// come of the sort that puts them in order, and who sorts changes nothing in the answer. An error comes only where memory runs out.
+    pub fn new<H: Hands>(
+        hands: &H,
         alloc: Global,
         dataset: &DataSet,
         more: Vec<Term>,
         orders: &[Arrangement],
     ) -> Result<Base, AllocError>
+        requires { H.Ready }
         ensures base { IfOk result (λ base. IsBaseOf dataset.now base) }
         ensures held { IfOk result (λ base. list_all (is_held base.terms) more.items ≡ true) }
     {
         is_renaming();
         let tag = tag(alloc, dataset)?;
         let parts = dataset.parts();
-        let (terms, ids) = Dict::numbered(alloc, parts.terms, more.as_slice())?;
+        let (terms, ids) = hands.numbered(alloc, parts.terms, more.as_slice())?;
         let quads = quad_numbers(alloc, ids.as_slice(), parts.quads)?;
         let names = name_numbers(alloc, ids.as_slice(), parts.names)?;
-        let indexed = in_orders(alloc, quads, names, orders)?;
+        let indexed = hands.indexed(alloc, quads, names, orders)?;
         Ok(Base {
             alloc,
             terms,

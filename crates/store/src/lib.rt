@@ -4,7 +4,9 @@
 #![tactic(auto)]
 
 mod base;
+mod hands;
 mod numbers;
 
 pub use base::Base;
+pub use hands::{Alone, Hands, Together};
 pub use numbers::number_term;

@@ -10,12 +10,13 @@ use numbering::{Numbered, number};
 use rules::{Block, split};
 use std::alloc::{AllocError, Global};
 use std::test::Fail;
+use store::{Alone, Together};
 use terms::{Term, canonical};
 
 // A base and a block that is read at numbers.
 fn numbered_over(alloc: Global, base: &str, block: &Block) -> Result<Numbered, BaseFault> {
     let base = read_bytes(alloc, base.as_bytes())?;
-    Ok(number(alloc, &base, block)?)
+    Ok(number(&Alone, alloc, &base, block)?)
 }
 
 /// A base and a block at numbers.
@@ -109,5 +110,36 @@ pub fn tell_quads(
             )?,
         }
     }
+    Ok(())
+}
+
+// Lines of so many quads in two graphs, from the last subject to the first.
+fn falling(alloc: Global, quads: u32) -> Result<Vec<u8>, AllocError> {
+    let mut text = Vec::new(alloc);
+    for number in 0..quads {
+        let subject = quads.saturating_sub(number / 2);
+        let graph = number % 2;
+        let line = format!(in alloc; "<x:s{subject}> <x:p> \"{graph}\" <x:g{graph}> .\n")?;
+        text.extend_from_slice(line.as_bytes())?;
+    }
+    Ok(text)
+}
+
+#[test]
+fn numbered_by_threads(rt: HostRuntime) -> Result<(), Fail> {
+    let alloc = rt.alloc();
+    let base = read_bytes(alloc, falling(alloc, 12_000)?.as_slice())?;
+    let block = split(
+        alloc,
+        b"INSERT { ?s <x:q> 7 } WHERE { GRAPH <x:g0> { ?s <x:p> ?o } }",
+    )?;
+    let by_one = number(&Alone, alloc, &base, &block)?;
+    let by_threads = number(&Together::new(&rt), alloc, &base, &block)?;
+    assert!(rt; by_one.base.terms().terms() == by_threads.base.terms().terms());
+    let one = by_one.base.dataset().copied(alloc)?;
+    let other = by_threads.base.dataset().copied(alloc)?;
+    assert!(rt; one.quads().len() == 12_000);
+    assert!(rt; one.quads() == other.quads() && one.names() == other.names());
+    assert!(rt; by_one.base.tag() == by_threads.base.tag());
     Ok(())
 }

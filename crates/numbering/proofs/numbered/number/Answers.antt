@@ -10,14 +10,14 @@ use Rattle.numbering.proofs.Holding.{block_held}
 use Rattle.numbering.proofs.numbered.number.Goals as goal
 
 pub number_requests-requires : goal.number_requests-requires
-number_requests-requires c =
+number_requests-requires g c =
     let held = is_held c.in_ok-base.base.terms in
     ap (λ (ts : List Term). list_all (request_known (is_held ts)) c.as_slice.result.now) c.terms.ensures
     ∙ ap (λ (rs : List (Request Term)). list_all (request_known held) rs) c.as_slice.ensures
     ∙ block_held held c.args.block.now (c.in_ok-terms_of.ensures held c.in_ok-base.ensures.held)
 
 pub returns : goal.returns
-returns c =
+returns g c =
     let requests : List (Request Id) = c.in_ok-block.block.items in
     record {
       base = c.in_ok-base.ensures.base;

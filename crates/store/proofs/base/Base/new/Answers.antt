@@ -16,26 +16,26 @@ use Rattle.store.proofs.Places.{quads_within, names_within, quads_are, names_are
 use Rattle.store.proofs.base.Base.new.Goals as goal
 
 pub quad_numbers-requires : goal.quad_numbers-requires
-quad_numbers-requires c =
+quad_numbers-requires g c =
     ap (λ (xs : List Id). list_all (is_quad_within xs) c.parts-parts.result.quads.now) c.as_slice-2.ensures.value
     ∙ quads_within c.in_ok-terms.terms c.parts-parts.result.terms.now c.in_ok-terms.ids.items c.in_ok-terms.ensures.renamed c.in_ok-terms.ensures.known c.parts-parts.result.quads.now
     ∙ c.parts-parts.ensures.within.0
 
 pub name_numbers-requires : goal.name_numbers-requires
-name_numbers-requires c =
+name_numbers-requires g c =
     ap (λ (xs : List Id). list_all (is_within xs) c.parts-parts.result.names.now) c.as_slice-3.ensures.value
     ∙ names_within c.in_ok-terms.terms c.parts-parts.result.terms.now c.in_ok-terms.ids.items c.in_ok-terms.ensures.renamed c.in_ok-terms.ensures.known c.parts-parts.result.names.now
     ∙ c.parts-parts.ensures.within.1
 
 pub returns-clause-held : goal.returns-clause-held
-returns-clause-held c =
+returns-clause-held g c =
     let terms = c.parts-parts.result.terms.now in
     let more = c.args.more.items in
     let gathered = ap (λ (ts : List Term). set_of term_order (filter is_written (terms ++ ts))) c.as_slice.ensures.value in
     (both_held (terms ++ more) c.in_ok-terms.terms terms more refl (c.in_ok-terms.ensures.terms ∙ gathered)).1
 
 pub returns-clause-base : goal.returns-clause-base
-returns-clause-base c =
+returns-clause-base g c =
     let dict = c.in_ok-terms.terms in
     let terms = c.parts-parts.result.terms.now in
     let placed = c.parts-parts.result.quads.now in
@@ -56,7 +56,7 @@ returns-clause-base c =
     c.in_ok-indexed.ensures.quads c.in_ok-indexed.ensures.names c.in_ok-tag.ensures
 
 pub invariant_of-result : goal.invariant_of-result
-invariant_of-result c =
+invariant_of-result g c =
     let dict = c.in_ok-terms.terms in
     let terms = c.parts-parts.result.terms.now in
     let placed = c.parts-parts.result.quads.now in
