@@ -29,6 +29,9 @@ pub fn settle(alloc: Global, kept: &mut Kept<'_>, to: usize) -> Result<(), Alloc
     ensures holds { Holds kept.new }
     ensures slots { kept.new.slots.items ≡ kept.old.slots.items }
 {
+    if to <= kept.low {
+        return Ok(());
+    }
     for _low in kept.low..to {
         settle_next(alloc, kept)?;
     }

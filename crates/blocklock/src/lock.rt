@@ -7,10 +7,14 @@ use crate::pass::Pass;
 use crate::plays::{Give, One, Rule, Slot, Take, TakeIn, ViewOf};
 use atomic_table::{Seat, Table};
 use std::alloc::{AllocError, Global};
+use std::hint::spin_loop;
 use std::marker::Model;
 use std::snapshot::Snapshot;
 use std::sync::Wait;
 use std::thread::yield_now;
+
+/// After how many looks one that waits for the book leaves the processor to others.
+const LOOKS_A_YIELD: u32 = 128;
 
 /// The word was found taken.
 #[derive(Clone, Copy)]
@@ -100,17 +104,31 @@ impl<B: Journaled> BlockLock<B> {
     }
 }
 
+// Waits for some cycles after so many looks, and now and then leaves the processor to others: a book is held for no longer than a few looks.
+fn wait_after(looks: u32) {
+    if looks % LOOKS_A_YIELD == 0 {
+        yield_now();
+    } else {
+        spin_loop();
+    }
+}
+
 impl<B: Journaled> BlockLock<B> {
     /// Takes the book, once it is there.
     pub fn hold<'a, R: Wait>(&'a self, rt: &R, pass: &mut Pass<B>) -> Held<'a, B>
         requires { pass.old.table ≡ self.now }
         ensures { (result.lock.now ≡ self.now) × Takes B.worker_of pass.old (B.history result.book.value) pass.new }
     {
+        let mut looks = 0u32;
         for _ in rt.forever() {
-            if let Ok(held) = self.try_hold(pass) {
-                return held;
+            // An exchange takes the word from whoever gives the book back, and a look does not.
+            if self.table.shared.peek(0) == 0 {
+                if let Ok(held) = self.try_hold(pass) {
+                    return held;
+                }
             }
-            yield_now();
+            looks = looks.wrapping_add(1);
+            wait_after(looks);
         }
         unreachable!()
     }

@@ -129,7 +129,24 @@ impl<'s, 'a, R: Wait, G: Gate> Workers<'s, 'a, R, G> {
         Ok(false)
     }
 
-    // Runs an incarnation that was taken, and publishes its run. It answers whether one was published.
+    // Begins a pass of checks of a run of so many notes, and checks them as long as they pass. The next task is not asked for in between.
+    fn check_own(&self, pass: &mut Pass<'a>, turn: Turn, notes: usize) -> Result<(), AllocError>
+        requires { IsPassFor self.now pass.old }
+        ensures { IsPassFor self.now pass.new }
+    {
+        if !self.begin(pass, turn)? {
+            return Ok(());
+        }
+        for _note in 0..notes {
+            let passed = self.check(pass, turn)?;
+            if !passed {
+                break;
+            }
+        }
+        Ok(())
+    }
+
+    // Runs an incarnation that was taken, publishes its run and checks it. It answers whether one was published.
     fn run_taken(
         &self,
         pass: Pass<'a>,
@@ -143,14 +160,16 @@ impl<'s, 'a, R: Wait, G: Gate> Workers<'s, 'a, R, G> {
         ensures { IfOk result (λ r. IsPassFor self.now r.0) }
     {
         let (mut pass, found) = self.executed(pass, turn, request)?;
-        let is_published = match found {
-            Some(run) => self.publish(&mut pass, turn, run)?,
-            None => {
-                self.pace.slow_down();
-                self.give_up(&mut pass, turn)?;
-                false
-            }
+        let Some(run) = found else {
+            self.pace.slow_down();
+            self.give_up(&mut pass, turn)?;
+            return Ok((pass, false));
         };
+        let notes = run.transcript.as_slice().len();
+        let is_published = self.publish(&mut pass, turn, run)?;
+        if is_published {
+            self.check_own(&mut pass, turn, notes)?;
+        }
         Ok((pass, is_published))
     }
 
@@ -188,7 +207,7 @@ impl<'s, 'a, R: Wait, G: Gate> Workers<'s, 'a, R, G> {
         Ok(matches!(reply, Reply::Begun))
     }
 
-    // Checks the next note of the pass of checks. It answers whether the check was made.
+    // Checks the next note of the pass of checks. It answers whether that passed.
     fn check(&self, pass: &mut Pass<'a>, turn: Turn) -> Result<bool, AllocError>
         requires { IsPassFor self.now pass.old }
         ensures { IsPassFor self.now pass.new }
@@ -201,7 +220,7 @@ impl<'s, 'a, R: Wait, G: Gate> Workers<'s, 'a, R, G> {
         if let Reply::Aborted = reply {
             self.pace.slow_down();
         }
-        Ok(matches!(reply, Reply::Passed | Reply::Aborted))
+        Ok(matches!(reply, Reply::Passed))
     }
 
     // Commits the request at a place. It answers whether that was not refused.
