@@ -16,7 +16,7 @@ use crate::outputs::{Texts, write_texts};
 use command_line::{Fault, File, replies_text};
 use delta::Outcome;
 use devices::Watched;
-use nquads::canonical_text;
+use nquads::canonical_text_by;
 use numbering::laws::carries_block;
 use numbering::{Numbered, named, number};
 use pool::{Open, run_block};
@@ -25,6 +25,7 @@ use std::alloc::{AllocError, Global};
 use std::io::{Read, Write};
 use std::sync::Wait;
 use std::thread::Threads;
+use store::{Alone, Together};
 use terms::DataSet;
 
 /// A way to read a base, and to run a block at numbers of terms.
@@ -34,6 +35,8 @@ pub(crate) trait Runs {
     ghost use Rattle.cli.specs.Failures.{is_unread, FailedIf, TellsNoOther};
     ghost use Rattle.cli.specs.Inputs.{IsBaseAnswer};
     ghost use Rattle.cli.specs.Outputs.{IsWhole};
+    ghost use Rattle.nquads.specs.Canonical.{canonical};
+    ghost use Rattle.numbering.specs.Numbered.{IsNumbered};
 
     // What it takes of its types.
     ghost Ready: { Type 0 };
@@ -46,20 +49,37 @@ pub(crate) trait Runs {
         ensures failures { FailedIf (is_unread File.Base result) base.old.failures base.new.failures }
         ensures others { TellsNoOther File.Base result };
 
+    /// The base and the block at numbers of terms.
+    fn number(
+        &self,
+        alloc: Global,
+        dataset: &DataSet,
+        block: &Block,
+    ) -> Result<Numbered, AllocError>
+        requires ready { Ready }
+        ensures { IfOk result (λ n. IsNumbered dataset.now block.now n.base n.block.items) };
+
     /// The outcome of the whole block.
     fn outcome(&self, alloc: Global, numbered: &Numbered) -> Result<Outcome, AllocError>
         requires ready { Ready }
         requires few { length numbered.now.block.items < 2 ^ 32 }
         requires short { AreShort numbered.now.block.items }
         ensures { IfOk result (λ outcome. IsWhole numbered.now.base.terms numbered.now.base.dataset numbered.now.block.items outcome.dataset outcome.replies) };
+
+    /// The canonical text of a dataset.
+    fn text(&self, alloc: Global, dataset: &DataSet, tag: u32) -> Result<Vec<u8>, AllocError>
+        requires ready { Ready }
+        ensures { IfOk result (λ text. text.items ≡ canonical dataset.now tag) };
 }
 
 /// The texts of an outcome at numbers of terms. What is not needed any more is let go before the texts are made.
-pub(crate) fn texts_of_outcome(
+pub(crate) fn texts_of_outcome<W: Runs>(
+    way: &W,
     alloc: Global,
     numbered: Numbered,
     outcome: Outcome,
 ) -> Result<Texts, AllocError>
+    requires ready { W.Ready }
     requires known { dataset_known (is_known numbered.base.terms) outcome.dataset ≡ true }
     requires dataset { IsDataset term_order (renamed (term_of numbered.base.terms) outcome.dataset) }
     ensures dataset { IfOk result (λ texts. texts.dataset.items ≡ canonical (renamed (term_of numbered.base.terms) outcome.dataset) numbered.base.tag) }
@@ -71,7 +91,7 @@ pub(crate) fn texts_of_outcome(
     drop(numbered);
     drop(dataset);
     Ok(Texts {
-        dataset: canonical_text(alloc, &answer, tag)?,
+        dataset: way.text(alloc, &answer, tag)?,
         replies: replies_text(alloc, replies.as_slice())?,
     })
 }
@@ -90,10 +110,10 @@ fn texts_of<W: Runs>(
 {
     carries_block();
     let _parts = base.parts();
-    let numbered = number(alloc, &base, block)?;
+    let numbered = way.number(alloc, &base, block)?;
     drop(base);
     let outcome = way.outcome(alloc, &numbered)?;
-    let texts = texts_of_outcome(alloc, numbered, outcome)?;
+    let texts = texts_of_outcome(way, alloc, numbered, outcome)?;
     Ok(texts)
 }
 
@@ -138,9 +158,9 @@ pub(crate) fn run_by<W: Runs, B: Read, K: Read, D: Write, A: Write>(
 
 /// By workers on threads of their own, from 1 to 64.
 #[derive(Drop)]
-struct Workers<'r, T: Threads + Wait + Sync> {
-    rt: &'r T,
-    count: u32,
+pub(crate) struct Workers<'r, T: Threads + Wait + Sync> {
+    pub(crate) rt: &'r T,
+    pub(crate) count: u32,
     ghost some: { 0 < count },
     ghost most: { count ≤ 64 },
 }
@@ -154,12 +174,28 @@ impl<'r, T: Threads + Wait + Sync> Runs for Workers<'r, T> {
         read_base_by(self.rt, alloc, base, self.count)
     }
 
+    fn number(
+        &self,
+        alloc: Global,
+        dataset: &DataSet,
+        block: &Block,
+    ) -> Result<Numbered, AllocError> {
+        if self.count == 1 {
+            return number(&Alone, alloc, dataset, block);
+        }
+        number(&Together::new(self.rt), alloc, dataset, block)
+    }
+
     #[tactic(auto, using(crate::proofs::Composed::whole_run))]
     fn outcome(&self, alloc: Global, numbered: &Numbered) -> Result<Outcome, AllocError> {
         let (base, block) = (&numbered.base, numbered.block.as_slice());
         let (terms, dataset) = (base.terms(), base.dataset());
         let outcome = run_block(self.rt, alloc, terms, dataset, block, self.count, &Open)?;
         Ok(outcome)
+    }
+
+    fn text(&self, alloc: Global, dataset: &DataSet, tag: u32) -> Result<Vec<u8>, AllocError> {
+        canonical_text_by(self.rt, alloc, dataset, tag, self.count as usize)
     }
 }
 

@@ -9,15 +9,18 @@ use crate::inputs::read_base;
 use command_line::{Fault, File};
 use delta::Outcome;
 use devices::Watched;
-use numbering::Numbered;
+use nquads::canonical_text;
+use numbering::{Numbered, number};
+use rules::Block;
 use serial::run;
 use std::alloc::{AllocError, Global};
 use std::io::{Read, Write};
+use store::Alone;
 use terms::DataSet;
 
 /// One request after another.
 #[derive(Drop)]
-struct OneByOne;
+pub(crate) struct OneByOne;
 
 impl Runs for OneByOne {
     ghost Ready = { Unit {0} };
@@ -26,8 +29,21 @@ impl Runs for OneByOne {
         read_base(alloc, base)
     }
 
+    fn number(
+        &self,
+        alloc: Global,
+        dataset: &DataSet,
+        block: &Block,
+    ) -> Result<Numbered, AllocError> {
+        number(&Alone, alloc, dataset, block)
+    }
+
     fn outcome(&self, alloc: Global, numbered: &Numbered) -> Result<Outcome, AllocError> {
         run(alloc, &numbered.base, numbered.block.as_slice())
+    }
+
+    fn text(&self, alloc: Global, dataset: &DataSet, tag: u32) -> Result<Vec<u8>, AllocError> {
+        canonical_text(alloc, dataset, tag)
     }
 }
 

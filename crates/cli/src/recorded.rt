@@ -5,15 +5,15 @@ ghost use Rattle.update.specs.Asked.{AreShort};
 ghost use Rattle.cli.specs.Journals.{IsFaultWithJournal, IsJournalAt, IsJournalOf, WroteJournal, WroteJournalInPart};
 ghost use Rattle.cli.specs.Outputs.{IsAnswerTo, IsWhole, Wrote, WroteInPart};
 
-use crate::engine::texts_of_outcome;
+use crate::engine::{Runs, Workers, texts_of_outcome};
 use crate::inputs::{read_base_by, read_block};
 use crate::outputs::{Texts, write_journal, write_texts};
 use command_line::{Fault, File};
 use delta::Outcome;
 use devices::Watched;
 use journal::write_lines;
+use numbering::Numbered;
 use numbering::laws::carries_block;
-use numbering::{Numbered, number};
 use pool::{Open, run_book};
 use replay::lines_of;
 use rules::Block;
@@ -80,10 +80,11 @@ fn texts_with_journal<T: Threads + Wait + Sync>(
 {
     carries_block();
     let _parts = base.parts();
-    let numbered = number(alloc, &base, block)?;
+    let way = Workers { rt, count: workers };
+    let numbered = way.number(alloc, &base, block)?;
     drop(base);
     let Record { outcome, journal } = recorded(rt, alloc, &numbered, workers)?;
-    let answer = texts_of_outcome(alloc, numbered, outcome)?;
+    let answer = texts_of_outcome(&way, alloc, numbered, outcome)?;
     Ok(RecordTexts { answer, journal })
 }
 

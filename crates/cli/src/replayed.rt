@@ -5,15 +5,16 @@ ghost use Rattle.update.specs.Asked.{AreShort};
 ghost use Rattle.cli.specs.Failures.{is_unread, is_unwritten, FailedIf, OneFailedIf};
 ghost use Rattle.cli.specs.Journals.{IsFaultOfLines, IsFaultOfReplay, IsFrontOf, IsReplay, IsReplayFault, WroteReplay, WroteReplayInPart, journal_fault as the_journal_fault};
 
-use crate::engine::texts_of_outcome;
+use crate::engine::{Runs, texts_of_outcome};
+use crate::in_order::OneByOne;
 use crate::inputs::{read_base, read_block, read_journal_bytes};
 use crate::outputs::{Texts, write_texts};
 use command_line::{Fault, File};
 use delta::Outcome;
 use devices::Watched;
 use journal::{JournalFault, Line, read_journal};
+use numbering::Numbered;
 use numbering::laws::carries_block;
-use numbering::{Numbered, number};
 use replay::replay;
 use rules::Block;
 use std::alloc::Global;
@@ -66,7 +67,7 @@ fn texts_of_journal(
 {
     carries_block();
     let _parts = base.parts();
-    let Ok(numbered) = number(alloc, &base, block) else {
+    let Ok(numbered) = OneByOne.number(alloc, &base, block) else {
         return Err(Fault::Memory);
     };
     drop(base);
@@ -77,7 +78,7 @@ fn texts_of_journal(
     drop(journal);
     let outcome = outcome_of_lines(alloc, &numbered, lines.as_slice())?;
     drop(lines);
-    match texts_of_outcome(alloc, numbered, outcome) {
+    match texts_of_outcome(&OneByOne, alloc, numbered, outcome) {
         Ok(texts) => Ok(texts),
         Err(_) => Err(Fault::Memory),
     }
