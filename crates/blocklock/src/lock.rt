@@ -104,7 +104,7 @@ impl<B: Journaled> BlockLock<B> {
     }
 }
 
-// Waits for some cycles after so many looks, and now and then leaves the processor to others: a book is held for no longer than a few looks.
+// Waits for some cycles after so many looks, and now and then leaves the processor to others: most often a book is back after a few looks.
 fn wait_after(looks: u32) {
     if looks % LOOKS_A_YIELD == 0 {
         yield_now();

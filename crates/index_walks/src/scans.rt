@@ -109,3 +109,27 @@ fn a_made_node_is_found(rt: HostRuntime) -> Result<(), AllocError> {
     assert!(rt; scans.are_right && scans.are_short);
     Ok(())
 }
+
+#[test]
+fn quads_come_in_any_order_and_twice(rt: HostRuntime) -> Result<(), AllocError> {
+    let alloc = rt.alloc();
+    let made = Quad {
+        subject: Id::Made {
+            request: 1,
+            op: 2,
+            label: 3,
+            rank: 4,
+        },
+        ..quad_of(9)
+    };
+    for last in [quad_of(3), made] {
+        let mut quads = quads_with(Vec::new(alloc))?;
+        quads.push(last)?;
+        quads.push(last)?;
+        let set = set_of(Vec::from_slice(alloc, quads.as_slice())?);
+        let index = Index::of_quads(alloc, quads, &BESIDE_SPOG)?;
+        let scans = scans_of(alloc, &index, &set, &last)?;
+        assert!(rt; scans.are_right && scans.are_short);
+    }
+    Ok(())
+}

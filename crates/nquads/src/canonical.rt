@@ -211,7 +211,7 @@ fn text_of_lines(
     }
 }
 
-/// The same text, made by so many threads, where they can be had.
+/// The same text, its lines made by so many threads.
 fn text_of_lines_by<T: Threads + Sync>(
     rt: &T,
     alloc: Global,
@@ -255,7 +255,7 @@ pub fn canonical_text(alloc: Global, dataset: &DataSet, tag: u32) -> Result<Vec<
     Ok(text)
 }
 
-/// The same text, made by so many threads, where they can be had.
+/// The same text, its lines made by so many threads, where they can be had, and put in order by as many as there are processors.
 pub fn canonical_text_by<T: Threads + Sync>(
     rt: &T,
     alloc: Global,
