@@ -291,7 +291,7 @@ class Copy:
 def is_proof_of(folder, function):
     """Whether a folder of proofs/ holds the proof of a function, or of a cycle of calls that the function may be in."""
     inside, parts = module_of(function.file), folder.split("/")
-    block = re.sub(r"^impl(<.*?>)? ?", "", function.block)
+    block = re.sub(r"^(impl(<.*?>)?|trait) ?", "", function.block)
     of_type = (block.partition(" for ")[2] or block).partition("<")[0].strip()
     if parts[-1].startswith("+"):
         # a cycle of functions, or of methods of one type

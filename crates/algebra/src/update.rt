@@ -70,7 +70,8 @@ fn nothing<T>(alloc: Global) -> Pattern<T>
 impl<T> Operation<T> {
     /// INSERT DATA of these quads (SPARQL 1.1 Update, section 3.1.1). It takes no memory.
     pub fn insert_data(alloc: Global, quads: Items<QuadTemplate<T>>) -> Operation<T>
-        ensures { result ≡ Operation.Modify (record { width = 0; active = None; pattern = nothing; delete = []; insert = quads }) }
+        ensures { result ≡ Operation.Modify (record
+            { width = 0; active = None; pattern = nothing; delete = []; insert = quads }) }
     {
         Operation::Modify(Modify {
             width: 0,
@@ -83,7 +84,8 @@ impl<T> Operation<T> {
 
     /// DELETE DATA of these quads (SPARQL 1.1 Update, section 3.1.2). It takes no memory.
     pub fn delete_data(alloc: Global, quads: Items<QuadTemplate<T>>) -> Operation<T>
-        ensures { result ≡ Operation.Modify (record { width = 0; active = None; pattern = nothing; delete = quads; insert = [] }) }
+        ensures { result ≡ Operation.Modify (record
+            { width = 0; active = None; pattern = nothing; delete = quads; insert = [] }) }
     {
         Operation::Modify(Modify {
             width: 0,

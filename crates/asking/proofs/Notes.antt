@@ -1,17 +1,17 @@
 -- Notes, one after another.
 use Rattle.std.proofs.Common.{◌≡◌, Bool, true, List, [], ◌∷◌, ◌++◌, Option, Some, None, Result, Ok, Err, ◌⊎◌, inl, inr, refl, ap, subst, sym, ◌∙◌, append_assoc}
+use Rattle.std.specs.Prelude.{map, slice_get, OnOk}
 use Rattle.std.specs.List.{AllByRecursion}
 use Rattle.std.specs.Result.{IfErr, IsErrAnd}
+use Rattle.std.proofs.lemmas.List.{append-nil}
 use Rattle.reads.specs.Reads.{View, Read, Answer, says}
 use Rattle.reads.specs.Runs.{Agrees}
 use Rattle.reads.specs.declared.note.Note.{Note}
 use Rattle.reads.specs.declared.source.Stop.{Stop}
 use Rattle.reads.specs.declared.source.Stop.TheVariants.{Memory}
-use Rattle.asking.specs.Goes.{AllAllowed, Asked, Ends, Goes, Stops, stop_of}
-
-append_none : (ns : List Note) → ns ++ [] ≡ ns
-append_none [] = refl
-append_none (n ∷ ns) = ap (λ ms. n ∷ ms) (append_none ns)
+use Rattle.reads.specs.Asking.{Asked, AsksAll, EndsAt}
+use Rattle.reads.proofs.Asking.{asked_both}
+use Rattle.asking.specs.Goes.{AllAllowed, AreAllowed, AreNoted, Ends, Goes, Stops, stop_of}
 
 agrees_before : (ns ms : List Note) (d : View) → Agrees (ns ++ ms) d → Agrees ns d
 agrees_before [] ms d a = tt
@@ -29,20 +29,35 @@ all_weaker : (P Q : Note → Type 0) → ((n : Note) → P n → Q n) → (ns : 
 all_weaker P Q f [] all = tt
 all_weaker P Q f (n ∷ ns) all = (f n all.0, all_weaker P Q f ns all.1)
 
+-- what is allowed of all reads is allowed of the first that were asked for, and of the next
+allowed_first : (allowed : Read → Bool) (ns : List Note) (left : List Read) → AreAllowed allowed (map (λ n. n.read) ns ++ left) → AllAllowed allowed ns
+allowed_first allowed [] left near = tt
+allowed_first allowed (n ∷ ns) left near = (near.0, allowed_first allowed ns left near.1)
+
+allowed_left : (allowed : Read → Bool) (ns : List Note) (left : List Read) → AreAllowed allowed (map (λ n. n.read) ns ++ left) → AreAllowed allowed left
+allowed_left allowed [] left near = near
+allowed_left allowed (n ∷ ns) left near = allowed_left allowed ns left near.1
+
+allowed_next : (allowed : Read → Bool) (left : List Read) → AreAllowed allowed left → (r : Read) → slice_get left 0 ≡ Some r → allowed r ≡ true
+allowed_next allowed [] near r is = cc
+allowed_next allowed (x ∷ xs) near r is = let same : r ≡ x = cc in ap allowed same ∙ near.0
+
 -- what the last note tells
 pub told_last : (ns ns' : List Note) (n : Note) (d : View) → ns' ≡ ns ++ n ∷ [] → Agrees ns' d → n.answer ≡ says n.read d
 told_last ns ns' n d e a = agrees_last ns n d (subst (λ z. Agrees z d) e a)
 
 module _ {S : Type 0} (asks : S → Read → Result Answer Stop → S → Type 0) where
-  asked_both : (ns ms : List Note) (s1 s2 s3 : S) → Asked asks s1 ns s2 → Asked asks s2 ms s3 → Asked asks s1 (ns ++ ms) s3
-  asked_both [] ms s1 s2 s3 a b = subst (λ s. Asked asks s ms s3) (sym a) b
-  asked_both (n ∷ ns) ms s1 s2 s3 a b = (a.0, a.1, asked_both ns ms a.0 s2 s3 a.2 b)
-
   ends_within : {allowed more : Read → Bool} → ((r : Read) → allowed r ≡ true → more r ≡ true) → (s s' : S) (stop : Option Stop)
       → Ends asks allowed s stop s' → Ends asks more s stop s'
   ends_within f s s' None e = e
   ends_within f s s' (Some stop) (inl e) = inl e
   ends_within f s s' (Some stop) (inr e) = inr (e.0, f e.0 e.1, e.2)
+
+  ends_at : {A : Type 0} (allowed : Read → Bool) (left : List Read) (s s' : S) (result : Result A Stop) → AreAllowed allowed left
+      → EndsAt asks left s result s' → Ends asks allowed s (stop_of result) s'
+  ends_at allowed left s s' (Ok x) near e = e.1
+  ends_at allowed left s s' (Err stop) near (inl e) = inl e
+  ends_at allowed left s s' (Err stop) near (inr e) = inr (e.0, allowed_next allowed left near e.0 e.1, e.2)
 
   -- Where each answer keeps a fact of the source, and brings one of the read and the answer, a run of them does.
   pub asked_all : (Is : S → Type 0) (Tells : Read → Answer → Type 0)
@@ -61,7 +76,7 @@ module _ {S : Type 0} {asks : S → Read → Result Answer Stop → S → Type 0
   agreed {ns} {ns'} g d a = agrees_before ns g.more d (subst (λ z. Agrees z d) g.noted a)
 
   pub goes_nowhere : (allowed : Read → Bool) (s : S) (ns : List Note) → Goes asks allowed s s ns ns None
-  goes_nowhere allowed s ns = record { more = []; noted = sym (append_none ns); near = tt; last = s; asked = refl; ends = refl }
+  goes_nowhere allowed s ns = record { more = []; noted = sym (append-nil ns); near = tt; last = s; asked = refl; ends = refl }
 
   -- the source was asked, and what it answered was noted
   pub goes_noted : (allowed : Read → Bool) (s s' : S) (ns ns' : List Note) (n : Note)
@@ -73,7 +88,26 @@ module _ {S : Type 0} {asks : S → Read → Result Answer Stop → S → Type 0
   pub goes_stopped : (allowed : Read → Bool) (s s' : S) (ns ns' : List Note) (r : Read) (stop : Stop)
       → ns' ≡ ns → asks s r (Err stop) s' → allowed r ≡ true → Goes asks allowed s s' ns ns' (Some stop)
   goes_stopped allowed s s' ns ns' r stop e a near =
-      record { more = []; noted = e ∙ sym (append_none ns); near = tt; last = s; asked = refl; ends = inr (r, near, a) }
+      record { more = []; noted = e ∙ sym (append-nil ns); near = tt; last = s; asked = refl; ends = inr (r, near, a) }
+
+  -- the source was asked for some reads at once
+  pub goes_all : {A : Type 0} {s s' : S} {reads : List Read} {ns ns' : List Note} {result : Result A Stop} → AsksAll asks s reads ns ns' result s'
+      → (allowed : Read → Bool) → AreAllowed allowed reads → Goes asks allowed s s' ns ns' (stop_of result)
+  goes_all {A} {s} {s'} {reads} {ns} {ns'} {result} a allowed h =
+      let near : AreAllowed allowed (map (λ n. n.read) a.more ++ a.left) = subst (AreAllowed allowed) a.in_order h in
+      record {
+        more = a.more;
+        noted = a.noted;
+        near = allowed_first allowed a.more a.left near;
+        last = a.last;
+        asked = a.asked;
+        ends = ends_at asks allowed a.left a.last s' result (allowed_left allowed a.more a.left near) a.ends;
+      }
+
+  pub all_noted : {A : Type 0} {s s' : S} {reads : List Read} {ns ns' : List Note} (result : Result A Stop) → AsksAll asks s reads ns ns' result s'
+      → OnOk result (AreNoted reads ns ns')
+  all_noted (Ok x) a = (a.more, a.noted, sym (a.in_order ∙ ap (λ rs. map (λ n. n.read) a.more ++ rs) a.ends.0 ∙ append-nil (map (λ n. n.read) a.more)))
+  all_noted (Err stop) a = tt
 
   pub goes_on : {allowed : Read → Bool} {s s1 s2 : S} {ns ns1 ns2 : List Note} {stop : Option Stop}
       → Goes asks allowed s s1 ns ns1 None → Goes asks allowed s1 s2 ns1 ns2 stop → Goes asks allowed s s2 ns ns2 stop

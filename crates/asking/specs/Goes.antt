@@ -1,7 +1,8 @@
--- What asking a source comes to.
-use Rattle.std.specs.Prelude.{◌≡◌, Bool, true, List, [], ◌∷◌, ◌++◌, Option, Some, None, Result, Ok, Err, ◌⊎◌}
+-- Calls that a source is passed to.
+use Rattle.std.specs.Prelude.{◌≡◌, Bool, true, List, [], ◌++◌, map, Option, Some, None, Result, Ok, Err, ◌⊎◌}
 use Rattle.std.specs.List.{AllByRecursion}
 use Rattle.reads.specs.Reads.{Read, Answer}
+use Rattle.reads.specs.Asking.{Asked}
 use Rattle.reads.specs.declared.note.Note.{Note}
 use Rattle.reads.specs.declared.source.Stop.{Stop}
 use Rattle.reads.specs.declared.source.Stop.TheVariants.{Memory}
@@ -15,13 +16,16 @@ abbrev pub stop_of : {A : Type 0} → Result A Stop → Option Stop
 stop_of (Ok a) = None
 stop_of (Err stop) = Some stop
 
+-- each of the reads is allowed
+abbrev pub AreAllowed : (Read → Bool) → List Read → Type 0
+AreAllowed allowed reads = AllByRecursion (λ r. allowed r ≡ true) reads
+
+-- the notes are those before, and then one of each of the reads, in order
+abbrev pub AreNoted : List Read → List Note → List Note → Type 0
+AreNoted reads notes notes' = (more : List Note) × (notes' ≡ notes ++ more) × (map (λ n. n.read) more ≡ reads)
+
 -- what asking a source of this type for a read may come to
 module _ {S : Type 0} (asks : S → Read → Result Answer Stop → S → Type 0) where
-  -- the source was asked for the read of each note in turn, answered what is noted, and so came from one state to another
-  abbrev pub Asked : S → List Note → S → Type 0
-  Asked before [] after = before ≡ after
-  Asked before (n ∷ ns) after = (next : S) × asks before n.read (Ok n.answer) next × Asked next ns after
-
   -- A call that has asked so far ends: with its value, for want of memory, or by asking for one allowed read more, at which the source
   -- stopped, as the call does.
   abbrev pub Ends : (Read → Bool) → S → Option Stop → S → Type 0
@@ -36,7 +40,7 @@ module _ {S : Type 0} (asks : S → Read → Result Answer Stop → S → Type 0
     pub noted : notes' ≡ notes ++ more
     pub near : AllAllowed allowed more
     pub last : S
-    pub asked : Asked before more last
+    pub asked : Asked asks before more last
     pub ends : Ends allowed last stop after
 
   -- A call that stops: it asked for some allowed reads, which were answered, and then memory ran out, or the source stopped as the call does.

@@ -22,7 +22,9 @@ use version_overlay::along::{changed_part, push_covering};
 fn changes(alloc: Global, slots: &[Slot<'_>], low: usize, high: usize) -> Result<Delta, AllocError>
     requires some { low < high }
     requires within { high ≤ length slots.now }
-    ensures { IfOk result (λ delta. (base : Base) → applied delta (view_at base (shown slots.now) low) ≡ view_at base (shown slots.now) high) }
+    ensures { IfOk result (λ delta. (base : Base)
+        → applied delta (view_at base (shown slots.now) low)
+        ≡ view_at base (shown slots.now) high) }
 {
     let middle = low + (high - low) / 2;
     if middle == low {
@@ -43,7 +45,8 @@ pub fn changed_from(
 ) -> Result<View, AllocError>
     requires rises { low ≤ high }
     requires within { high ≤ length slots.now }
-    ensures { IfOk result (λ after. (base : Base) → view ≡ view_at base (shown slots.now) low → after ≡ view_at base (shown slots.now) high) }
+    ensures { IfOk result (λ after. (base : Base) → view ≡ view_at base (shown slots.now) low
+        → after ≡ view_at base (shown slots.now) high) }
 {
     if low == high {
         return Ok(view);
@@ -63,7 +66,8 @@ pub fn part_before(
     requires holds { Holds kept.now }
     requires within { i ≤ length kept.now.slots.items }
     requires leads { Leads (shown kept.now.slots.items) scanned.now.read kept.now.low list.now i }
-    ensures { IfOk result (λ part. says scanned.now.read (part_or scanned.now.dataset part) ≡ says scanned.now.read (view_at scanned.now.dataset (shown kept.now.slots.items) i)) }
+    ensures { IfOk result (λ part. says scanned.now.read (part_or scanned.now.dataset part)
+        ≡ says scanned.now.read (view_at scanned.now.dataset (shown kept.now.slots.items) i)) }
 {
     scanned.rises();
     let mut part = kept.settled.part(alloc, scanned)?;
@@ -86,7 +90,9 @@ pub fn changes_before(
     requires holds { Holds kept.now }
     requires within { i ≤ length kept.now.slots.items }
     requires leads { Leads (shown kept.now.slots.items) scanned.now.read kept.now.low list.now i }
-    ensures { IfOk result (λ found. says scanned.now.read (changed_by found.items scanned.now.dataset) ≡ says scanned.now.read (view_at scanned.now.dataset (shown kept.now.slots.items) i)) }
+    ensures { IfOk result (λ found. says scanned.now.read
+        (changed_by found.items scanned.now.dataset)
+        ≡ says scanned.now.read (view_at scanned.now.dataset (shown kept.now.slots.items) i)) }
 {
     scanned.rises();
     let mut found = kept.settled.changes(alloc, scanned.read())?;
@@ -131,7 +137,8 @@ fn blocker_or(
     read: &Read<Id>,
     found: Option<usize>,
 ) -> Option<usize>
-    ensures { result ≡ (if slot.now.estimate && covers slot.now.delta read.now then Some request else found) }
+    ensures { result ≡ (if slot.now.estimate && covers slot.now.delta read.now then Some request
+        else found) }
 {
     if slot.estimate && slot.delta.covers(read) {
         Some(request)
@@ -151,7 +158,8 @@ pub fn touching(
 ) -> Result<Items<(usize, u64)>, AllocError>
     requires within { i ≤ length slots.now }
     requires leads { Leads (shown slots.now) read.now low list.now i }
-    ensures { IfOk result (λ found. touching_of (shown slots.now) low read.now ++ found ≡ touching_of (shown slots.now) i read.now) }
+    ensures { IfOk result (λ found. touching_of (shown slots.now) low read.now ++ found
+        ≡ touching_of (shown slots.now) i read.now) }
 {
     let mut found = Items::new(alloc);
     for request in list {
@@ -168,7 +176,8 @@ fn push_touching(
     request: usize,
     read: &Read<Id>,
 ) -> Result<(), AllocError>
-    ensures { OnOk result (found.new ≡ found.old ++ (if covers slot.now.delta read.now then (request, slot.now.version) ∷ [] else [])) }
+    ensures { OnOk result (found.new ≡ found.old
+        ++ (if covers slot.now.delta read.now then (request, slot.now.version) ∷ [] else [])) }
 {
     if slot.delta.covers(read) {
         found.push((request, slot.version))?;

@@ -16,7 +16,8 @@ fn rising_between(mut found: Vec<usize>, from: usize, i: usize) -> Vec<usize>
     ensures sorted { IsStrictlySortedBy nat_cmp result.items }
     ensures from { (j : ℕ) → has nat_cmp result.items j ≡ true → from ≤ j }
     ensures below { (j : ℕ) → has nat_cmp result.items j ≡ true → j < i }
-    ensures same { (j : ℕ) → from ≤ j → j < i → list_any (λ r. r == j) found.items ≡ true → has nat_cmp result.items j ≡ true }
+    ensures same { (j : ℕ) → from ≤ j → j < i → list_any (λ r. r == j) found.items ≡ true
+        → has nat_cmp result.items j ≡ true }
 {
     found.retain(|request| from <= *request && *request < i);
     found.sort_unstable();
@@ -26,8 +27,10 @@ fn rising_between(mut found: Vec<usize>, from: usize, i: usize) -> Vec<usize>
 
 // Those from `from` on and below `to` too.
 fn push_between(found: &mut Vec<usize>, from: usize, to: usize) -> Result<(), AllocError>
-    ensures added { OnOk result ((j : ℕ) → from ≤ j → j < to → list_any (λ r. r == j) found.new.items ≡ true) }
-    ensures kept { OnOk result ((j : ℕ) → list_any (λ r. r == j) found.old.items ≡ true → list_any (λ r. r == j) found.new.items ≡ true) }
+    ensures added { OnOk result ((j : ℕ) → from ≤ j → j < to
+        → list_any (λ r. r == j) found.new.items ≡ true) }
+    ensures kept { OnOk result ((j : ℕ) → list_any (λ r. r == j) found.old.items ≡ true
+        → list_any (λ r. r == j) found.new.items ≡ true) }
 {
     for request in from..to {
         found.push(request)?;

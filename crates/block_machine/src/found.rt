@@ -41,7 +41,8 @@ pub fn look<'a>(
     requires holds { Holds kept.now }
     requires within { i ≤ length kept.now.slots.items }
     requires above { kept.now.low ≤ i }
-    ensures { IfOk result (λ found. IsFound scanned.now.dataset kept.now.slots.items kept.now.low i scanned.now.read found) }
+    ensures { IfOk result (λ found. IsFound scanned.now.dataset kept.now.slots.items kept.now.low i
+        scanned.now.read found) }
 {
     let (low, read) = (kept.low, scanned.read());
     let list = candidates_for(alloc, kept, low, i, read)?;
@@ -71,7 +72,11 @@ fn note_of<'a>(
     requires holds { Holds kept.now }
     requires within { i ≤ length kept.now.slots.items }
     requires leads { Leads (shown kept.now.slots.items) scanned.now.read kept.now.low list.now i }
-    ensures { IfOk result (λ note. note ≡ record { read = scanned.now.read; answer = says scanned.now.read (view_at scanned.now.dataset (shown kept.now.slots.items) i) }) }
+    ensures { IfOk result (λ note. note ≡ record {
+      read = scanned.now.read;
+      answer = says scanned.now.read
+          (view_at scanned.now.dataset (shown kept.now.slots.items) i);
+    }) }
 {
     let read = scanned.read();
     let Some(part) = part_before(alloc, scanned, kept, list, i)? else {

@@ -70,7 +70,8 @@ impl<'a> Machine<'a> {
     /// How many requests are committed: the first ones.
     pub fn front(&self) -> usize
         ensures front { result ≡ self.now.front }
-        ensures committed { (j : ℕ) → j < self.now.front → closed (Some (slot_at self.now.slots j).status) ≡ true }
+        ensures committed { (j : ℕ) → j < self.now.front
+            → closed (Some (slot_at self.now.slots j).status) ≡ true }
     {
         self.front
     }
@@ -105,7 +106,8 @@ impl<'a> Machine<'a> {
 
     /// The clock when a committed request last changed what it publishes, 0 before any did.
     pub fn latest(&self) -> u64
-        ensures { (moment : ℕ) → is_current self.now.slots self.now.front moment ≡ nat_le result moment }
+        ensures { (moment : ℕ) → is_current self.now.slots self.now.front moment
+            ≡ nat_le result moment }
     {
         self.latest
     }
@@ -147,8 +149,10 @@ impl<'a> Machine<'a> {
         requires ready { IsReady base.now self.old }
         requires scans { scans.now ≡ questions_of base.now event.now }
         ensures same { IfOk result (λ replies. replies.1 ≡ replies.0) }
-        ensures allowed { IfOk result (λ replies. IsAllowed base.now self.old worker event.now replies.0) }
-        ensures changed { IfOk result (λ replies. self.new ≡ after self.old worker event.now replies.0) }
+        ensures allowed { IfOk result (λ replies. IsAllowed base.now self.old worker event.now
+            replies.0) }
+        ensures changed { IfOk result (λ replies. self.new
+            ≡ after self.old worker event.now replies.0) }
         ensures err { OnErr result (self.new ≡ self.old) }
     {
         match event {
@@ -212,8 +216,10 @@ impl<'a> Machine<'a> {
     ) -> Result<(Reply, Reply), AllocError>
         requires { scanned.now.dataset ≡ base.now }
         ensures same { IfOk result (λ replies. replies.1 ≡ replies.0) }
-        ensures allowed { IfOk result (λ replies. IsAllowed scanned.now.dataset self.old worker (Event.Read i n scanned.now.read) replies.0) }
-        ensures changed { IfOk result (λ replies. self.new ≡ after self.old worker (Event.Read i n scanned.now.read) replies.0) }
+        ensures allowed { IfOk result (λ replies. IsAllowed scanned.now.dataset self.old worker
+            (Event.Read i n scanned.now.read) replies.0) }
+        ensures changed { IfOk result (λ replies. self.new
+            ≡ after self.old worker (Event.Read i n scanned.now.read) replies.0) }
         ensures err { OnErr result (self.new ≡ self.old) }
     {
         let status = self.slots.status(i);
@@ -240,8 +246,11 @@ impl<'a> Machine<'a> {
     ) -> Result<Reply, AllocError>
         requires { self.old.clock + 1 < 2 ^ 64 }
         ensures plain { IfOk result IsPlain }
-        ensures allowed { (base : Base) → IfOk result (λ reply. IsAllowed base self.old worker (Event.Publish i n (option_copied finished.entry)) reply) }
-        ensures changed { IfOk result (λ reply. self.new ≡ after self.old worker (Event.Publish i n (option_copied finished.entry)) reply) }
+        ensures allowed { (base : Base) → IfOk result
+            (λ reply. IsAllowed base self.old worker
+            (Event.Publish i n (option_copied finished.entry)) reply) }
+        ensures changed { IfOk result (λ reply. self.new
+            ≡ after self.old worker (Event.Publish i n (option_copied finished.entry)) reply) }
         ensures err { OnErr result (self.new ≡ self.old) }
     {
         let status = self.slots.status(i);
@@ -269,7 +278,8 @@ impl<'a> Machine<'a> {
         requires within { i < length self.old.slots }
         requires room { self.old.clock + 1 < 2 ^ 64 }
         requires still { closed (status_of self.old.slots i) ≡ false }
-        ensures ok { (worker : ℕ) → OnOk result (self.new ≡ after self.old worker (Event.Publish i n (Some finished.now)) Reply.Published) }
+        ensures ok { (worker : ℕ) → OnOk result (self.new
+            ≡ after self.old worker (Event.Publish i n (Some finished.now)) Reply.Published) }
         ensures err { OnErr result (self.new ≡ self.old) }
     {
         self.slots.settle(alloc, self.front)?;
@@ -309,9 +319,12 @@ impl<'a> Machine<'a> {
     ) -> Result<(Reply, Reply), AllocError>
         requires { IsReady base.now self.old }
         ensures same { IfOk result (λ replies. replies.1 ≡ replies.0) }
-        ensures wanted { IfOk result (λ replies. IsAllowed base.now self.old worker (Event.Check i n) (wanted_reply passed) → replies.0 ≡ wanted_reply passed) }
-        ensures allowed { IfOk result (λ replies. IsAllowed base.now self.old worker (Event.Check i n) replies.0) }
-        ensures changed { IfOk result (λ replies. self.new ≡ after self.old worker (Event.Check i n) replies.0) }
+        ensures wanted { IfOk result (λ replies. IsAllowed base.now self.old worker
+            (Event.Check i n) (wanted_reply passed) → replies.0 ≡ wanted_reply passed) }
+        ensures allowed { IfOk result (λ replies. IsAllowed base.now self.old worker
+            (Event.Check i n) replies.0) }
+        ensures changed { IfOk result (λ replies. self.new
+            ≡ after self.old worker (Event.Check i n) replies.0) }
         ensures err { OnErr result (self.new ≡ self.old) }
     {
         let reply = self.check(alloc, base, worker, i, n, passed)?;
@@ -333,10 +346,14 @@ impl<'a> Machine<'a> {
         requires next { HasNext self.old i }
         requires names { NextNamesAnswer base.now self.old i }
         ensures plain { IfOk result IsPlain }
-        ensures verdict { IsTrue passed → IfOk result (λ reply. CheckVerdict base.now self.old i n reply) }
-        ensures wanted { IfOk result (λ reply. IsAllowed base.now self.old worker (Event.Check i n) (wanted_reply passed) → reply ≡ wanted_reply passed) }
-        ensures allowed { IfOk result (λ reply. IsAllowed base.now self.old worker (Event.Check i n) reply) }
-        ensures changed { IfOk result (λ reply. self.new ≡ after self.old worker (Event.Check i n) reply) }
+        ensures verdict { IsTrue passed → IfOk result
+            (λ reply. CheckVerdict base.now self.old i n reply) }
+        ensures wanted { IfOk result (λ reply. IsAllowed base.now self.old worker (Event.Check i n)
+            (wanted_reply passed) → reply ≡ wanted_reply passed) }
+        ensures allowed { IfOk result (λ reply. IsAllowed base.now self.old worker (Event.Check i n)
+            reply) }
+        ensures changed { IfOk result (λ reply. self.new
+            ≡ after self.old worker (Event.Check i n) reply) }
         ensures err { OnErr result (self.new ≡ self.old) }
     {
         let status = self.slots.status(i);
@@ -374,9 +391,15 @@ impl<'a> Machine<'a> {
         requires pass { (slot_at self.now.slots i).pass ≡ Some stands }
         requires next { HasNext self.now i }
         requires names { NextNamesAnswer base.now self.now i }
-        ensures verdict { IsTrue passed → IfOk result (λ verdict. (note : Described) → slice_get (slot_at self.now.slots i).notes stands.next ≡ Some note → NoteVerdict base.now self.now.slots i note verdict) }
-        ensures wanted { IfOk result (λ verdict. NoteReply base.now self.now.slots i (slice_get (slot_at self.now.slots i).notes stands.next) (wanted_reply passed) → verdict_reply verdict ≡ wanted_reply passed) }
-        ensures reply { IfOk result (λ verdict. NoteReply base.now self.now.slots i (slice_get (slot_at self.now.slots i).notes stands.next) (verdict_reply verdict)) }
+        ensures verdict { IsTrue passed → IfOk result
+            (λ verdict. (note : Described)
+            → slice_get (slot_at self.now.slots i).notes stands.next ≡ Some note
+            → NoteVerdict base.now self.now.slots i note verdict) }
+        ensures wanted { IfOk result (λ verdict. NoteReply base.now self.now.slots i
+            (slice_get (slot_at self.now.slots i).notes stands.next) (wanted_reply passed)
+            → verdict_reply verdict ≡ wanted_reply passed) }
+        ensures reply { IfOk result (λ verdict. NoteReply base.now self.now.slots i
+            (slice_get (slot_at self.now.slots i).notes stands.next) (verdict_reply verdict)) }
     {
         if passed {
             self.slots.verdict_by_answers(alloc, base, i, stands.next)

@@ -10,7 +10,8 @@ use std::alloc::{AllocError, Global};
 fn settle_next(alloc: Global, kept: &mut Kept<'_>) -> Result<(), AllocError>
     requires holds { Holds kept.old }
     requires within { kept.old.low < length kept.old.slots.items }
-    requires closed { is_closed (Some (slot_at (shown kept.old.slots.items) kept.old.low).status) ≡ true }
+    requires closed { is_closed (Some (slot_at (shown kept.old.slots.items) kept.old.low).status)
+        ≡ true }
     ensures holds { Holds kept.new }
     ensures slots { kept.new.slots.items ≡ kept.old.slots.items }
     ensures ok { OnOk result (kept.new.low ≡ kept.old.low + 1) }
@@ -25,7 +26,8 @@ fn settle_next(alloc: Global, kept: &mut Kept<'_>) -> Result<(), AllocError>
 pub fn settle(alloc: Global, kept: &mut Kept<'_>, to: usize) -> Result<(), AllocError>
     requires holds { Holds kept.old }
     requires within { to ≤ length kept.old.slots.items }
-    requires closed { (j : ℕ) → j < to → is_closed (Some (slot_at (shown kept.old.slots.items) j).status) ≡ true }
+    requires closed { (j : ℕ) → j < to → is_closed
+        (Some (slot_at (shown kept.old.slots.items) j).status) ≡ true }
     ensures holds { Holds kept.new }
     ensures slots { kept.new.slots.items ≡ kept.old.slots.items }
 {

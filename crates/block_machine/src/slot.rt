@@ -49,7 +49,8 @@ pub fn standing(slot: &Slot<'_>) -> Standing
 
 /// The worker executes incarnation `n`, with no notes yet.
 pub fn take(slot: &mut Slot<'_>, n: u64, worker: u32)
-    ensures by { (f : KeptNote → Described) → slot_by f slot.new ≡ taken (slot_by f slot.old) n worker }
+    ensures by { (f : KeptNote → Described) → slot_by f slot.new
+        ≡ taken (slot_by f slot.old) n worker }
     ensures notes { slot.new.notes ≡ [] }
 {
     slot.status = Status::Executing(n, worker);
@@ -58,7 +59,8 @@ pub fn take(slot: &mut Slot<'_>, n: u64, worker: u32)
 
 /// One more note. After want of memory the slot is as before.
 pub fn note<'a>(slot: &mut Slot<'a>, noted: Noted<'a>) -> Result<(), AllocError>
-    ensures ok { OnOk result (slot.new ≡ record slot.old { notes = slot.old.notes ++ noted.entry ∷ [] }) }
+    ensures ok { OnOk result (slot.new ≡ record slot.old
+        { notes = slot.old.notes ++ noted.entry ∷ [] }) }
     ensures err { OnErr result (slot.new ≡ slot.old) }
 {
     slot.notes.push(noted)
@@ -66,7 +68,8 @@ pub fn note<'a>(slot: &mut Slot<'a>, noted: Noted<'a>) -> Result<(), AllocError>
 
 /// A pass begins. With no notes there is nothing to check, and the stamp is the clock.
 pub fn begin(slot: &mut Slot<'_>, clock: u64)
-    ensures by { (f : KeptNote → Described) → slot_by f slot.new ≡ begun_slot (slot_by f slot.old) (map f slot.old.notes) clock }
+    ensures by { (f : KeptNote → Described) → slot_by f slot.new
+        ≡ begun_slot (slot_by f slot.old) (map f slot.old.notes) clock }
     ensures notes { slot.new.notes ≡ slot.old.notes }
 {
     if slot.notes.is_empty() {
@@ -84,7 +87,8 @@ pub fn begin(slot: &mut Slot<'_>, clock: u64)
 /// The next note comes. After the last one the pass is over, and its start is the stamp.
 pub fn pass(slot: &mut Slot<'_>, stands: Pass)
     requires { stands.next < length slot.old.notes }
-    ensures by { (f : KeptNote → Described) → slot_by f slot.new ≡ passed_slot (slot_by f slot.old) (Some stands) }
+    ensures by { (f : KeptNote → Described) → slot_by f slot.new
+        ≡ passed_slot (slot_by f slot.old) (Some stands) }
     ensures notes { slot.new.notes ≡ slot.old.notes }
 {
     let count = slot.notes.len();
@@ -103,7 +107,8 @@ pub fn pass(slot: &mut Slot<'_>, stands: Pass)
 /// The next incarnation is ready. The delta stays, as an estimate.
 pub fn abort(slot: &mut Slot<'_>, n: u64)
     requires { n + 1 < 2 ^ 64 }
-    ensures by { (f : KeptNote → Described) → slot_by f slot.new ≡ aborted_slot (slot_by f slot.old) n }
+    ensures by { (f : KeptNote → Described) → slot_by f slot.new
+        ≡ aborted_slot (slot_by f slot.old) n }
     ensures notes { slot.new.notes ≡ [] }
 {
     give_up(slot, n);
@@ -115,7 +120,8 @@ pub fn abort(slot: &mut Slot<'_>, n: u64)
 /// The next incarnation is ready. The delta and its mark stay.
 pub fn give_up(slot: &mut Slot<'_>, n: u64)
     requires { n + 1 < 2 ^ 64 }
-    ensures by { (f : KeptNote → Described) → slot_by f slot.new ≡ given_slot (slot_by f slot.old) n }
+    ensures by { (f : KeptNote → Described) → slot_by f slot.new
+        ≡ given_slot (slot_by f slot.old) n }
     ensures notes { slot.new.notes ≡ [] }
 {
     slot.status = Status::Ready(n + 1);
@@ -124,7 +130,8 @@ pub fn give_up(slot: &mut Slot<'_>, n: u64)
 
 /// The request is committed.
 pub fn commit(slot: &mut Slot<'_>)
-    ensures by { (f : KeptNote → Described) → slot_by f slot.new ≡ committed_slot (slot_by f slot.old) slot.old.status }
+    ensures by { (f : KeptNote → Described) → slot_by f slot.new
+        ≡ committed_slot (slot_by f slot.old) slot.old.status }
     ensures notes { slot.new.notes ≡ slot.old.notes }
 {
     if let Status::Executed(n) = slot.status {
@@ -141,7 +148,8 @@ pub fn publish(
     clock: u64,
 ) -> Result<bool, AllocError>
     requires { clock + 1 < 2 ^ 64 }
-    ensures ok { OnOk result ((f : KeptNote → Described) → slot_by f slot.new ≡ published_slot (slot_by f slot.old) n finished.now clock) }
+    ensures ok { OnOk result ((f : KeptNote → Described)
+        → slot_by f slot.new ≡ published_slot (slot_by f slot.old) n finished.now clock) }
     ensures notes { OnOk result (slot.new.notes ≡ slot.old.notes) }
     ensures same { IfOk result (λ same. same ≡ delta_eq slot.old.delta finished.now.delta) }
     ensures err { OnErr result (slot.new ≡ slot.old) }

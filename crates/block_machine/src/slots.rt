@@ -127,7 +127,8 @@ impl<'a> Slots<'a> {
         i: usize,
         finished: &Finished,
     ) -> Result<bool, AllocError>
-        ensures { IfOk result (λ same. IsTrue same ↔ (finished.now.transcript ≡ transcript_of (slot_at self.now i).notes)) }
+        ensures { IfOk result (λ same. IsTrue same
+            ↔ (finished.now.transcript ≡ transcript_of (slot_at self.now i).notes)) }
     {
         is_transcript(alloc, self.notes(i), finished.transcript.as_slice())
     }
@@ -164,7 +165,9 @@ impl<'a> Slots<'a> {
     ) -> Result<Verdict, AllocError>
         requires still { is_closed (status_of self.now i) ≡ false }
         requires note { at < length (slot_at self.now i).notes }
-        ensures { IfOk result (λ verdict. (note : Described) → slice_get (slot_at self.now i).notes at ≡ Some note → NoteVerdict base.now self.now i note verdict) }
+        ensures { IfOk result (λ verdict. (note : Described)
+            → slice_get (slot_at self.now i).notes at ≡ Some note
+            → NoteVerdict base.now self.now i note verdict) }
     {
         let note = &self.kept.slots[i].notes.as_slice()[at];
         validate::check(alloc, base, &self.kept, i, note)
@@ -179,7 +182,9 @@ impl<'a> Slots<'a> {
     ) -> Result<Verdict, AllocError>
         requires still { is_closed (status_of self.now i) ≡ false }
         requires note { at < length (slot_at self.now i).notes }
-        ensures { IfOk result (λ verdict. (note : Described) → slice_get (slot_at self.now i).notes at ≡ Some note → ListVerdict self.now i note.read note.touching verdict) }
+        ensures { IfOk result (λ verdict. (note : Described)
+            → slice_get (slot_at self.now i).notes at ≡ Some note
+            → ListVerdict self.now i note.read note.touching verdict) }
     {
         let note = &self.kept.slots[i].notes.as_slice()[at];
         validate::check_list(alloc, &self.kept, i, note)
@@ -195,7 +200,8 @@ impl<'a> Slots<'a> {
     ) -> Result<Asked, AllocError>
         requires base { scanned.now.dataset ≡ base.now }
         requires still { is_closed (status_of self.old i) ≡ false }
-        ensures ok { IfOk result (λ asked. IsAsked scanned.now.dataset self.old self.new i scanned.now.read asked) }
+        ensures ok { IfOk result (λ asked. IsAsked scanned.now.dataset self.old self.new i
+            scanned.now.read asked) }
         ensures err { OnErr result (self.new ≡ self.old) }
     {
         let noted = match look(alloc, base, scanned, &self.kept, i)? {
@@ -228,7 +234,8 @@ impl<'a> Slots<'a> {
     /// A pass begins.
     pub fn begin(&mut self, i: usize, clock: u64)
         requires { is_closed (status_of self.old i) ≡ false }
-        ensures { self.new ≡ slice_set self.old i (begun (slot_at self.old i) (slot_at self.old i).notes clock) }
+        ensures { self.new ≡ slice_set self.old i
+            (begun (slot_at self.old i) (slot_at self.old i).notes clock) }
     {
         slot::begin(&mut self.kept.slots[i], clock);
     }
@@ -263,7 +270,8 @@ impl<'a> Slots<'a> {
     /// The request is committed.
     pub fn commit(&mut self, i: usize)
         requires { is_closed (status_of self.old i) ≡ false }
-        ensures { self.new ≡ slice_set self.old i (committed (slot_at self.old i) (slot_at self.old i).status) }
+        ensures { self.new ≡ slice_set self.old i
+            (committed (slot_at self.old i) (slot_at self.old i).status) }
     {
         slot::commit(&mut self.kept.slots[i]);
     }
@@ -279,7 +287,8 @@ impl<'a> Slots<'a> {
     ) -> Result<bool, AllocError>
         requires still { is_closed (status_of self.old i) ≡ false }
         requires room { clock + 1 < 2 ^ 64 }
-        ensures ok { OnOk result (self.new ≡ slice_set self.old i (published (slot_at self.old i) n finished.now clock)) }
+        ensures ok { OnOk result (self.new ≡ slice_set self.old i
+            (published (slot_at self.old i) n finished.now clock)) }
         ensures same { IfOk result (λ same. same ≡ keeps_delta (slot_at self.old i) finished.now) }
         ensures err { OnErr result (self.new ≡ self.old) }
     {

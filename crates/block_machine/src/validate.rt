@@ -33,7 +33,8 @@ pub(crate) fn check(
     requires holds { Holds kept.now }
     requires within { i ≤ length kept.now.slots.items }
     requires above { kept.now.low ≤ i }
-    ensures { IfOk result (λ verdict. NoteVerdict base.now (shown kept.now.slots.items) i (whole kept.now.slots.items note.now) verdict) }
+    ensures { IfOk result (λ verdict. NoteVerdict base.now (shown kept.now.slots.items) i
+        (whole kept.now.slots.items note.now) verdict) }
 {
     let read = note.note.read();
     let list = candidates_for(alloc, kept, kept.low, i, read)?;
@@ -62,7 +63,8 @@ pub(crate) fn check_list(
     requires within { i ≤ length kept.now.slots.items }
     requires low { note.now.low ≤ kept.now.low }
     requires above { kept.now.low ≤ i }
-    ensures { IfOk result (λ verdict. ListVerdict (shown kept.now.slots.items) i note.now.note.read (whole kept.now.slots.items note.now).touching verdict) }
+    ensures { IfOk result (λ verdict. ListVerdict (shown kept.now.slots.items) i note.now.note.read
+        (whole kept.now.slots.items note.now).touching verdict) }
 {
     let read = note.note.read();
     let along = candidates_for(alloc, kept, note.low, i, read)?;

@@ -60,10 +60,19 @@ impl<B: Journaled> BlockLock<B> {
     // The pass of the next worker.
     fn deal(&self, seat: &mut Seat<Slot<B>, ViewOf<B>>, worker: u32) -> Pass<B>
         requires own { seat.old.table_id ≡ self.now }
-        requires next { (seat.old.me.0.from ≡ worker) × (worker < seat.old.me.0.until) × (seat.old.me.1 ≡ []) }
+        requires next { (seat.old.me.0.from ≡ worker) × (worker < seat.old.me.0.until)
+            × (seat.old.me.1 ≡ []) }
         requires idle { (seat.old.me.0.holds ≡ false) × (seat.old.me.0.told ≡ []) }
-        ensures seat { (seat.new.table_id ≡ seat.old.table_id) × (seat.new.me ≡ (rest_of seat.old.me.0, [])) }
-        ensures pass { result ≡ record { table = self.now; worker = worker; subject = seat.old.me.0.subject; seen = seat.old.me.0.seen; holds = false } }
+        ensures seat { (seat.new.table_id ≡ seat.old.table_id)
+            × (seat.new.me ≡ (rest_of seat.old.me.0, [])) }
+        ensures pass { result ≡ record {
+          table = self.now;
+          worker = worker;
+          subject =
+              seat.old.me.0.subject;
+          seen = seat.old.me.0.seen;
+          holds = false;
+        } }
     {
         Pass {
             seat: self.table.shared.split_seat::<One>(seat),
@@ -79,7 +88,8 @@ impl<B: Journaled> BlockLock<B> {
     ) -> Result<(BlockLock<B>, Vec<Pass<B>>), AllocError>
         requires { (0 < seats) × (seats ≤ 64) }
         ensures count { IfOk result (λ r. vec_len r.1 ≡ seats) }
-        ensures passes { IfOk result (λ r. (k : ℕ) → k < seats → slice_get r.1.items k ≡ Some (fresh_pass r.0 (B.history book) k)) }
+        ensures passes { IfOk result (λ r. (k : ℕ) → k < seats
+            → slice_get r.1.items k ≡ Some (fresh_pass r.0 (B.history book) k)) }
     {
         let (lock, mut seat) = BlockLock::of(alloc, book)?;
         let mut passes = Vec::with_capacity(alloc, seats as usize)?;
@@ -92,7 +102,8 @@ impl<B: Journaled> BlockLock<B> {
     /// Takes the book, where it is there. It is one exchange, takes no memory and never waits.
     pub fn try_hold<'a>(&'a self, pass: &mut Pass<B>) -> Result<Held<'a, B>, Busy>
         requires { pass.old.table ≡ self.now }
-        ensures held { IfOk result (λ h. (h.lock.now ≡ self.now) × Takes B.worker_of pass.old (B.history h.book.value) pass.new) }
+        ensures held { IfOk result (λ h. (h.lock.now ≡ self.now)
+            × Takes B.worker_of pass.old (B.history h.book.value) pass.new) }
         ensures busy { OnErr result (pass.new ≡ pass.old) }
     {
         let found = self.table.shared.swap::<Take>(&mut pass.seat, 0, 1);
@@ -117,7 +128,8 @@ impl<B: Journaled> BlockLock<B> {
     /// Takes the book, once it is there.
     pub fn hold<'a, R: Wait>(&'a self, rt: &R, pass: &mut Pass<B>) -> Held<'a, B>
         requires { pass.old.table ≡ self.now }
-        ensures { (result.lock.now ≡ self.now) × Takes B.worker_of pass.old (B.history result.book.value) pass.new }
+        ensures { (result.lock.now ≡ self.now)
+            × Takes B.worker_of pass.old (B.history result.book.value) pass.new }
     {
         let mut looks = 0u32;
         for _ in rt.forever() {
@@ -136,7 +148,8 @@ impl<B: Journaled> BlockLock<B> {
     /// How many requests are committed.
     pub fn front<R: Wait>(&self, rt: &R, pass: &mut Pass<B>) -> usize
         requires { pass.old.table ≡ self.now }
-        ensures front { result ≡ B.front_of (record { subject = pass.new.subject; journal = pass.new.seen }) }
+        ensures front { result ≡ B.front_of (record
+            { subject = pass.new.subject; journal = pass.new.seen }) }
         ensures pass { Watches B.worker_of pass.old pass.new }
     {
         let held = self.hold(rt, pass);
@@ -148,7 +161,8 @@ impl<B: Journaled> BlockLock<B> {
     // The seat that holds the book takes in all other passes.
     fn take_in(&self, seat: &mut Seat<Slot<B>, ViewOf<B>>, mut passes: Vec<Pass<B>>)
         requires own { (seat.old.table_id ≡ self.now) × All (IsIdleAt self.now) passes.items }
-        requires holds { (seat.old.me.0.holds ≡ true) × (seat.old.me.0.from < seat.old.me.0.until) × (seat.old.me.0.told ≡ []) }
+        requires holds { (seat.old.me.0.holds ≡ true) × (seat.old.me.0.from < seat.old.me.0.until)
+            × (seat.old.me.0.told ≡ []) }
         ensures seat { (seat.new.table_id ≡ seat.old.table_id) × (seat.new.id ≡ seat.old.id) }
         ensures told { seat.new.me.0 ≡ record seat.old.me.0 { told = map told_of passes.items } }
     {
@@ -185,7 +199,8 @@ impl<B: Journaled> BlockLock<B> {
 impl<B: Journaled> Held<'_, B> {
     /// Gives the book back.
     pub fn give(self, pass: &mut Pass<B>)
-        requires { (pass.old.table ≡ self.lock.now) × MayGive B.worker_of pass.old (B.history self.book.value) }
+        requires { (pass.old.table ≡ self.lock.now)
+            × MayGive B.worker_of pass.old (B.history self.book.value) }
         ensures { pass.new ≡ given pass.old (B.history self.entry.book.value) }
     {
         let Held { book, lock } = self;

@@ -56,7 +56,8 @@ impl<'a> Book<'a> {
         block: &'a [Request<Id>],
     ) -> Result<Book<'a>, AllocError>
         requires { IsDataset base.now }
-        ensures { IfOk result (λ book. book ≡ record { terms = terms.now; base = base.now; block = block.now; history = [] }) }
+        ensures { IfOk result (λ book. book ≡ record
+            { terms = terms.now; base = base.now; block = block.now; history = [] }) }
     {
         let orders = base.orders(alloc)?;
         let machine = Machine::new(alloc, block.len(), &orders)?;
@@ -80,8 +81,13 @@ impl<'a> Book<'a> {
     ) -> Result<Reply, AllocError>
         requires sound { IsSoundEvent self.old event }
         requires scans { scans.now ≡ questions_of self.old.base event }
-        ensures lawful { IfOk result (λ reply. IsAllowed self.old.base (state_of self.old) worker event reply) }
-        ensures entry { IfOk result (λ reply. self.new ≡ record self.old { history = self.old.history ++ record { worker = worker; event = kept event reply; reply = reply } ∷ [] }) }
+        ensures lawful { IfOk result (λ reply. IsAllowed self.old.base (state_of self.old) worker
+            event reply) }
+        ensures entry { IfOk result (λ reply. self.new
+            ≡ record self.old {
+              history = self.old.history
+                  ++ record { worker = worker; event = kept event reply; reply = reply } ∷ [];
+            }) }
         ensures err { OnErr result (self.new ≡ self.old) }
     {
         ready_after();
@@ -109,8 +115,13 @@ impl<'a> Book<'a> {
         event: Event,
     ) -> Result<Reply, AllocError>
         requires { IsSoundEvent self.old event }
-        ensures lawful { IfOk result (λ reply. IsAllowed self.old.base (state_of self.old) worker event reply) }
-        ensures entry { IfOk result (λ reply. self.new ≡ record self.old { history = self.old.history ++ record { worker = worker; event = kept event reply; reply = reply } ∷ [] }) }
+        ensures lawful { IfOk result (λ reply. IsAllowed self.old.base (state_of self.old) worker
+            event reply) }
+        ensures entry { IfOk result (λ reply. self.new
+            ≡ record self.old {
+              history = self.old.history
+                  ++ record { worker = worker; event = kept event reply; reply = reply } ∷ [];
+            }) }
         ensures err { OnErr result (self.new ≡ self.old) }
     {
         let scans = scans_of(alloc, self.base, &event)?;
@@ -120,8 +131,13 @@ impl<'a> Book<'a> {
     /// The same of an event that the caller keeps: its finished run is shared, and not copied.
     pub fn step(&mut self, alloc: Global, worker: u32, event: &Event) -> Result<Reply, AllocError>
         requires { IsSoundEvent self.old event.now }
-        ensures lawful { IfOk result (λ reply. IsAllowed self.old.base (state_of self.old) worker event.now reply) }
-        ensures entry { IfOk result (λ reply. self.new ≡ record self.old { history = self.old.history ++ record { worker = worker; event = kept event.now reply; reply = reply } ∷ [] }) }
+        ensures lawful { IfOk result (λ reply. IsAllowed self.old.base (state_of self.old) worker
+            event.now reply) }
+        ensures entry { IfOk result (λ reply. self.new
+            ≡ record self.old {
+              history = self.old.history
+                  ++ record { worker = worker; event = kept event.now reply; reply = reply } ∷ [];
+            }) }
         ensures err { OnErr result (self.new ≡ self.old) }
     {
         let copy = copy_of_event(alloc, event)?;
@@ -138,9 +154,15 @@ impl<'a> Book<'a> {
         n: u64,
         passed: bool,
     ) -> Result<Reply, AllocError>
-        ensures lawful { IfOk result (λ reply. IsAllowed self.old.base (state_of self.old) worker (Event.Check i n) reply) }
-        ensures wanted { IfOk result (λ reply. IsAllowed self.old.base (state_of self.old) worker (Event.Check i n) (wanted_reply passed) → reply ≡ wanted_reply passed) }
-        ensures entry { IfOk result (λ reply. self.new ≡ record self.old { history = self.old.history ++ record { worker = worker; event = Event.Check i n; reply = reply } ∷ [] }) }
+        ensures lawful { IfOk result (λ reply. IsAllowed self.old.base (state_of self.old) worker
+            (Event.Check i n) reply) }
+        ensures wanted { IfOk result (λ reply. IsAllowed self.old.base (state_of self.old) worker
+            (Event.Check i n) (wanted_reply passed) → reply ≡ wanted_reply passed) }
+        ensures entry { IfOk result (λ reply. self.new
+            ≡ record self.old {
+              history = self.old.history
+                  ++ record { worker = worker; event = Event.Check i n; reply = reply } ∷ [];
+            }) }
         ensures err { OnErr result (self.new ≡ self.old) }
     {
         ready_after();
@@ -164,7 +186,8 @@ impl<'a> Book<'a> {
     /// How many requests are committed: the first ones.
     pub fn front(&self) -> usize
         ensures front { result ≡ (state_of self.now).front }
-        ensures committed { (j : ℕ) → j < (state_of self.now).front → is_closed (Some (slot_at (state_of self.now).slots j).status) ≡ true }
+        ensures committed { (j : ℕ) → j < (state_of self.now).front
+            → is_closed (Some (slot_at (state_of self.now).slots j).status) ≡ true }
     {
         self.machine.front()
     }
@@ -192,14 +215,16 @@ impl<'a> Book<'a> {
 
     /// The reads of a request's incarnation, in order.
     pub fn notes(&self, i: usize) -> &[Noted<'a>]
-        ensures { map kept_note_of result.now ≡ transcript_of (slot_at (state_of self.now).slots i).notes }
+        ensures { map kept_note_of result.now ≡ transcript_of
+            (slot_at (state_of self.now).slots i).notes }
     {
         self.machine.notes(i)
     }
 
     /// The clock when a committed request last changed what it publishes, 0 before any did.
     pub fn latest(&self) -> u64
-        ensures { (moment : ℕ) → is_current (state_of self.now).slots (state_of self.now).front moment ≡ nat_le result moment }
+        ensures { (moment : ℕ) → is_current (state_of self.now).slots (state_of self.now).front
+            moment ≡ nat_le result moment }
     {
         self.machine.latest()
     }

@@ -19,7 +19,7 @@ appends_same (Some zs) None xs ys e a = a
 appends_same (Some zs) (Some ws) xs ys e a = a ∙ ap (λ t. zs ++ t) (sym e)
 
 -- the whole text is a beginning of it
-pub whole_is_part : (old mid new : Option (List ℕ)) (text : List ℕ) → Appends old mid text → Keeps mid new → GrewInPart old new text
+pub whole_is_part : (old mid new : Option (List ℕ)) (text : List ℕ) → Appends old mid text → Keeps mid new → GrewInPart (record { before = old; after = new }) text
 whole_is_part old mid new text a k = (length text, appends_same old new (take (length text) text) text (take_whole text) (kept_after old mid new text a k))
 
 pub on_err : {T E : Type 0} {P : Type 0} (r : Result T E) → P → OnErr r P

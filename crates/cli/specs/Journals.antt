@@ -24,7 +24,7 @@ use Rattle.command_line.specs.declared.fault.Fault.{Fault}
 use Rattle.command_line.specs.declared.fault.Fault.TheVariants as told
 use Rattle.command_line.specs.declared.fault.File.TheVariants as file
 use Rattle.cli.specs.Inputs.{IsBaseAnswer, IsBlockAnswer, IsFaultOf}
-use Rattle.cli.specs.Outputs.{Grew, GrewInPart, IsPart}
+use Rattle.cli.specs.Outputs.{Taken, Grew, GrewInPart, IsPart}
 
 -- at numbers of terms: the journal is the text of a lawful history of the block, behind which so many requests are committed
 pub record IsJournalAt (base : Base) (block : List (Request Id)) (journal : List ℕ) (front : ℕ) : Type 0 where
@@ -105,25 +105,25 @@ IsFaultWithJournal base block (told.CannotWrite file.Journal) = Unit {0}
 IsFaultWithJournal base block fault = IsFaultOf base block fault
 
 -- the writer has the journal of a run of the whole block
-abbrev pub WroteJournal : (base block : List ℕ) → Option (List ℕ) → Option (List ℕ) → Type 0
-WroteJournal base block old new =
+abbrev pub WroteJournal : (base block : List ℕ) → Taken → Type 0
+WroteJournal base block written =
     (before : Dataset Term) × (requests : List (Request Term)) × (journal : List ℕ) × (front : ℕ)
-    × AreOf base block before requests × (length requests ≤ front) × IsJournalOf before requests journal front × Grew old new journal
+    × AreOf base block before requests × (length requests ≤ front) × IsJournalOf before requests journal front × Grew written journal
 
 -- the writer has a beginning of such a journal
-abbrev pub WroteJournalInPart : (base block : List ℕ) → Option (List ℕ) → Option (List ℕ) → Type 0
-WroteJournalInPart base block old new =
+abbrev pub WroteJournalInPart : (base block : List ℕ) → Taken → Type 0
+WroteJournalInPart base block written =
     (before : Dataset Term) × (requests : List (Request Term)) × (journal : List ℕ) × (front : ℕ)
-    × AreOf base block before requests × (length requests ≤ front) × IsJournalOf before requests journal front × GrewInPart old new journal
+    × AreOf base block before requests × (length requests ≤ front) × IsJournalOf before requests journal front × GrewInPart written journal
 
 -- the writers have the answer to the requests that are committed behind the journal
-abbrev pub WroteReplay : (base block journal : List ℕ) → Option (List ℕ) → Option (List ℕ) → Option (List ℕ) → Option (List ℕ) → Type 0
-WroteReplay base block journal dataset_old dataset_new replies_old replies_new =
+abbrev pub WroteReplay : (base block journal : List ℕ) → (written told : Taken) → Type 0
+WroteReplay base block journal written told =
     (before : Dataset Term) × (requests : List (Request Term)) × (dataset replies : List ℕ)
-    × AreOf base block before requests × IsReplay before requests journal dataset replies × Grew dataset_old dataset_new dataset × Grew replies_old replies_new replies
+    × AreOf base block before requests × IsReplay before requests journal dataset replies × Grew written dataset × Grew told replies
 
 -- the writers have it up to where one of them failed
-abbrev pub WroteReplayInPart : (base block journal : List ℕ) → Option (List ℕ) → Option (List ℕ) → Option (List ℕ) → Option (List ℕ) → Type 0
-WroteReplayInPart base block journal dataset_old dataset_new replies_old replies_new =
+abbrev pub WroteReplayInPart : (base block journal : List ℕ) → (written told : Taken) → Type 0
+WroteReplayInPart base block journal written told =
     (before : Dataset Term) × (requests : List (Request Term)) × (dataset replies : List ℕ)
-    × AreOf base block before requests × IsReplay before requests journal dataset replies × IsPart dataset_old dataset_new replies_old replies_new dataset replies
+    × AreOf base block before requests × IsReplay before requests journal dataset replies × IsPart written told dataset replies

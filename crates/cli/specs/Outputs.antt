@@ -1,5 +1,5 @@
 -- What the program writes.
-use Rattle.std.specs.Prelude.{◌≡◌, ◌⊎◌, ℕ, List, length, ◌≤◌, Option, Ok, take}
+use Rattle.std.specs.Prelude.{◌≡◌, ◌⊎◌, ℕ, List, length, ◌≤◌, Option, Ok, IfSome, take}
 use Rattle.std.specs.Io.KnownBytes.{Appends, Keeps}
 use Rattle.datasets.specs.Dataset.{Dataset}
 use Rattle.terms.specs.declared.term.Term.{Term}
@@ -28,29 +28,42 @@ pub record IsOutput (base block dataset replies : List ℕ) : Type 0 where
   pub block_is : IsBlockAnswer block (Ok requests)
   pub answer : IsAnswerTo before requests dataset replies
 
--- a writer's bytes grew by a text
-abbrev pub Grew : Option (List ℕ) → Option (List ℕ) → List ℕ → Type 0
-Grew old new text = Appends old new text
+-- what a writer has taken before a call and after it, where that is known
+pub record Taken : Type 0 where
+  pub before : Option (List ℕ)
+  pub after : Option (List ℕ)
 
--- a writer's bytes grew by a beginning of a text
-abbrev pub GrewInPart : Option (List ℕ) → Option (List ℕ) → List ℕ → Type 0
-GrewInPart old new text = (n : ℕ) × Appends old new (take n text)
+-- the same, by what a writer has taken
+abbrev pub taken : {W : Type 0} → (W → Option (List ℕ)) → W → W → Taken
+taken contents old new = record { before = contents old; after = contents new }
+
+-- the writer took a text
+abbrev pub Grew : Taken → List ℕ → Type 0
+Grew writer text = Appends writer.before writer.after text
+
+-- the writer took a beginning of a text
+abbrev pub GrewInPart : Taken → List ℕ → Type 0
+GrewInPart writer text = (n : ℕ) × Appends writer.before writer.after (take n text)
 
 -- one of two writers failed: of the first text a beginning was written and of the second nothing, or the first is whole and of the second a
 -- beginning was written
-abbrev pub IsPart : Option (List ℕ) → Option (List ℕ) → Option (List ℕ) → Option (List ℕ) → List ℕ → List ℕ → Type 0
-IsPart first_old first_new second_old second_new first second =
-    (GrewInPart first_old first_new first × Keeps second_old second_new) ⊎ (Grew first_old first_new first × GrewInPart second_old second_new second)
+abbrev pub IsPart : (first second : Taken) → (text later : List ℕ) → Type 0
+IsPart first second text later =
+    (GrewInPart first text × Keeps second.before second.after) ⊎ (Grew first text × GrewInPart second later)
+
+-- what is said of a base and a block where what is left to read of both is known
+abbrev pub IfBoth : Option (List ℕ) → Option (List ℕ) → (List ℕ → List ℕ → Type 0) → Type 0
+IfBoth base block P = IfSome base (λ b. IfSome block (λ k. P b k))
 
 -- both writers have the output of a base and a block
-abbrev pub Wrote : (base block : List ℕ) → Option (List ℕ) → Option (List ℕ) → Option (List ℕ) → Option (List ℕ) → Type 0
-Wrote base block dataset_old dataset_new replies_old replies_new =
-    (dataset replies : List ℕ) × IsOutput base block dataset replies × Grew dataset_old dataset_new dataset × Grew replies_old replies_new replies
+abbrev pub Wrote : (base block : List ℕ) → (written told : Taken) → Type 0
+Wrote base block written told =
+    (dataset replies : List ℕ) × IsOutput base block dataset replies × Grew written dataset × Grew told replies
 
 -- the writers have the output up to where one of them failed
-abbrev pub WroteInPart : (base block : List ℕ) → Option (List ℕ) → Option (List ℕ) → Option (List ℕ) → Option (List ℕ) → Type 0
-WroteInPart base block dataset_old dataset_new replies_old replies_new =
-    (dataset replies : List ℕ) × IsOutput base block dataset replies × IsPart dataset_old dataset_new replies_old replies_new dataset replies
+abbrev pub WroteInPart : (base block : List ℕ) → (written told : Taken) → Type 0
+WroteInPart base block written told =
+    (dataset replies : List ℕ) × IsOutput base block dataset replies × IsPart written told dataset replies
 
 -- at numbers of terms, the dataset and the replies of the sequential run of the whole block
 abbrev pub IsWhole : List Term → Dataset Id → List (Request Id) → Dataset Id → List Reply → Type 0

@@ -7,7 +7,7 @@ use Rattle.command_line.specs.Replies.{verdict_lines}
 use Rattle.command_line.specs.declared.fault.Fault.{Fault}
 use Rattle.command_line.specs.declared.fault.Fault.TheVariants as told
 use Rattle.command_line.specs.declared.fault.File.TheVariants as file
-use Rattle.cli.specs.Outputs.{Grew, GrewInPart}
+use Rattle.cli.specs.Outputs.{Taken, Grew, GrewInPart}
 
 -- the verdicts on the block's requests, or the fault of the block; memory may run out and a read may fail at any block
 abbrev pub IsJudgement : List ℕ → Result (List (Option Refusal)) Fault → Type 0
@@ -29,9 +29,9 @@ abbrev pub AreLinesOf : (block lines : List ℕ) → Type 0
 AreLinesOf block lines = (verdicts : List (Option Refusal)) × IsJudgement block (Ok verdicts) × (lines ≡ verdict_lines verdicts)
 
 -- the writer has the lines of a block's verdicts
-abbrev pub WroteVerdicts : (block : List ℕ) → Option (List ℕ) → Option (List ℕ) → Type 0
-WroteVerdicts block old new = (lines : List ℕ) × AreLinesOf block lines × Grew old new lines
+abbrev pub WroteVerdicts : (block : List ℕ) → Taken → Type 0
+WroteVerdicts block told = (lines : List ℕ) × AreLinesOf block lines × Grew told lines
 
 -- the writer has a beginning of the lines of a block's verdicts
-abbrev pub WroteVerdictsInPart : (block : List ℕ) → Option (List ℕ) → Option (List ℕ) → Type 0
-WroteVerdictsInPart block old new = (lines : List ℕ) × AreLinesOf block lines × GrewInPart old new lines
+abbrev pub WroteVerdictsInPart : (block : List ℕ) → Taken → Type 0
+WroteVerdictsInPart block told = (lines : List ℕ) × AreLinesOf block lines × GrewInPart told lines

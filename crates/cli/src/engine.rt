@@ -9,7 +9,7 @@ ghost use Rattle.command_line.specs.Replies.{reply_lines};
 ghost use Rattle.cli.specs.Failures.{is_unread, is_unwritten, FailedIf, OneFailedIf};
 ghost use Rattle.cli.specs.Inputs.{IsFaultOf};
 ghost use Rattle.update.specs.Asked.{AreShort};
-ghost use Rattle.cli.specs.Outputs.{IsAnswerTo, Wrote, WroteInPart};
+ghost use Rattle.cli.specs.Outputs.{IfBoth, IsAnswerTo, Wrote, WroteInPart, taken};
 
 use crate::inputs::{read_base_by, read_block};
 use crate::outputs::{Texts, write_texts};
@@ -46,7 +46,8 @@ pub(crate) trait Runs {
         requires ready { Ready }
         requires failures { base.old.failures < 2 ^ 64 - 1 }
         ensures answer { IfSome (R.remaining base.old.inner) (λ text. IsBaseAnswer text result) }
-        ensures failures { FailedIf (is_unread File.Base result) base.old.failures base.new.failures }
+        ensures failures { FailedIf (is_unread File.Base result) base.old.failures
+            base.new.failures }
         ensures others { TellsNoOther File.Base result };
 
     /// The base and the block at numbers of terms.
@@ -81,9 +82,12 @@ pub(crate) fn texts_of_outcome<W: Runs>(
 ) -> Result<Texts, AllocError>
     requires ready { W.Ready }
     requires known { dataset_known (is_known numbered.base.terms) outcome.dataset ≡ true }
-    requires dataset { IsDataset term_order (renamed (term_of numbered.base.terms) outcome.dataset) }
-    ensures dataset { IfOk result (λ texts. texts.dataset.items ≡ canonical (renamed (term_of numbered.base.terms) outcome.dataset) numbered.base.tag) }
-    ensures replies { IfOk result (λ texts. string_bytes texts.replies ≡ reply_lines outcome.replies) }
+    requires dataset { IsDataset term_order (renamed (term_of numbered.base.terms)
+        outcome.dataset) }
+    ensures dataset { IfOk result (λ texts. texts.dataset.items
+        ≡ canonical (renamed (term_of numbered.base.terms) outcome.dataset) numbered.base.tag) }
+    ensures replies { IfOk result (λ texts. string_bytes texts.replies
+        ≡ reply_lines outcome.replies) }
 {
     let Outcome { dataset, replies } = outcome;
     let tag = numbered.base.tag();
@@ -106,7 +110,8 @@ fn texts_of<W: Runs>(
     requires ready { W.Ready }
     requires few { length block.now ≤ 4096 }
     requires short { AreShort block.now }
-    ensures { IfOk result (λ texts. IsAnswerTo base block.now texts.dataset.items (string_bytes texts.replies)) }
+    ensures { IfOk result (λ texts. IsAnswerTo base block.now texts.dataset.items
+        (string_bytes texts.replies)) }
 {
     carries_block();
     let _parts = base.parts();
@@ -134,19 +139,30 @@ pub(crate) fn run_by<W: Runs, B: Read, K: Read, D: Write, A: Write>(
     requires dataset { dataset.old.failures < 2 ^ 64 - 1 }
     requires replies { replies.old.failures < 2 ^ 64 - 1 }
     // What was written is the output of what was read.
-    ensures answer { OnOk result (IfSome (B.remaining base.old.inner) (λ b. IfSome (K.remaining block.old.inner) (λ k. Wrote b k (D.contents dataset.old.inner) (D.contents dataset.new.inner) (A.contents replies.old.inner) (A.contents replies.new.inner)))) }
+    ensures answer { OnOk result (IfBoth (B.remaining base.old.inner) (K.remaining block.old.inner)
+        (λ b k. Wrote b k (taken D.contents dataset.old.inner dataset.new.inner)
+        (taken A.contents replies.old.inner replies.new.inner))) }
     // Both texts were flushed, also where they are empty.
-    ensures flushed { OnOk result ((dataset.new.is_flushed ≡ true) × (replies.new.is_flushed ≡ true)) }
+    ensures flushed { OnOk result ((dataset.new.is_flushed ≡ true)
+        × (replies.new.is_flushed ≡ true)) }
     // After a failed write the texts before it are whole, and of its own a beginning was written.
-    ensures part { IsErrOf result (Fault.CannotWrite File.Answer) → IfSome (B.remaining base.old.inner) (λ b. IfSome (K.remaining block.old.inner) (λ k. WroteInPart b k (D.contents dataset.old.inner) (D.contents dataset.new.inner) (A.contents replies.old.inner) (A.contents replies.new.inner))) }
+    ensures part { IsErrOf result (Fault.CannotWrite File.Answer)
+        → IfBoth (B.remaining base.old.inner) (K.remaining block.old.inner)
+        (λ b k. WroteInPart b k (taken D.contents dataset.old.inner dataset.new.inner)
+        (taken A.contents replies.old.inner replies.new.inner)) }
     // Any other fault comes before a writer is touched.
-    ensures untouched { IfErr result (λ fault. fault ≢ Fault.CannotWrite File.Answer → (dataset.new ≡ dataset.old) × (replies.new ≡ replies.old)) }
+    ensures untouched { IfErr result (λ fault. fault ≢ Fault.CannotWrite File.Answer
+        → (dataset.new ≡ dataset.old) × (replies.new ≡ replies.old)) }
     // Each fault is told only where it is there.
-    ensures fault { IfErr result (λ fault. IfSome (B.remaining base.old.inner) (λ b. IfSome (K.remaining block.old.inner) (λ k. IsFaultOf b k fault))) }
+    ensures fault { IfErr result (λ fault. IfBoth (B.remaining base.old.inner)
+        (K.remaining block.old.inner) (λ b k. IsFaultOf b k fault)) }
     // A device that failed is told, and only where one did.
-    ensures base_failures { FailedIf (is_unread File.Base result) base.old.failures base.new.failures }
-    ensures block_failures { FailedIf (is_unread File.Block result) block.old.failures block.new.failures }
-    ensures write_failures { OneFailedIf (is_unwritten result) dataset.old.failures dataset.new.failures replies.old.failures replies.new.failures }
+    ensures base_failures { FailedIf (is_unread File.Base result) base.old.failures
+        base.new.failures }
+    ensures block_failures { FailedIf (is_unread File.Block result) block.old.failures
+        block.new.failures }
+    ensures write_failures { OneFailedIf (is_unwritten result) dataset.old.failures
+        dataset.new.failures replies.old.failures replies.new.failures }
 {
     let read = way.read(alloc, base)?;
     let requests = read_block(alloc, block)?;
@@ -219,19 +235,30 @@ pub fn run_engine<T: Threads + Wait + Sync, B: Read, K: Read, D: Write, A: Write
     requires some { 0 < workers }
     requires most { workers ≤ 64 }
     // What was written is the output of what was read.
-    ensures answer { OnOk result (IfSome (B.remaining base.old.inner) (λ b. IfSome (K.remaining block.old.inner) (λ k. Wrote b k (D.contents dataset.old.inner) (D.contents dataset.new.inner) (A.contents replies.old.inner) (A.contents replies.new.inner)))) }
+    ensures answer { OnOk result (IfBoth (B.remaining base.old.inner) (K.remaining block.old.inner)
+        (λ b k. Wrote b k (taken D.contents dataset.old.inner dataset.new.inner)
+        (taken A.contents replies.old.inner replies.new.inner))) }
     // Both texts were flushed, also where they are empty.
-    ensures flushed { OnOk result ((dataset.new.is_flushed ≡ true) × (replies.new.is_flushed ≡ true)) }
+    ensures flushed { OnOk result ((dataset.new.is_flushed ≡ true)
+        × (replies.new.is_flushed ≡ true)) }
     // After a failed write the texts before it are whole, and of its own a beginning was written.
-    ensures part { IsErrOf result (Fault.CannotWrite File.Answer) → IfSome (B.remaining base.old.inner) (λ b. IfSome (K.remaining block.old.inner) (λ k. WroteInPart b k (D.contents dataset.old.inner) (D.contents dataset.new.inner) (A.contents replies.old.inner) (A.contents replies.new.inner))) }
+    ensures part { IsErrOf result (Fault.CannotWrite File.Answer)
+        → IfBoth (B.remaining base.old.inner) (K.remaining block.old.inner)
+        (λ b k. WroteInPart b k (taken D.contents dataset.old.inner dataset.new.inner)
+        (taken A.contents replies.old.inner replies.new.inner)) }
     // Any other fault comes before a writer is touched.
-    ensures untouched { IfErr result (λ fault. fault ≢ Fault.CannotWrite File.Answer → (dataset.new ≡ dataset.old) × (replies.new ≡ replies.old)) }
+    ensures untouched { IfErr result (λ fault. fault ≢ Fault.CannotWrite File.Answer
+        → (dataset.new ≡ dataset.old) × (replies.new ≡ replies.old)) }
     // Each fault is told only where it is there.
-    ensures fault { IfErr result (λ fault. IfSome (B.remaining base.old.inner) (λ b. IfSome (K.remaining block.old.inner) (λ k. IsFaultOf b k fault))) }
+    ensures fault { IfErr result (λ fault. IfBoth (B.remaining base.old.inner)
+        (K.remaining block.old.inner) (λ b k. IsFaultOf b k fault)) }
     // A device that failed is told, and only where one did.
-    ensures base_failures { FailedIf (is_unread File.Base result) base.old.failures base.new.failures }
-    ensures block_failures { FailedIf (is_unread File.Block result) block.old.failures block.new.failures }
-    ensures write_failures { OneFailedIf (is_unwritten result) dataset.old.failures dataset.new.failures replies.old.failures replies.new.failures }
+    ensures base_failures { FailedIf (is_unread File.Base result) base.old.failures
+        base.new.failures }
+    ensures block_failures { FailedIf (is_unread File.Block result) block.old.failures
+        block.new.failures }
+    ensures write_failures { OneFailedIf (is_unwritten result) dataset.old.failures
+        dataset.new.failures replies.old.failures replies.new.failures }
 {
     let way = Workers { rt, count: workers };
     run_by(&way, alloc, base, block, dataset, replies)

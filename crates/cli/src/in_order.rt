@@ -2,7 +2,7 @@
 ghost use Rattle.std.specs.Prelude.{◌≡◌, ◌≢◌, ◌<◌, ◌-◌, ◌^◌, true, IfErr, IfSome, OnOk, IsErrOf};
 ghost use Rattle.cli.specs.Failures.{is_unread, is_unwritten, FailedIf, OneFailedIf};
 ghost use Rattle.cli.specs.Inputs.{IsFaultOf};
-ghost use Rattle.cli.specs.Outputs.{Wrote, WroteInPart};
+ghost use Rattle.cli.specs.Outputs.{IfBoth, Wrote, WroteInPart, taken};
 
 use crate::engine::{Runs, run_by};
 use crate::inputs::read_base;
@@ -63,19 +63,30 @@ pub fn serial_engine<B: Read, K: Read, D: Write, A: Write>(
     requires dataset { dataset.old.failures < 2 ^ 64 - 1 }
     requires replies { replies.old.failures < 2 ^ 64 - 1 }
     // What was written is the output of what was read.
-    ensures answer { OnOk result (IfSome (B.remaining base.old.inner) (λ b. IfSome (K.remaining block.old.inner) (λ k. Wrote b k (D.contents dataset.old.inner) (D.contents dataset.new.inner) (A.contents replies.old.inner) (A.contents replies.new.inner)))) }
+    ensures answer { OnOk result (IfBoth (B.remaining base.old.inner) (K.remaining block.old.inner)
+        (λ b k. Wrote b k (taken D.contents dataset.old.inner dataset.new.inner)
+        (taken A.contents replies.old.inner replies.new.inner))) }
     // Both texts were flushed, also where they are empty.
-    ensures flushed { OnOk result ((dataset.new.is_flushed ≡ true) × (replies.new.is_flushed ≡ true)) }
+    ensures flushed { OnOk result ((dataset.new.is_flushed ≡ true)
+        × (replies.new.is_flushed ≡ true)) }
     // After a failed write the texts before it are whole, and of its own a beginning was written.
-    ensures part { IsErrOf result (Fault.CannotWrite File.Answer) → IfSome (B.remaining base.old.inner) (λ b. IfSome (K.remaining block.old.inner) (λ k. WroteInPart b k (D.contents dataset.old.inner) (D.contents dataset.new.inner) (A.contents replies.old.inner) (A.contents replies.new.inner))) }
+    ensures part { IsErrOf result (Fault.CannotWrite File.Answer)
+        → IfBoth (B.remaining base.old.inner) (K.remaining block.old.inner)
+        (λ b k. WroteInPart b k (taken D.contents dataset.old.inner dataset.new.inner)
+        (taken A.contents replies.old.inner replies.new.inner)) }
     // Any other fault comes before a writer is touched.
-    ensures untouched { IfErr result (λ fault. fault ≢ Fault.CannotWrite File.Answer → (dataset.new ≡ dataset.old) × (replies.new ≡ replies.old)) }
+    ensures untouched { IfErr result (λ fault. fault ≢ Fault.CannotWrite File.Answer
+        → (dataset.new ≡ dataset.old) × (replies.new ≡ replies.old)) }
     // Each fault is told only where it is there.
-    ensures fault { IfErr result (λ fault. IfSome (B.remaining base.old.inner) (λ b. IfSome (K.remaining block.old.inner) (λ k. IsFaultOf b k fault))) }
+    ensures fault { IfErr result (λ fault. IfBoth (B.remaining base.old.inner)
+        (K.remaining block.old.inner) (λ b k. IsFaultOf b k fault)) }
     // A device that failed is told, and only where one did.
-    ensures base_failures { FailedIf (is_unread File.Base result) base.old.failures base.new.failures }
-    ensures block_failures { FailedIf (is_unread File.Block result) block.old.failures block.new.failures }
-    ensures write_failures { OneFailedIf (is_unwritten result) dataset.old.failures dataset.new.failures replies.old.failures replies.new.failures }
+    ensures base_failures { FailedIf (is_unread File.Base result) base.old.failures
+        base.new.failures }
+    ensures block_failures { FailedIf (is_unread File.Block result) block.old.failures
+        block.new.failures }
+    ensures write_failures { OneFailedIf (is_unwritten result) dataset.old.failures
+        dataset.new.failures replies.old.failures replies.new.failures }
 {
     run_by(&OneByOne, alloc, base, block, dataset, replies)
 }

@@ -59,7 +59,8 @@ fn block_fault(fault: BlockFault) -> Fault
 pub fn read_base<R: Read>(alloc: Global, reader: &mut Watched<R>) -> Result<DataSet, Fault>
     requires { reader.old.failures < 2 ^ 64 - 1 }
     ensures answer { IfSome (R.remaining reader.old.inner) (λ text. IsBaseAnswer text result) }
-    ensures failures { FailedIf (is_unread File.Base result) reader.old.failures reader.new.failures }
+    ensures failures { FailedIf (is_unread File.Base result) reader.old.failures
+        reader.new.failures }
     ensures others { TellsNoOther File.Base result }
 {
     match nquads::read(alloc, reader) {
@@ -77,7 +78,8 @@ pub fn read_base_by<T: Threads + Sync, R: Read>(
 ) -> Result<DataSet, Fault>
     requires { reader.old.failures < 2 ^ 64 - 1 }
     ensures answer { IfSome (R.remaining reader.old.inner) (λ text. IsBaseAnswer text result) }
-    ensures failures { FailedIf (is_unread File.Base result) reader.old.failures reader.new.failures }
+    ensures failures { FailedIf (is_unread File.Base result) reader.old.failures
+        reader.new.failures }
     ensures others { TellsNoOther File.Base result }
 {
     match nquads::read_by(rt, alloc, reader, threads as usize) {
@@ -105,7 +107,8 @@ fn cut(alloc: Global, bytes: &[u8]) -> Result<Block, Fault>
 pub fn read_block<R: Read>(alloc: Global, reader: &mut Watched<R>) -> Result<Block, Fault>
     requires { reader.old.failures < 2 ^ 64 - 1 }
     ensures answer { IfSome (R.remaining reader.old.inner) (λ text. IsBlockAnswer text result) }
-    ensures failures { FailedIf (is_unread File.Block result) reader.old.failures reader.new.failures }
+    ensures failures { FailedIf (is_unread File.Block result) reader.old.failures
+        reader.new.failures }
     ensures others { TellsNoOther File.Block result }
     ensures few { IfOk result (λ block. length block ≤ 4096) }
     ensures short { IfOk result AreShort }
@@ -137,7 +140,8 @@ pub fn read_verdicts<R: Read>(
 ) -> Result<Items<Verdict>, Fault>
     requires { reader.old.failures < 2 ^ 64 - 1 }
     ensures answer { IfSome (R.remaining reader.old.inner) (λ text. IsJudgement text result) }
-    ensures failures { FailedIf (is_unread File.Block result) reader.old.failures reader.new.failures }
+    ensures failures { FailedIf (is_unread File.Block result) reader.old.failures
+        reader.new.failures }
     ensures others { TellsNoOther File.Block result }
 {
     let bytes = match front_of(alloc, reader, MOST_BLOCK_BYTES) {
@@ -150,9 +154,11 @@ pub fn read_verdicts<R: Read>(
 /// The bytes of the journal that a reader gives. `CannotRead` comes where a read failed, and only there; any other fault is want of memory.
 pub fn read_journal_bytes<R: Read>(alloc: Global, reader: &mut Watched<R>) -> Result<Vec<u8>, Fault>
     requires { reader.old.failures < 2 ^ 64 - 1 }
-    ensures bytes { IfOk result (λ bytes. IfSome (R.remaining reader.old.inner) (λ text. bytes.items ≡ text)) }
+    ensures bytes { IfOk result (λ bytes. IfSome (R.remaining reader.old.inner)
+        (λ text. bytes.items ≡ text)) }
     ensures fault { IfErr result IsUnreadJournal }
-    ensures failures { FailedIf (is_unread File.Journal result) reader.old.failures reader.new.failures }
+    ensures failures { FailedIf (is_unread File.Journal result) reader.old.failures
+        reader.new.failures }
     ensures others { TellsNoOther File.Journal result }
 {
     match all_of(alloc, reader) {

@@ -1,7 +1,7 @@
 //! The texts of an answer, made before any writer is touched.
 ghost use Rattle.std.specs.Prelude.{◌≡◌, ◌<◌, ◌+◌, ◌-◌, ◌^◌, ◌⊎◌, true, is_ok, if◌then◌else◌, OnOk, OnErr, IfErr, string_bytes};
 ghost use Rattle.cli.specs.Failures.{is_unwritten, is_journal_unwritten, FailedIf, OneFailedIf};
-ghost use Rattle.cli.specs.Outputs.{Grew, GrewInPart, IsPart};
+ghost use Rattle.cli.specs.Outputs.{Grew, GrewInPart, IsPart, taken};
 ghost use Rattle.command_line.specs.declared.fault.Fault.TheVariants.{CannotWrite};
 ghost use Rattle.command_line.specs.declared.fault.File.TheVariants.{Answer, Journal};
 
@@ -19,10 +19,12 @@ pub struct Texts {
 /// Writes a text and flushes it, also where it is empty. An `Err` comes where a write or the flush failed.
 fn write_and_flush<W: Write>(writer: &mut Watched<W>, text: &[u8]) -> Result<(), Failed>
     requires { writer.old.failures < 2 ^ 64 - 1 }
-    ensures ok { OnOk result (Grew (W.contents writer.old.inner) (W.contents writer.new.inner) text.now) }
-    ensures part { OnErr result (GrewInPart (W.contents writer.old.inner) (W.contents writer.new.inner) text.now) }
+    ensures ok { OnOk result (Grew (taken W.contents writer.old.inner writer.new.inner) text.now) }
+    ensures part { OnErr result (GrewInPart (taken W.contents writer.old.inner writer.new.inner)
+        text.now) }
     ensures flushed { OnOk result (writer.new.is_flushed ≡ true) }
-    ensures count { writer.new.failures ≡ (if is_ok result then writer.old.failures else writer.old.failures + 1) }
+    ensures count { writer.new.failures ≡ (if is_ok result then writer.old.failures
+        else writer.old.failures + 1) }
 {
     match writer.write_all(text) {
         Ok(()) => writer.flush(),
@@ -33,8 +35,9 @@ fn write_and_flush<W: Write>(writer: &mut Watched<W>, text: &[u8]) -> Result<(),
 /// Writes a text of the answer and flushes it, also where it is empty. An `Err` comes where a write or the flush failed.
 pub(crate) fn write_text<W: Write>(writer: &mut Watched<W>, text: &[u8]) -> Result<(), Fault>
     requires { writer.old.failures < 2 ^ 64 - 1 }
-    ensures ok { OnOk result (Grew (W.contents writer.old.inner) (W.contents writer.new.inner) text.now) }
-    ensures part { OnErr result (GrewInPart (W.contents writer.old.inner) (W.contents writer.new.inner) text.now) }
+    ensures ok { OnOk result (Grew (taken W.contents writer.old.inner writer.new.inner) text.now) }
+    ensures part { OnErr result (GrewInPart (taken W.contents writer.old.inner writer.new.inner)
+        text.now) }
     ensures flushed { OnOk result (writer.new.is_flushed ≡ true) }
     ensures failures { FailedIf (is_unwritten result) writer.old.failures writer.new.failures }
     ensures fault { IfErr result (λ fault. fault ≡ CannotWrite Answer) }
@@ -48,10 +51,12 @@ pub(crate) fn write_text<W: Write>(writer: &mut Watched<W>, text: &[u8]) -> Resu
 /// Writes the text of a journal and flushes it. An `Err` comes where a write or the flush failed.
 pub(crate) fn write_journal<W: Write>(writer: &mut Watched<W>, text: &[u8]) -> Result<(), Fault>
     requires { writer.old.failures < 2 ^ 64 - 1 }
-    ensures ok { OnOk result (Grew (W.contents writer.old.inner) (W.contents writer.new.inner) text.now) }
-    ensures part { OnErr result (GrewInPart (W.contents writer.old.inner) (W.contents writer.new.inner) text.now) }
+    ensures ok { OnOk result (Grew (taken W.contents writer.old.inner writer.new.inner) text.now) }
+    ensures part { OnErr result (GrewInPart (taken W.contents writer.old.inner writer.new.inner)
+        text.now) }
     ensures flushed { OnOk result (writer.new.is_flushed ≡ true) }
-    ensures failures { FailedIf (is_journal_unwritten result) writer.old.failures writer.new.failures }
+    ensures failures { FailedIf (is_journal_unwritten result) writer.old.failures
+        writer.new.failures }
     ensures fault { IfErr result (λ fault. fault ≡ CannotWrite Journal) }
 {
     match write_and_flush(writer, text) {
@@ -68,12 +73,18 @@ pub fn write_texts<D: Write, A: Write>(
 ) -> Result<(), Fault>
     requires dataset { dataset.old.failures < 2 ^ 64 - 1 }
     requires replies { replies.old.failures < 2 ^ 64 - 1 }
-    ensures dataset { OnOk result (Grew (D.contents dataset.old.inner) (D.contents dataset.new.inner) texts.now.dataset.items) }
-    ensures replies { OnOk result (Grew (A.contents replies.old.inner) (A.contents replies.new.inner) (string_bytes texts.now.replies)) }
+    ensures dataset { OnOk result (Grew (taken D.contents dataset.old.inner dataset.new.inner)
+        texts.now.dataset.items) }
+    ensures replies { OnOk result (Grew (taken A.contents replies.old.inner replies.new.inner)
+        (string_bytes texts.now.replies)) }
     // After a failed write the texts before it are whole, and of its own a beginning was written.
-    ensures part { OnErr result (IsPart (D.contents dataset.old.inner) (D.contents dataset.new.inner) (A.contents replies.old.inner) (A.contents replies.new.inner) texts.now.dataset.items (string_bytes texts.now.replies)) }
-    ensures flushed { OnOk result ((dataset.new.is_flushed ≡ true) × (replies.new.is_flushed ≡ true)) }
-    ensures failures { OneFailedIf (is_unwritten result) dataset.old.failures dataset.new.failures replies.old.failures replies.new.failures }
+    ensures part { OnErr result (IsPart (taken D.contents dataset.old.inner dataset.new.inner)
+        (taken A.contents replies.old.inner replies.new.inner) texts.now.dataset.items
+        (string_bytes texts.now.replies)) }
+    ensures flushed { OnOk result ((dataset.new.is_flushed ≡ true)
+        × (replies.new.is_flushed ≡ true)) }
+    ensures failures { OneFailedIf (is_unwritten result) dataset.old.failures dataset.new.failures
+        replies.old.failures replies.new.failures }
     ensures fault { IfErr result (λ fault. fault ≡ CannotWrite Answer) }
 {
     write_text(dataset, texts.dataset.as_slice())?;

@@ -3,7 +3,7 @@ ghost use Rattle.std.specs.Prelude.{◌≡◌, ◌≢◌, ◌<◌, ◌≤◌, �
 ghost use Rattle.cli.specs.Failures.{is_unread, is_unwritten, is_journal_unwritten, FailedIf, OneFailedIf};
 ghost use Rattle.update.specs.Asked.{AreShort};
 ghost use Rattle.cli.specs.Journals.{IsFaultWithJournal, IsJournalAt, IsJournalOf, WroteJournal, WroteJournalInPart};
-ghost use Rattle.cli.specs.Outputs.{IsAnswerTo, IsWhole, Wrote, WroteInPart};
+ghost use Rattle.cli.specs.Outputs.{IfBoth, IsAnswerTo, IsWhole, Wrote, WroteInPart, taken};
 
 use crate::engine::{Runs, Workers, texts_of_outcome};
 use crate::inputs::{read_base_by, read_block};
@@ -48,8 +48,10 @@ fn recorded<T: Threads + Wait + Sync>(
     requires most { workers ≤ 64 }
     requires few { length numbered.now.block.items < 2 ^ 32 }
     requires short { AreShort numbered.now.block.items }
-    ensures outcome { IfOk result (λ r. IsWhole numbered.now.base.terms numbered.now.base.dataset numbered.now.block.items r.outcome.dataset r.outcome.replies) }
-    ensures journal { IfOk result (λ r. (front : ℕ) × (length numbered.now.block.items ≤ front) × IsJournalAt numbered.now.base numbered.now.block.items r.journal.items front) }
+    ensures outcome { IfOk result (λ r. IsWhole numbered.now.base.terms numbered.now.base.dataset
+        numbered.now.block.items r.outcome.dataset r.outcome.replies) }
+    ensures journal { IfOk result (λ r. (front : ℕ) × (length numbered.now.block.items ≤ front)
+        × IsJournalAt numbered.now.base numbered.now.block.items r.journal.items front) }
 {
     let (base, block) = (&numbered.base, numbered.block.as_slice());
     let (terms, dataset) = (base.terms(), base.dataset());
@@ -75,8 +77,10 @@ fn texts_with_journal<T: Threads + Wait + Sync>(
     requires most { workers ≤ 64 }
     requires few { length block.now ≤ 4096 }
     requires short { AreShort block.now }
-    ensures answer { IfOk result (λ texts. IsAnswerTo base block.now texts.answer.dataset.items (string_bytes texts.answer.replies)) }
-    ensures journal { IfOk result (λ texts. (front : ℕ) × (length block.now ≤ front) × IsJournalOf base block.now texts.journal.items front) }
+    ensures answer { IfOk result (λ texts. IsAnswerTo base block.now texts.answer.dataset.items
+        (string_bytes texts.answer.replies)) }
+    ensures journal { IfOk result (λ texts. (front : ℕ) × (length block.now ≤ front)
+        × IsJournalOf base block.now texts.journal.items front) }
 {
     carries_block();
     let _parts = base.parts();
@@ -117,25 +121,45 @@ pub fn run_with_journal_engine<
     requires some { 0 < workers }
     requires most { workers ≤ 64 }
     // What was written is the output of what was read.
-    ensures answer { OnOk result (IfSome (B.remaining base.old.inner) (λ b. IfSome (K.remaining block.old.inner) (λ k. Wrote b k (D.contents dataset.old.inner) (D.contents dataset.new.inner) (A.contents replies.old.inner) (A.contents replies.new.inner)))) }
+    ensures answer { OnOk result (IfBoth (B.remaining base.old.inner) (K.remaining block.old.inner)
+        (λ b k. Wrote b k (taken D.contents dataset.old.inner dataset.new.inner)
+        (taken A.contents replies.old.inner replies.new.inner))) }
     // And the journal is of a run of the whole block.
-    ensures journal { OnOk result (IfSome (B.remaining base.old.inner) (λ b. IfSome (K.remaining block.old.inner) (λ k. WroteJournal b k (J.contents journal.old.inner) (J.contents journal.new.inner)))) }
+    ensures journal { OnOk result (IfBoth (B.remaining base.old.inner) (K.remaining block.old.inner)
+        (λ b k. WroteJournal b k (taken J.contents journal.old.inner journal.new.inner))) }
     // All texts were flushed, also where they are empty.
-    ensures flushed { OnOk result ((dataset.new.is_flushed ≡ true) × (replies.new.is_flushed ≡ true) × (journal.new.is_flushed ≡ true)) }
+    ensures flushed { OnOk result ((dataset.new.is_flushed ≡ true) × (replies.new.is_flushed ≡ true)
+        × (journal.new.is_flushed ≡ true)) }
     // After a failed write the texts before it are whole, and of its own a beginning was written.
-    ensures part { IsErrOf result (Fault.CannotWrite File.Answer) → IfSome (B.remaining base.old.inner) (λ b. IfSome (K.remaining block.old.inner) (λ k. WroteInPart b k (D.contents dataset.old.inner) (D.contents dataset.new.inner) (A.contents replies.old.inner) (A.contents replies.new.inner))) }
-    ensures whole { IsErrOf result (Fault.CannotWrite File.Journal) → IfSome (B.remaining base.old.inner) (λ b. IfSome (K.remaining block.old.inner) (λ k. Wrote b k (D.contents dataset.old.inner) (D.contents dataset.new.inner) (A.contents replies.old.inner) (A.contents replies.new.inner))) }
-    ensures journal_part { IsErrOf result (Fault.CannotWrite File.Journal) → IfSome (B.remaining base.old.inner) (λ b. IfSome (K.remaining block.old.inner) (λ k. WroteJournalInPart b k (J.contents journal.old.inner) (J.contents journal.new.inner))) }
+    ensures part { IsErrOf result (Fault.CannotWrite File.Answer)
+        → IfBoth (B.remaining base.old.inner) (K.remaining block.old.inner)
+        (λ b k. WroteInPart b k (taken D.contents dataset.old.inner dataset.new.inner)
+        (taken A.contents replies.old.inner replies.new.inner)) }
+    ensures whole { IsErrOf result (Fault.CannotWrite File.Journal)
+        → IfBoth (B.remaining base.old.inner) (K.remaining block.old.inner)
+        (λ b k. Wrote b k (taken D.contents dataset.old.inner dataset.new.inner)
+        (taken A.contents replies.old.inner replies.new.inner)) }
+    ensures journal_part { IsErrOf result (Fault.CannotWrite File.Journal)
+        → IfBoth (B.remaining base.old.inner) (K.remaining block.old.inner)
+        (λ b k. WroteJournalInPart b k (taken J.contents journal.old.inner journal.new.inner)) }
     // Any other fault comes before a writer is touched, and one of the answer's before that of the journal is.
-    ensures untouched { IfErr result (λ fault. fault ≢ Fault.CannotWrite File.Answer → fault ≢ Fault.CannotWrite File.Journal → (dataset.new ≡ dataset.old) × (replies.new ≡ replies.old)) }
-    ensures journal_untouched { IfErr result (λ fault. fault ≢ Fault.CannotWrite File.Journal → journal.new ≡ journal.old) }
+    ensures untouched { IfErr result (λ fault. fault ≢ Fault.CannotWrite File.Answer
+        → fault ≢ Fault.CannotWrite File.Journal → (dataset.new ≡ dataset.old)
+        × (replies.new ≡ replies.old)) }
+    ensures journal_untouched { IfErr result (λ fault. fault ≢ Fault.CannotWrite File.Journal
+        → journal.new ≡ journal.old) }
     // Each fault is told only where it is there.
-    ensures fault { IfErr result (λ fault. IfSome (B.remaining base.old.inner) (λ b. IfSome (K.remaining block.old.inner) (λ k. IsFaultWithJournal b k fault))) }
+    ensures fault { IfErr result (λ fault. IfBoth (B.remaining base.old.inner)
+        (K.remaining block.old.inner) (λ b k. IsFaultWithJournal b k fault)) }
     // A device that failed is told, and only where one did.
-    ensures base_failures { FailedIf (is_unread File.Base result) base.old.failures base.new.failures }
-    ensures block_failures { FailedIf (is_unread File.Block result) block.old.failures block.new.failures }
-    ensures write_failures { OneFailedIf (is_unwritten result) dataset.old.failures dataset.new.failures replies.old.failures replies.new.failures }
-    ensures journal_failures { FailedIf (is_journal_unwritten result) journal.old.failures journal.new.failures }
+    ensures base_failures { FailedIf (is_unread File.Base result) base.old.failures
+        base.new.failures }
+    ensures block_failures { FailedIf (is_unread File.Block result) block.old.failures
+        block.new.failures }
+    ensures write_failures { OneFailedIf (is_unwritten result) dataset.old.failures
+        dataset.new.failures replies.old.failures replies.new.failures }
+    ensures journal_failures { FailedIf (is_journal_unwritten result) journal.old.failures
+        journal.new.failures }
 {
     let read = read_base_by(rt, alloc, base, workers)?;
     let requests = read_block(alloc, block)?;

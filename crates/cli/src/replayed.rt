@@ -4,6 +4,7 @@ ghost use Rattle.reads.specs.Reads.{IsDataset};
 ghost use Rattle.update.specs.Asked.{AreShort};
 ghost use Rattle.cli.specs.Failures.{is_unread, is_unwritten, FailedIf, OneFailedIf};
 ghost use Rattle.cli.specs.Journals.{IsFaultOfLines, IsFaultOfReplay, IsFrontOf, IsReplay, IsReplayFault, WroteReplay, WroteReplayInPart, journal_fault as the_journal_fault};
+ghost use Rattle.cli.specs.Outputs.{IfBoth, taken};
 
 use crate::engine::{Runs, texts_of_outcome};
 use crate::in_order::OneByOne;
@@ -38,7 +39,8 @@ fn outcome_of_lines(alloc: Global, numbered: &Numbered, lines: &[Line]) -> Resul
     requires few { length numbered.now.block.items < 2 ^ 32 }
     requires short { AreShort numbered.now.block.items }
     ensures outcome { IfOk result (IsFrontOf numbered.now.base numbered.now.block.items lines.now) }
-    ensures fault { IfErr result (IsFaultOfLines numbered.now.base numbered.now.block.items lines.now) }
+    ensures fault { IfErr result (IsFaultOfLines numbered.now.base numbered.now.block.items
+        lines.now) }
 {
     let (base, block) = (&numbered.base, numbered.block.as_slice());
     let book = match replay(alloc, base.terms(), base.dataset(), block, lines) {
@@ -62,7 +64,8 @@ fn texts_of_journal(
 ) -> Result<Texts, Fault>
     requires few { length block.now ≤ 4096 }
     requires short { AreShort block.now }
-    ensures answer { IfOk result (λ texts. IsReplay base block.now journal.items texts.dataset.items (string_bytes texts.replies)) }
+    ensures answer { IfOk result (λ texts. IsReplay base block.now journal.items texts.dataset.items
+        (string_bytes texts.replies)) }
     ensures fault { IfErr result (IsReplayFault base block.now journal.items) }
 {
     carries_block();
@@ -102,20 +105,35 @@ pub fn replay_engine<B: Read, K: Read, J: Read, D: Write, A: Write>(
     requires dataset { dataset.old.failures < 2 ^ 64 - 1 }
     requires replies { replies.old.failures < 2 ^ 64 - 1 }
     // What was written is the answer to the requests that are committed behind the journal.
-    ensures answer { OnOk result (IfSome (B.remaining base.old.inner) (λ b. IfSome (K.remaining block.old.inner) (λ k. IfSome (J.remaining journal.old.inner) (λ j. WroteReplay b k j (D.contents dataset.old.inner) (D.contents dataset.new.inner) (A.contents replies.old.inner) (A.contents replies.new.inner))))) }
+    ensures answer { OnOk result (IfBoth (B.remaining base.old.inner) (K.remaining block.old.inner)
+        (λ b k. IfSome (J.remaining journal.old.inner)
+        (λ j. WroteReplay b k j (taken D.contents dataset.old.inner dataset.new.inner)
+        (taken A.contents replies.old.inner replies.new.inner)))) }
     // Both texts were flushed, also where they are empty.
-    ensures flushed { OnOk result ((dataset.new.is_flushed ≡ true) × (replies.new.is_flushed ≡ true)) }
+    ensures flushed { OnOk result ((dataset.new.is_flushed ≡ true)
+        × (replies.new.is_flushed ≡ true)) }
     // After a failed write the texts before it are whole, and of its own a beginning was written.
-    ensures part { IsErrOf result (Fault.CannotWrite File.Answer) → IfSome (B.remaining base.old.inner) (λ b. IfSome (K.remaining block.old.inner) (λ k. IfSome (J.remaining journal.old.inner) (λ j. WroteReplayInPart b k j (D.contents dataset.old.inner) (D.contents dataset.new.inner) (A.contents replies.old.inner) (A.contents replies.new.inner)))) }
+    ensures part { IsErrOf result (Fault.CannotWrite File.Answer)
+        → IfBoth (B.remaining base.old.inner) (K.remaining block.old.inner)
+        (λ b k. IfSome (J.remaining journal.old.inner)
+        (λ j. WroteReplayInPart b k j (taken D.contents dataset.old.inner dataset.new.inner)
+        (taken A.contents replies.old.inner replies.new.inner))) }
     // Any other fault comes before a writer is touched.
-    ensures untouched { IfErr result (λ fault. fault ≢ Fault.CannotWrite File.Answer → (dataset.new ≡ dataset.old) × (replies.new ≡ replies.old)) }
+    ensures untouched { IfErr result (λ fault. fault ≢ Fault.CannotWrite File.Answer
+        → (dataset.new ≡ dataset.old) × (replies.new ≡ replies.old)) }
     // Each fault is told only where it is there.
-    ensures fault { IfErr result (λ fault. IfSome (B.remaining base.old.inner) (λ b. IfSome (K.remaining block.old.inner) (λ k. IfSome (J.remaining journal.old.inner) (λ j. IsFaultOfReplay b k j fault)))) }
+    ensures fault { IfErr result (λ fault. IfBoth (B.remaining base.old.inner)
+        (K.remaining block.old.inner) (λ b k.
+        IfSome (J.remaining journal.old.inner) (λ j. IsFaultOfReplay b k j fault))) }
     // A device that failed is told, and only where one did.
-    ensures base_failures { FailedIf (is_unread File.Base result) base.old.failures base.new.failures }
-    ensures block_failures { FailedIf (is_unread File.Block result) block.old.failures block.new.failures }
-    ensures journal_failures { FailedIf (is_unread File.Journal result) journal.old.failures journal.new.failures }
-    ensures write_failures { OneFailedIf (is_unwritten result) dataset.old.failures dataset.new.failures replies.old.failures replies.new.failures }
+    ensures base_failures { FailedIf (is_unread File.Base result) base.old.failures
+        base.new.failures }
+    ensures block_failures { FailedIf (is_unread File.Block result) block.old.failures
+        block.new.failures }
+    ensures journal_failures { FailedIf (is_unread File.Journal result) journal.old.failures
+        journal.new.failures }
+    ensures write_failures { OneFailedIf (is_unwritten result) dataset.old.failures
+        dataset.new.failures replies.old.failures replies.new.failures }
 {
     let read = read_base(alloc, base)?;
     let requests = match read_block(alloc, block) {

@@ -30,7 +30,8 @@ fn refusal_word(refusal: Refusal) -> &'static str
 
 /// Adds the line of the request at a place of the block, with its LF.
 fn push_reply(text: &mut String, place: usize, reply: Reply) -> Result<(), AllocError>
-    ensures { OnOk result (string_bytes text.new ≡ string_bytes text.old ++ (reply_line place reply ++ 10 ∷ [])) }
+    ensures { OnOk result (string_bytes text.new
+        ≡ string_bytes text.old ++ (reply_line place reply ++ 10 ∷ [])) }
 {
     match reply {
         Reply::Done { added, removed } => writeln!(text, "{place} ok +{added} -{removed}"),
@@ -54,7 +55,8 @@ pub fn replies_text(alloc: Global, replies: &[Reply]) -> Result<String, AllocErr
 
 /// Adds the line of the verdict on the request at a place of the block, with its LF.
 fn push_verdict(text: &mut String, place: usize, verdict: Option<Refusal>) -> Result<(), AllocError>
-    ensures { OnOk result (string_bytes text.new ≡ string_bytes text.old ++ (verdict_line place verdict ++ 10 ∷ [])) }
+    ensures { OnOk result (string_bytes text.new
+        ≡ string_bytes text.old ++ (verdict_line place verdict ++ 10 ∷ [])) }
 {
     match verdict {
         None => writeln!(text, "{place} accepted"),

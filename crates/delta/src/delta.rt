@@ -55,8 +55,10 @@ impl Delta {
         there: Vec<Id>,
         gone: Vec<Id>,
     ) -> Result<Self, AllocError>
-        ensures present { IfOk result (λ change. change.present ≡ the_set_of (quad_order id_order) present.items) }
-        ensures absent { IfOk result (λ change. change.absent ≡ the_set_of (quad_order id_order) absent.items) }
+        ensures present { IfOk result (λ change. change.present
+            ≡ the_set_of (quad_order id_order) present.items) }
+        ensures absent { IfOk result (λ change. change.absent
+            ≡ the_set_of (quad_order id_order) absent.items) }
         ensures there { IfOk result (λ change. change.there ≡ the_set_of id_order there.items) }
         ensures gone { IfOk result (λ change. change.gone ≡ the_set_of id_order gone.items) }
     {
@@ -75,7 +77,14 @@ impl Delta {
     ) -> Result<Self, AllocError>
         requires come { IsRising id_order (record { quads = present.items; names = there.items }) }
         requires go { IsRising id_order (record { quads = absent.items; names = gone.items }) }
-        ensures { IfOk result (λ change. change ≡ record { present = present.items; absent = absent.items; there = there.items; gone = gone.items }) }
+        ensures { IfOk result (λ change. change
+            ≡ record {
+              present = present.items;
+              absent = absent.items;
+              there = there.items;
+              gone =
+                  gone.items;
+            }) }
     {
         let parts = Parts {
             present,
@@ -148,7 +157,13 @@ impl Delta {
 
     // Of the quads, those that match.
     fn matching_part(&self, alloc: Global, pattern: &QuadPattern<Id>) -> Result<Delta, AllocError>
-        ensures { IfOk result (λ part. part ≡ record { present = filter (matches id_order pattern.now) self.now.present; absent = filter (matches id_order pattern.now) self.now.absent; there = []; gone = [] }) }
+        ensures { IfOk result (λ part. part ≡ record {
+          present = filter (matches id_order pattern.now) self.now.present;
+          absent = filter
+              (matches id_order pattern.now) self.now.absent;
+          there = [];
+          gone = [];
+        }) }
     {
         let present = matching(alloc, pattern, part_of_set(self.present(), pattern))?;
         let absent = matching(alloc, pattern, part_of_set(self.absent(), pattern))?;
@@ -157,7 +172,14 @@ impl Delta {
 
     // The graph of this name, if the change speaks of it.
     fn name_part(&self, alloc: Global, name: &Id) -> Result<Delta, AllocError>
-        ensures { IfOk result (λ part. part ≡ record { present = []; absent = []; there = if has id_order self.now.there name.now then name.now ∷ [] else []; gone = if has id_order self.now.gone name.now then name.now ∷ [] else [] }) }
+        ensures { IfOk result (λ part. part ≡ record {
+          present = [];
+          absent = [];
+          there = if has id_order self.now.there name.now
+              then name.now ∷ [] else [];
+          gone = if has id_order self.now.gone name.now
+              then name.now ∷ [] else [];
+        }) }
     {
         let there = name_if(alloc, is_member(self.there(), name), name)?;
         let gone = name_if(alloc, is_member(self.gone(), name), name)?;
@@ -166,7 +188,8 @@ impl Delta {
 
     // The graphs.
     fn names_part(&self, alloc: Global) -> Result<Delta, AllocError>
-        ensures { IfOk result (λ part. part ≡ record { present = []; absent = []; there = self.now.there; gone = self.now.gone }) }
+        ensures { IfOk result (λ part. part ≡ record
+            { present = []; absent = []; there = self.now.there; gone = self.now.gone }) }
     {
         let there = copied_names(alloc, self.there())?;
         let gone = copied_names(alloc, self.gone())?;
@@ -175,7 +198,8 @@ impl Delta {
 
     /// The part of the change that the read asks for: what the read says after the part is what it says after the whole.
     pub fn asked(&self, alloc: Global, read: &Read<Id>) -> Result<Delta, AllocError>
-        ensures { IfOk result (λ part. (d : Dataset) → says read.now (applied part d) ≡ says read.now (applied self.now d)) }
+        ensures { IfOk result (λ part. (d : Dataset)
+            → says read.now (applied part d) ≡ says read.now (applied self.now d)) }
     {
         match read {
             Read::Scan(pattern) => self.matching_part(alloc, pattern),
@@ -210,7 +234,8 @@ impl Delta {
 
     /// This change and then a later one, as one change. What the later one speaks of is as it says.
     pub fn followed_by(self, alloc: Global, later: &Delta) -> Result<Delta, AllocError>
-        ensures { IfOk result (λ both. (d : Dataset) → applied both d ≡ applied later.now (applied self d)) }
+        ensures { IfOk result (λ both. (d : Dataset)
+            → applied both d ≡ applied later.now (applied self d)) }
     {
         let Parts {
             present,
@@ -252,8 +277,11 @@ fn quads_followed(
     absent: Vec<Quad<Id>>,
     later: &Delta,
 ) -> Result<(Vec<Quad<Id>>, Vec<Quad<Id>>), AllocError>
-    ensures present { IfOk result (λ both. both.0.items ≡ union (quad_order id_order) (without (quad_order id_order) present.items later.now.absent) later.now.present) }
-    ensures absent { IfOk result (λ both. both.1.items ≡ union (quad_order id_order) absent.items later.now.absent) }
+    ensures present { IfOk result (λ both. both.0.items
+        ≡ union (quad_order id_order) (without (quad_order id_order) present.items later.now.absent)
+        later.now.present) }
+    ensures absent { IfOk result (λ both. both.1.items
+        ≡ union (quad_order id_order) absent.items later.now.absent) }
 {
     let present = quads_after(alloc, present, later.absent(), later.present())?;
     let absent = quads_union(absent, copied_quads(alloc, later.absent())?)?;
@@ -267,7 +295,8 @@ fn names_followed(
     gone: Vec<Id>,
     later: &Delta,
 ) -> Result<(Vec<Id>, Vec<Id>), AllocError>
-    ensures there { IfOk result (λ both. both.0.items ≡ union id_order (without id_order there.items later.now.gone) later.now.there) }
+    ensures there { IfOk result (λ both. both.0.items
+        ≡ union id_order (without id_order there.items later.now.gone) later.now.there) }
     ensures gone { IfOk result (λ both. both.1.items ≡ union id_order gone.items later.now.gone) }
 {
     let there = names_after(alloc, there, later.gone(), later.there())?;

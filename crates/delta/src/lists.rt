@@ -7,7 +7,7 @@ ghost use Rattle.datasets.specs.Id.{id_order};
 ghost use Rattle.datasets.specs.Dataset.{quad_order};
 
 use datasets::{Id, Quad};
-use reads::lists::{copied_names, copied_quads, names_union, quads_union};
+use reads::lists::{copied_names, copied_quads, names_union, quads_union, quads_without};
 use sets::is_member;
 use std::alloc::{AllocError, Global};
 
@@ -16,15 +16,6 @@ pub(crate) fn has_names(names: &[Id]) -> bool
     ensures { result ≡ list_any (λ name. true) names.now }
 {
     names.iter().any(|_name| true)
-}
-
-// The quads that are none of a set's.
-fn quads_without(mut quads: Vec<Quad<Id>>, others: &[Quad<Id>]) -> Vec<Quad<Id>>
-    requires { IsStrictlySortedBy (quad_order id_order) others.now }
-    ensures { result.items ≡ without (quad_order id_order) quads.items others.now }
-{
-    quads.retain(|quad| !is_member(others, quad));
-    quads
 }
 
 // The names that are none of a set's.
@@ -44,7 +35,9 @@ pub(crate) fn quads_after(
     more: &[Quad<Id>],
 ) -> Result<Vec<Quad<Id>>, AllocError>
     requires { IsStrictlySortedBy (quad_order id_order) gone.now }
-    ensures { IfOk result (λ after. after.items ≡ union (quad_order id_order) (without (quad_order id_order) quads.items gone.now) more.now) }
+    ensures { IfOk result (λ after. after.items
+        ≡ union (quad_order id_order) (without (quad_order id_order) quads.items gone.now)
+        more.now) }
 {
     let more = copied_quads(alloc, more)?;
     quads_union(quads_without(quads, gone), more)
@@ -58,7 +51,8 @@ pub(crate) fn names_after(
     more: &[Id],
 ) -> Result<Vec<Id>, AllocError>
     requires { IsStrictlySortedBy id_order gone.now }
-    ensures { IfOk result (λ after. after.items ≡ union id_order (without id_order names.items gone.now) more.now) }
+    ensures { IfOk result (λ after. after.items
+        ≡ union id_order (without id_order names.items gone.now) more.now) }
 {
     let more = copied_names(alloc, more)?;
     names_union(names_without(names, gone), more)

@@ -55,8 +55,10 @@ pub fn front_of<R: Read>(
 ) -> Result<Vec<u8>, ReadFault>
     requires failures { reader.old.failures < 2 ^ 64 - 1 }
     requires limit { limit < 2 ^ 63 }
-    ensures front { IfOk result (λ bytes. IfSome (R.remaining reader.old.inner) (λ text. IsFront limit text bytes.items)) }
-    ensures count { reader.new.failures ≡ (if is_device result then reader.old.failures + 1 else reader.old.failures) }
+    ensures front { IfOk result (λ bytes. IfSome (R.remaining reader.old.inner)
+        (λ text. IsFront limit text bytes.items)) }
+    ensures count { reader.new.failures ≡ (if is_device result then reader.old.failures + 1
+        else reader.old.failures) }
 {
     let mut bytes = Vec::new(alloc);
     let mut buffer = [0u8; 65_536];
@@ -74,8 +76,10 @@ pub fn front_of<R: Read>(
 /// All bytes that a reader gives. Nothing is read behind a failed read. `OutOfMemory` may come at any text, `Device` only where a read failed.
 pub fn all_of<R: Read>(alloc: Global, reader: &mut Watched<R>) -> Result<Vec<u8>, ReadFault>
     requires failures { reader.old.failures < 2 ^ 64 - 1 }
-    ensures all { IfOk result (λ bytes. IfSome (R.remaining reader.old.inner) (λ text. bytes.items ≡ text)) }
-    ensures count { reader.new.failures ≡ (if is_device result then reader.old.failures + 1 else reader.old.failures) }
+    ensures all { IfOk result (λ bytes. IfSome (R.remaining reader.old.inner)
+        (λ text. bytes.items ≡ text)) }
+    ensures count { reader.new.failures ≡ (if is_device result then reader.old.failures + 1
+        else reader.old.failures) }
 {
     let bytes = front_of(alloc, reader, MOST_BYTES)?;
     if bytes.len() > MOST_BYTES {

@@ -38,8 +38,10 @@ impl<R: Read> Watched<R> {
     pub fn read(&mut self, buf: &mut [u8]) -> Result<usize, Failed>
         requires { self.old.failures < 2 ^ 64 - 1 }
         ensures bound { ReadsAtMost result buf.new }
-        ensures bytes { ReadConsumes (R.remaining self.old.inner) (R.remaining self.new.inner) result buf.new }
-        ensures count { self.new.failures ≡ (if is_ok result then self.old.failures else self.old.failures + 1) }
+        ensures bytes { ReadConsumes (R.remaining self.old.inner) (R.remaining self.new.inner)
+            result buf.new }
+        ensures count { self.new.failures ≡ (if is_ok result then self.old.failures
+            else self.old.failures + 1) }
         ensures flushed { self.new.is_flushed ≡ self.old.is_flushed }
     {
         match self.inner.read(buf) {
@@ -58,9 +60,11 @@ impl<W: Write> Watched<W> {
         requires { self.old.failures < 2 ^ 64 - 1 }
         ensures bound { IfOk result (λ n. n ≤ length buf.now) }
         ensures some { IfOk result (λ n. 0 < length buf.now → 0 < n) }
-        ensures bytes { IfOk result (λ n. Appends (W.contents self.old.inner) (W.contents self.new.inner) (take n buf.now)) }
+        ensures bytes { IfOk result (λ n. Appends (W.contents self.old.inner)
+            (W.contents self.new.inner) (take n buf.now)) }
         ensures err { OnErr result (Keeps (W.contents self.old.inner) (W.contents self.new.inner)) }
-        ensures count { self.new.failures ≡ (if is_ok result then self.old.failures else self.old.failures + 1) }
+        ensures count { self.new.failures ≡ (if is_ok result then self.old.failures
+            else self.old.failures + 1) }
         ensures flushed { self.new.is_flushed ≡ false }
     {
         self.is_flushed = false;
@@ -76,9 +80,12 @@ impl<W: Write> Watched<W> {
     /// Writes a whole text. An `Err` comes where a write failed, and then a beginning of the text is written.
     pub fn write_all(&mut self, text: &[u8]) -> Result<(), Failed>
         requires { self.old.failures < 2 ^ 64 - 1 }
-        ensures ok { OnOk result (Appends (W.contents self.old.inner) (W.contents self.new.inner) text.now) }
-        ensures err { OnErr result ((n : ℕ) × Appends (W.contents self.old.inner) (W.contents self.new.inner) (take n text.now)) }
-        ensures count { self.new.failures ≡ (if is_ok result then self.old.failures else self.old.failures + 1) }
+        ensures ok { OnOk result (Appends (W.contents self.old.inner) (W.contents self.new.inner)
+            text.now) }
+        ensures err { OnErr result ((n : ℕ) × Appends (W.contents self.old.inner)
+            (W.contents self.new.inner) (take n text.now)) }
+        ensures count { self.new.failures ≡ (if is_ok result then self.old.failures
+            else self.old.failures + 1) }
         ensures flushed { self.new.is_flushed ≡ false }
     {
         self.is_flushed = false;
@@ -95,7 +102,8 @@ impl<W: Write> Watched<W> {
     pub fn flush(&mut self) -> Result<(), Failed>
         requires { self.old.failures < 2 ^ 64 - 1 }
         ensures bytes { Keeps (W.contents self.old.inner) (W.contents self.new.inner) }
-        ensures count { self.new.failures ≡ (if is_ok result then self.old.failures else self.old.failures + 1) }
+        ensures count { self.new.failures ≡ (if is_ok result then self.old.failures
+            else self.old.failures + 1) }
         ensures flushed { self.new.is_flushed ≡ is_ok result }
     {
         match self.inner.flush() {

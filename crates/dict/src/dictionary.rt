@@ -52,7 +52,8 @@ impl Dict {
         terms: &[Term],
         more: &[Term],
     ) -> Result<(Dict, Vec<Id>), AllocError>
-        ensures terms { IfOk result (λ r. r.0 ≡ the_set_of term_order (filter is_written (terms.now ++ more.now))) }
+        ensures terms { IfOk result (λ r. r.0 ≡ the_set_of term_order
+            (filter is_written (terms.now ++ more.now))) }
         ensures form { IfOk result (λ r. IsDictionary r.0) }
         ensures renamed { IfOk result (λ r. map (the_term_of r.0) r.1.items ≡ terms.now) }
         ensures known { IfOk result (λ r. list_all (is_known r.0) r.1.items ≡ true) }
@@ -70,7 +71,8 @@ impl Dict {
         terms: &[Term],
         more: &[Term],
     ) -> Result<(Dict, Vec<Id>), AllocError>
-        ensures terms { IfOk result (λ r. r.0 ≡ the_set_of term_order (filter is_written (terms.now ++ more.now))) }
+        ensures terms { IfOk result (λ r. r.0 ≡ the_set_of term_order
+            (filter is_written (terms.now ++ more.now))) }
         ensures form { IfOk result (λ r. IsDictionary r.0) }
         ensures renamed { IfOk result (λ r. map (the_term_of r.0) r.1.items ≡ terms.now) }
         ensures known { IfOk result (λ r. list_all (is_known r.0) r.1.items ≡ true) }

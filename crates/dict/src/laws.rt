@@ -6,5 +6,6 @@ ghost use Rattle.dict.specs.Dictionary.{IsDictionary, numbers, written, term_of,
 
 /// From numbers to terms is a renaming: the order of numbers is that of their terms.
 pub fn is_renaming()
-    ensures { (terms : List Term) → IsDictionary terms → IsRenaming (numbers terms) written (term_of terms) (is_known terms) }
+    ensures { (terms : List Term) → IsDictionary terms
+        → IsRenaming (numbers terms) written (term_of terms) (is_known terms) }
 {}

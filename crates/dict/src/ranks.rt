@@ -39,7 +39,8 @@ fn push_placed<'a>(
     parts: &Parts<'_>,
     terms: &'a [Term],
 ) -> Result<(), AllocError>
-    ensures { OnOk result ((all : List OneTerm) → IsGathered all placed.old.items → IsGathered (all ++ terms.now) placed.new.items) }
+    ensures { OnOk result ((all : List OneTerm) → IsGathered all placed.old.items
+        → IsGathered (all ++ terms.now) placed.new.items) }
 {
     placed.reserve(terms.len())?;
     for term in terms {
@@ -80,7 +81,8 @@ pub(crate) fn in_order<'a>(
     more: &'a [Term],
 ) -> Result<Vec<Placed<'a>>, AllocError>
     ensures placed { IfOk result (λ placed. ArePlaced (terms.now ++ more.now) placed.items) }
-    ensures same { IfOk result (λ placed. IsPermutation (terms.now ++ more.now) (map term_in placed.items)) }
+    ensures same { IfOk result (λ placed. IsPermutation (terms.now ++ more.now)
+        (map term_in placed.items)) }
     ensures sorted { IfOk result (λ placed. IsSortedByKey term_in term_order placed.items) }
 {
     let mut placed = gathered(alloc, terms, more)?;
@@ -98,7 +100,8 @@ pub(crate) fn in_order_by<'a, T: Threads + Sync>(
     more: &'a [Term],
 ) -> Result<Vec<Placed<'a>>, AllocError>
     ensures placed { IfOk result (λ placed. ArePlaced (terms.now ++ more.now) placed.items) }
-    ensures same { IfOk result (λ placed. IsPermutation (terms.now ++ more.now) (map term_in placed.items)) }
+    ensures same { IfOk result (λ placed. IsPermutation (terms.now ++ more.now)
+        (map term_in placed.items)) }
     ensures sorted { IfOk result (λ placed. IsSortedByKey term_in term_order placed.items) }
 {
     let placed = gathered(alloc, terms, more)?;
@@ -159,7 +162,9 @@ pub(crate) fn numbered(
     requires { All (λ p. p.place < length) placed.now }
     ensures length { IfOk result (λ r. list_length r.1.items ≡ length) }
     ensures terms { IfOk result (λ r. r.0.items ≡ taken (map term_in placed.now)) }
-    ensures numbers { IfOk result (λ r. (all : List OneTerm) → ArePlaced all placed.now → (place : ℕ) → is_within all place ≡ true → IsNumberOf r.0.items (term_at all place) (number_in r.1.items place)) }
+    ensures numbers { IfOk result (λ r. (all : List OneTerm) → ArePlaced all placed.now
+        → (place : ℕ) → is_within all place ≡ true
+        → IsNumberOf r.0.items (term_at all place) (number_in r.1.items place)) }
 {
     let mut found = Vec::new(alloc);
     let mut ids = vec![in alloc; Id::Known(0); length]?;

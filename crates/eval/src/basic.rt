@@ -49,8 +49,12 @@ fn solve_triple<S: Source, F>(
     source: &mut S,
     notes: &mut Vec<Note>,
 ) -> Result<Solutions, Stop>
-    ensures goes { (allowed : Reading → Bool) → allowed (Scan (the_scan_of pattern.now graph)) ≡ true → Goes S.asks allowed source.old source.new notes.old.items notes.new.items (stop_of result) }
-    ensures solved { IfOk result (λ found. (d : View) → Agrees notes.new.items d → found ≡ solutions_among id_order query.now.width pattern.now (quads_in id_order graph (applied query.now.changes.now d).quads)) }
+    ensures goes { (allowed : Reading → Bool) → allowed (Scan (the_scan_of pattern.now graph))
+        ≡ true → Goes S.asks allowed source.old source.new notes.old.items notes.new.items
+        (stop_of result) }
+    ensures solved { IfOk result (λ found. (d : View) → Agrees notes.new.items d
+        → found ≡ solutions_among id_order query.now.width pattern.now
+        (quads_in id_order graph (applied query.now.changes.now d).quads)) }
 {
     let wanted = scan_of(pattern, graph);
     let quads = scan(query.alloc, &wanted, query.changes, source, notes)?;
@@ -67,8 +71,13 @@ fn join_scanned<S: Source, F>(
     source: &mut S,
     notes: &mut Vec<Note>,
 ) -> Result<Solutions, Stop>
-    ensures goes { (allowed : Reading → Bool) → allowed (Scan (the_scan_of pattern.now graph)) ≡ true → Goes S.asks allowed source.old source.new notes.old.items notes.new.items (stop_of result) }
-    ensures solved { IfOk result (λ found. (d : View) → Agrees notes.new.items d → found ≡ the_join id_order before.now (solutions_among id_order query.now.width pattern.now (quads_in id_order graph (applied query.now.changes.now d).quads))) }
+    ensures goes { (allowed : Reading → Bool) → allowed (Scan (the_scan_of pattern.now graph))
+        ≡ true → Goes S.asks allowed source.old source.new notes.old.items notes.new.items
+        (stop_of result) }
+    ensures solved { IfOk result (λ found. (d : View) → Agrees notes.new.items d
+        → found ≡ the_join id_order before.now
+        (solutions_among id_order query.now.width pattern.now
+        (quads_in id_order graph (applied query.now.changes.now d).quads))) }
 {
     let found = solve_triple(query, pattern, graph, source, notes)?;
     let joined = before.join(query.alloc, found)?;
@@ -84,8 +93,12 @@ pub fn solve_basic<S: Source, F>(
     source: &mut S,
     notes: &mut Vec<Note>,
 ) -> Result<Solutions, Stop>
-    ensures goes { (allowed : Reading → Bool) → AskedPatterns allowed graph patterns.now → Goes S.asks allowed source.old source.new notes.old.items notes.new.items (stop_of result) }
-    ensures solved { IfOk result (λ found. (d : View) → Agrees notes.new.items d → found ≡ basic_solutions id_order query.now.width patterns.now (quads_in id_order graph (applied query.now.changes.now d).quads)) }
+    ensures goes { (allowed : Reading → Bool) → AskedPatterns allowed graph patterns.now
+        → Goes S.asks allowed source.old source.new notes.old.items notes.new.items
+        (stop_of result) }
+    ensures solved { IfOk result (λ found. (d : View) → Agrees notes.new.items d
+        → found ≡ basic_solutions id_order query.now.width patterns.now
+        (quads_in id_order graph (applied query.now.changes.now d).quads)) }
 {
     let mut found = Solutions::empty_mapping(query.alloc, query.width)?;
     for pattern in patterns {
@@ -106,8 +119,14 @@ pub fn solve_basic_up_to<S: Source, F: Filters>(
     source: &mut S,
     notes: &mut Vec<Note>,
 ) -> Result<Option<Solutions>, Stop>
-    ensures goes { (allowed : Reading → Bool) → AskedPatterns allowed graph patterns.now → Goes S.asks allowed source.old source.new notes.old.items notes.new.items (stop_of result) }
-    ensures solved { IfOk result (λ found. (d : View) → Agrees notes.new.items d → found ≡ up_to limit (filter (passes_all (F.passes query.now.filters.now) (map expression_of filters.now)) (basic_solutions id_order query.now.width patterns.now (quads_in id_order graph (applied query.now.changes.now d).quads)))) }
+    ensures goes { (allowed : Reading → Bool) → AskedPatterns allowed graph patterns.now
+        → Goes S.asks allowed source.old source.new notes.old.items notes.new.items
+        (stop_of result) }
+    ensures solved { IfOk result (λ found. (d : View) → Agrees notes.new.items d
+        → found ≡ up_to limit (filter (passes_all (F.passes query.now.filters.now)
+        (map expression_of filters.now))
+        (basic_solutions id_order query.now.width patterns.now
+        (quads_in id_order graph (applied query.now.changes.now d).quads)))) }
     ensures few { IfOk result (λ found. IfSome found (λ few. length few ≤ limit)) }
 {
     let [first @ .., last] = patterns else {

@@ -33,7 +33,8 @@ pub fn quads_after(
 
 /// The graph names after the changes, from those that were told before them.
 pub fn names_after(alloc: Global, changes: &Delta, told: &[Id]) -> Result<Vec<Id>, AllocError>
-    ensures { IfOk result (λ names. names.items ≡ union id_order (without id_order told.now changes.now.gone) changes.now.there) }
+    ensures { IfOk result (λ names. names.items
+        ≡ union id_order (without id_order told.now changes.now.gone) changes.now.there) }
 {
     let kept = names_outside(alloc, told, changes.gone())?;
     let added = copied_names(alloc, changes.there())?;
@@ -42,7 +43,8 @@ pub fn names_after(alloc: Global, changes: &Delta, told: &[Id]) -> Result<Vec<Id
 
 /// Whether a graph name is there after the changes, from whether it was there before them.
 pub fn is_named_after(changes: &Delta, name: Id, was_there: bool) -> bool
-    ensures { result ≡ ((was_there && not (has id_order changes.now.gone name)) || has id_order changes.now.there name) }
+    ensures { result ≡ ((was_there && not (has id_order changes.now.gone name))
+        || has id_order changes.now.there name) }
 {
     (was_there && !is_member(changes.gone(), &name)) || is_member(changes.there(), &name)
 }
@@ -61,8 +63,10 @@ pub fn replaced(
     deleted: Vec<Quad<Id>>,
     inserted: Vec<Quad<Id>>,
 ) -> Result<Delta, AllocError>
-    ensures change { IfOk result (λ change. change ≡ replaced_change changes.now deleted.items inserted.items) }
-    ensures effect { IfOk result (λ change. (d : View) → applied change d ≡ with_replaced (applied changes.now d) deleted.items inserted.items) }
+    ensures change { IfOk result (λ change. change
+        ≡ replaced_change changes.now deleted.items inserted.items) }
+    ensures effect { IfOk result (λ change. (d : View)
+        → applied change d ≡ with_replaced (applied changes.now d) deleted.items inserted.items) }
 {
     let names = names_of(alloc, &inserted)?;
     let there = names_union(copied_names(alloc, changes.there())?, names)?;

@@ -50,7 +50,8 @@ pub(crate) fn quads_lacking(
     quads: &[Quad<Id>],
     others: &[Quad<Id>],
 ) -> Result<Vec<Quad<Id>>, AllocError>
-    ensures { IfOk result (λ kept. kept.items ≡ without (quad_order id_order) quads.now others.now) }
+    ensures { IfOk result (λ kept. kept.items
+        ≡ without (quad_order id_order) quads.now others.now) }
 {
     let set = set_of(copied_quads(alloc, others)?);
     outside(alloc, quads, &set)

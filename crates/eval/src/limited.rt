@@ -33,7 +33,9 @@ fn kept_up_to<F: Filters>(
     filters: &[Expression<Id>],
     limit: usize,
 ) -> Result<Option<Solutions>, AllocError>
-    ensures value { IfOk result (λ found. found ≡ up_to limit (filter (passes_all (F.passes query.now.filters.now) (map expression_of filters.now)) all)) }
+    ensures value { IfOk result (λ found. found ≡ up_to limit
+        (filter (passes_all (F.passes query.now.filters.now) (map expression_of filters.now))
+        all)) }
     ensures few { IfOk result (λ found. IfSome found (λ few. length few ≤ limit)) }
 {
     let kept = all.filter(query.alloc, filters, query.filters)?;
@@ -51,7 +53,9 @@ fn combined_up_to<F: Filters>(
     filters: &[Expression<Id>],
     limit: usize,
 ) -> Result<Option<Solutions>, AllocError>
-    ensures value { IfOk result (λ found. found ≡ up_to limit (filter (passes_all (F.passes query.now.filters.now) (map expression_of filters.now)) (the_combined (F.passes query.now.filters.now) link.now before next))) }
+    ensures value { IfOk result (λ found. found ≡ up_to limit
+        (filter (passes_all (F.passes query.now.filters.now) (map expression_of filters.now))
+        (the_combined (F.passes query.now.filters.now) link.now before next))) }
     ensures few { IfOk result (λ found. IfSome found (λ few. length few ≤ limit)) }
 {
     match link {
@@ -81,8 +85,15 @@ fn solve_whole_up_to<S: Source, F: Filters>(
     source: &mut S,
     notes: &mut Vec<Note>,
 ) -> Result<Option<Solutions>, Stop>
-    ensures goes { (written : Option (Slot Number)) → is_graph_written id_order written (graph_place.Only active) ≡ true → Goes S.asks (is_for_plan id_order written (plan_of plan.now)) source.old source.new notes.old.items notes.new.items (stop_of result) }
-    ensures solved { IfOk result (λ found. (d : View) → Agrees notes.new.items d → found ≡ up_to limit (filter (passes_all (F.passes query.now.filters.now) (map expression_of filters.now)) (solutions id_order (F.passes query.now.filters.now) query.now.width (plan_of plan.now) (applied query.now.changes.now d) active))) }
+    ensures goes { (written : Option (Slot Number))
+        → is_graph_written id_order written (graph_place.Only active) ≡ true
+        → Goes S.asks (is_for_plan id_order written (plan_of plan.now)) source.old source.new
+        notes.old.items notes.new.items (stop_of result) }
+    ensures solved { IfOk result (λ found. (d : View) → Agrees notes.new.items d
+        → found ≡ up_to limit (filter (passes_all (F.passes query.now.filters.now)
+        (map expression_of filters.now))
+        (solutions id_order (F.passes query.now.filters.now) query.now.width (plan_of plan.now)
+        (applied query.now.changes.now d) active))) }
     ensures few { IfOk result (λ found. IfSome found (λ few. length few ≤ limit)) }
 {
     let all = solve(query, plan, active, source, notes)?;
@@ -104,8 +115,15 @@ pub fn solve_up_to<S: Source, F: Filters>(
     source: &mut S,
     notes: &mut Vec<Note>,
 ) -> Result<Option<Solutions>, Stop>
-    ensures goes { (written : Option (Slot Number)) → is_graph_written id_order written (graph_place.Only active) ≡ true → Goes S.asks (is_for_plan id_order written (plan_of plan.now)) source.old source.new notes.old.items notes.new.items (stop_of result) }
-    ensures solved { IfOk result (λ found. (d : View) → Agrees notes.new.items d → found ≡ up_to limit (filter (passes_all (F.passes query.now.filters.now) (map expression_of filters.now)) (solutions id_order (F.passes query.now.filters.now) query.now.width (plan_of plan.now) (applied query.now.changes.now d) active))) }
+    ensures goes { (written : Option (Slot Number))
+        → is_graph_written id_order written (graph_place.Only active) ≡ true
+        → Goes S.asks (is_for_plan id_order written (plan_of plan.now)) source.old source.new
+        notes.old.items notes.new.items (stop_of result) }
+    ensures solved { IfOk result (λ found. (d : View) → Agrees notes.new.items d
+        → found ≡ up_to limit (filter (passes_all (F.passes query.now.filters.now)
+        (map expression_of filters.now))
+        (solutions id_order (F.passes query.now.filters.now) query.now.width (plan_of plan.now)
+        (applied query.now.changes.now d) active))) }
     ensures few { IfOk result (λ found. IfSome found (λ few. length few ≤ limit)) }
 {
     match plan {
@@ -149,8 +167,15 @@ fn solve_parts_up_to<S: Source, F: Filters>(
     source: &mut S,
     notes: &mut Vec<Note>,
 ) -> Result<Option<Solutions>, Stop>
-    ensures goes { (written : Option (Slot Number)) → is_graph_written id_order written (graph_place.Only active) ≡ true → Goes S.asks (is_for_plan id_order written (linked_all nothing (parts_of parts.now))) source.old source.new notes.old.items notes.new.items (stop_of result) }
-    ensures solved { IfOk result (λ found. (d : View) → Agrees notes.new.items d → found ≡ up_to limit (filter (passes_all (F.passes query.now.filters.now) (map expression_of filters.now)) (solutions id_order (F.passes query.now.filters.now) query.now.width (linked_all nothing (parts_of parts.now)) (applied query.now.changes.now d) active))) }
+    ensures goes { (written : Option (Slot Number))
+        → is_graph_written id_order written (graph_place.Only active) ≡ true
+        → Goes S.asks (is_for_plan id_order written (linked_all nothing (parts_of parts.now)))
+        source.old source.new notes.old.items notes.new.items (stop_of result) }
+    ensures solved { IfOk result (λ found. (d : View) → Agrees notes.new.items d
+        → found ≡ up_to limit (filter (passes_all (F.passes query.now.filters.now)
+        (map expression_of filters.now))
+        (solutions id_order (F.passes query.now.filters.now) query.now.width
+        (linked_all nothing (parts_of parts.now)) (applied query.now.changes.now d) active))) }
     ensures few { IfOk result (λ found. IfSome found (λ few. length few ≤ limit)) }
 {
     let [first @ .., (link, plan)] = parts else {
@@ -179,8 +204,15 @@ fn solve_in_up_to<S: Source, F: Filters>(
     source: &mut S,
     notes: &mut Vec<Note>,
 ) -> Result<Option<Solutions>, Stop>
-    ensures goes { (written : Option (Slot Number)) → Goes S.asks (is_for_plan id_order written (InGraph place (plan_of plan.now))) source.old source.new notes.old.items notes.new.items (stop_of result) }
-    ensures solved { IfOk result (λ found. (d : View) (active : Option Number) → Agrees notes.new.items d → found ≡ up_to limit (filter (passes_all (F.passes query.now.filters.now) (map expression_of filters.now)) (solutions id_order (F.passes query.now.filters.now) query.now.width (InGraph place (plan_of plan.now)) (applied query.now.changes.now d) active))) }
+    ensures goes { (written : Option (Slot Number))
+        → Goes S.asks (is_for_plan id_order written (InGraph place (plan_of plan.now))) source.old
+        source.new notes.old.items notes.new.items (stop_of result) }
+    ensures solved { IfOk result (λ found. (d : View) (active : Option Number)
+        → Agrees notes.new.items d → found
+        ≡ up_to limit (filter (passes_all (F.passes query.now.filters.now)
+        (map expression_of filters.now))
+        (solutions id_order (F.passes query.now.filters.now) query.now.width
+        (InGraph place (plan_of plan.now)) (applied query.now.changes.now d) active))) }
     ensures few { IfOk result (λ found. IfSome found (λ few. length few ≤ limit)) }
 {
     match place {

@@ -43,8 +43,11 @@ pub fn is_graph<S: Source>(
     source: &mut S,
     notes: &mut Vec<Note>,
 ) -> Result<bool, Stop>
-    ensures goes { (allowed : Reading → Bool) → allowed (reading.GraphIs name) ≡ true → Goes S.asks allowed source.old source.new notes.old.items notes.new.items (stop_of result) }
-    ensures seen { IfOk result (λ so. (d : View) → Agrees notes.new.items d → so ≡ has id_order (applied changes.now d).names name) }
+    ensures goes { (allowed : Reading → Bool) → allowed (reading.GraphIs name) ≡ true
+        → Goes S.asks allowed source.old source.new notes.old.items notes.new.items
+        (stop_of result) }
+    ensures seen { IfOk result (λ so. (d : View) → Agrees notes.new.items d
+        → so ≡ has id_order (applied changes.now d).names name) }
 {
     let answer = ask(alloc, Read::GraphIs(name), source, notes)?;
     let was_there = tells_name(&answer);
@@ -58,8 +61,11 @@ pub fn graphs<S: Source>(
     source: &mut S,
     notes: &mut Vec<Note>,
 ) -> Result<Vec<Id>, Stop>
-    ensures goes { (allowed : Reading → Bool) → allowed reading.Graphs ≡ true → Goes S.asks allowed source.old source.new notes.old.items notes.new.items (stop_of result) }
-    ensures seen { IfOk result (λ names. (d : View) → Agrees notes.new.items d → names.items ≡ (applied changes.now d).names) }
+    ensures goes { (allowed : Reading → Bool) → allowed reading.Graphs ≡ true
+        → Goes S.asks allowed source.old source.new notes.old.items notes.new.items
+        (stop_of result) }
+    ensures seen { IfOk result (λ names. (d : View) → Agrees notes.new.items d
+        → names.items ≡ (applied changes.now d).names) }
 {
     let answer = ask(alloc, Read::Graphs, source, notes)?;
     let names = names_after(alloc, changes, names_of(&answer))?;

@@ -34,8 +34,11 @@ pub fn scan<S: Source>(
     source: &mut S,
     notes: &mut Vec<Note>,
 ) -> Result<Vec<Quad<Id>>, Stop>
-    ensures goes { (allowed : Reading → Bool) → allowed (Scan pattern.now) ≡ true → Goes S.asks allowed source.old source.new notes.old.items notes.new.items (stop_of result) }
-    ensures seen { IfOk result (λ quads. (d : View) → Agrees notes.new.items d → quads.items ≡ filter (matches id_order pattern.now) (applied changes.now d).quads) }
+    ensures goes { (allowed : Reading → Bool) → allowed (Scan pattern.now) ≡ true
+        → Goes S.asks allowed source.old source.new notes.old.items notes.new.items
+        (stop_of result) }
+    ensures seen { IfOk result (λ quads. (d : View) → Agrees notes.new.items d
+        → quads.items ≡ filter (matches id_order pattern.now) (applied changes.now d).quads) }
 {
     let answer = ask(alloc, Read::Scan(*pattern), source, notes)?;
     let quads = quads_after(alloc, changes, pattern, quads_of(&answer))?;

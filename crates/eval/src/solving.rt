@@ -31,7 +31,8 @@ fn combined<F: Filters>(
     link: &Link<Id>,
     found: Solutions,
 ) -> Result<Solutions, AllocError>
-    ensures { IfOk result (λ both. both ≡ the_combined (F.passes query.now.filters.now) link.now before found) }
+    ensures { IfOk result (λ both. both ≡ the_combined (F.passes query.now.filters.now) link.now
+        before found) }
 {
     match link {
         Link::Join => before.join(query.alloc, found),
@@ -50,8 +51,13 @@ pub fn solve<S: Source, F: Filters>(
     source: &mut S,
     notes: &mut Vec<Note>,
 ) -> Result<Solutions, Stop>
-    ensures goes { (written : Option (Slot Number)) → is_graph_written id_order written (graph_place.Only active) ≡ true → Goes S.asks (is_for_plan id_order written (plan_of plan.now)) source.old source.new notes.old.items notes.new.items (stop_of result) }
-    ensures solved { IfOk result (λ found. (d : View) → Agrees notes.new.items d → found ≡ solutions id_order (F.passes query.now.filters.now) query.now.width (plan_of plan.now) (applied query.now.changes.now d) active) }
+    ensures goes { (written : Option (Slot Number))
+        → is_graph_written id_order written (graph_place.Only active) ≡ true
+        → Goes S.asks (is_for_plan id_order written (plan_of plan.now)) source.old source.new
+        notes.old.items notes.new.items (stop_of result) }
+    ensures solved { IfOk result (λ found. (d : View) → Agrees notes.new.items d
+        → found ≡ solutions id_order (F.passes query.now.filters.now) query.now.width
+        (plan_of plan.now) (applied query.now.changes.now d) active) }
 {
     match plan {
         Plan::Basic(patterns) => solve_basic(query, patterns.as_slice(), active, source, notes),
@@ -75,8 +81,13 @@ pub(crate) fn solve_parts<S: Source, F: Filters>(
     source: &mut S,
     notes: &mut Vec<Note>,
 ) -> Result<Solutions, Stop>
-    ensures goes { (written : Option (Slot Number)) → is_graph_written id_order written (graph_place.Only active) ≡ true → Goes S.asks (is_for_plan id_order written (linked_all nothing (parts_of parts.now))) source.old source.new notes.old.items notes.new.items (stop_of result) }
-    ensures solved { IfOk result (λ found. (d : View) → Agrees notes.new.items d → found ≡ solutions id_order (F.passes query.now.filters.now) query.now.width (linked_all nothing (parts_of parts.now)) (applied query.now.changes.now d) active) }
+    ensures goes { (written : Option (Slot Number))
+        → is_graph_written id_order written (graph_place.Only active) ≡ true
+        → Goes S.asks (is_for_plan id_order written (linked_all nothing (parts_of parts.now)))
+        source.old source.new notes.old.items notes.new.items (stop_of result) }
+    ensures solved { IfOk result (λ found. (d : View) → Agrees notes.new.items d
+        → found ≡ solutions id_order (F.passes query.now.filters.now) query.now.width
+        (linked_all nothing (parts_of parts.now)) (applied query.now.changes.now d) active) }
 {
     let mut found = Solutions::empty_mapping(query.alloc, query.width)?;
     for (link, plan) in parts {
@@ -96,8 +107,13 @@ fn solve_union<S: Source, F: Filters>(
     source: &mut S,
     notes: &mut Vec<Note>,
 ) -> Result<Solutions, Stop>
-    ensures goes { (written : Option (Slot Number)) → is_graph_written id_order written (graph_place.Only active) ≡ true → Goes S.asks (is_for_plan id_order written (united (map plan_of plans.now))) source.old source.new notes.old.items notes.new.items (stop_of result) }
-    ensures solved { IfOk result (λ found. (d : View) → Agrees notes.new.items d → found ≡ solutions id_order (F.passes query.now.filters.now) query.now.width (united (map plan_of plans.now)) (applied query.now.changes.now d) active) }
+    ensures goes { (written : Option (Slot Number))
+        → is_graph_written id_order written (graph_place.Only active) ≡ true
+        → Goes S.asks (is_for_plan id_order written (united (map plan_of plans.now))) source.old
+        source.new notes.old.items notes.new.items (stop_of result) }
+    ensures solved { IfOk result (λ found. (d : View) → Agrees notes.new.items d
+        → found ≡ solutions id_order (F.passes query.now.filters.now) query.now.width
+        (united (map plan_of plans.now)) (applied query.now.changes.now d) active) }
 {
     let [first, rest @ ..] = plans else {
         return Ok(Solutions::empty_mapping(query.alloc, query.width)?);
@@ -121,8 +137,13 @@ pub(crate) fn solve_in<S: Source, F: Filters>(
     source: &mut S,
     notes: &mut Vec<Note>,
 ) -> Result<Solutions, Stop>
-    ensures goes { (written : Option (Slot Number)) → Goes S.asks (is_for_plan id_order written (InGraph place (plan_of plan.now))) source.old source.new notes.old.items notes.new.items (stop_of result) }
-    ensures solved { IfOk result (λ found. (d : View) (active : Option Number) → Agrees notes.new.items d → found ≡ solutions id_order (F.passes query.now.filters.now) query.now.width (InGraph place (plan_of plan.now)) (applied query.now.changes.now d) active) }
+    ensures goes { (written : Option (Slot Number))
+        → Goes S.asks (is_for_plan id_order written (InGraph place (plan_of plan.now))) source.old
+        source.new notes.old.items notes.new.items (stop_of result) }
+    ensures solved { IfOk result (λ found. (d : View) (active : Option Number)
+        → Agrees notes.new.items d → found
+        ≡ solutions id_order (F.passes query.now.filters.now) query.now.width
+        (InGraph place (plan_of plan.now)) (applied query.now.changes.now d) active) }
 {
     match place {
         Place::Term(name) => {
@@ -150,8 +171,12 @@ fn solve_graphs<S: Source, F: Filters>(
     source: &mut S,
     notes: &mut Vec<Note>,
 ) -> Result<Solutions, Stop>
-    ensures goes { Goes S.asks (is_for_plan id_order (Some (slot.Variable variable)) (plan_of plan.now)) source.old source.new notes.old.items notes.new.items (stop_of result) }
-    ensures solved { IfOk result (λ found. (d : View) → Agrees notes.new.items d → found ≡ the_set_of (mapping_cmp id_order) (in_graphs (F.passes query.now.filters.now) query.now.width variable (plan_of plan.now) (applied query.now.changes.now d) names.now)) }
+    ensures goes { Goes S.asks (is_for_plan id_order (Some (slot.Variable variable))
+        (plan_of plan.now)) source.old source.new notes.old.items notes.new.items (stop_of result) }
+    ensures solved { IfOk result (λ found. (d : View) → Agrees notes.new.items d
+        → found ≡ the_set_of (mapping_cmp id_order)
+        (in_graphs (F.passes query.now.filters.now) query.now.width variable (plan_of plan.now)
+        (applied query.now.changes.now d) names.now)) }
 {
     let mut found = Vec::new(query.alloc);
     for name in names {

@@ -63,21 +63,6 @@ equal_unordered a b x y h p q =
 
 -- ---- an error where a side is one
 
-pub strict_truth : (f : Term → Term → Option Bool) (a b : Option Term) → truth_value (of_two f a b) ≡ strict (λ x y. truth_value (f x y)) a b
-strict_truth f None b = refl
-strict_truth f (Some x) None = refl
-strict_truth f (Some x) (Some y) = refl
-
-pub strict_not : (f : Term → Term → Option Bool) (a b : Option Term) → truth_value (option_map not (of_two f a b)) ≡ strict (λ x y. truth_value (option_map not (f x y))) a b
-strict_not f None b = refl
-strict_not f (Some x) None = refl
-strict_not f (Some x) (Some y) = refl
-
-pub strict_ordered : (test : Ordering → Bool) (a b : Option Term) → truth_value (option_map test (of_readings value_order a b)) ≡ strict (λ x y. truth_value (is_ordered test x y)) a b
-strict_ordered test None b = refl
-strict_ordered test (Some x) None = refl
-strict_ordered test (Some x) (Some y) = refl
-
 -- ---- functions of one value
 
 pub length_some : (v : Option Term) (r : Reading) → Some r ≡ option_map read_as v → text_length r ≡ option_and_then (λ t. text_length (read_as t)) v
@@ -87,10 +72,6 @@ length_some (Some t) r h = let e : r ≡ read_as t = cc in ap text_length e
 pub length_none : (v : Option Term) → None ≡ option_map read_as v → None ≡ option_and_then (λ t. text_length (read_as t)) v
 length_none None h = refl
 length_none (Some t) h = (cc)
-
-pub not_is : (v : Option Term) → truth_value (option_map not (effective_of v)) ≡ option_and_then (one_value one.Not) v
-not_is None = refl
-not_is (Some t) = refl
 
 pub kind_is : (is : Term → Bool) (v : Option Term) → truth_value (option_map is v) ≡ option_and_then (λ t. Some (truth (is t))) v
 kind_is is None = refl

@@ -42,13 +42,3 @@ occurs r p s h =
     both_ways r (occurs_in s p) (λ e. let at = found.0 e in occurs_tells s p at.0 at.1 at.2) (λ e. found.1 (occurs_told s p e))
 
 -- ---- tests of two texts
-
-pub tested_some : (test : List ℕ → List ℕ → Bool) (a b : Option Term) (x y : List ℕ) → Some (x, y) ≡ of_readings text_pair a b → Some (truth (test x y)) ≡ strict (on_texts test) a b
-tested_some test None b x y h = (cc)
-tested_some test (Some s) None x y h = (cc)
-tested_some test (Some s) (Some t) x y h = ap (option_map (λ (p : List ℕ × List ℕ). truth (test p.0 p.1))) h
-
-pub tested_none : (test : List ℕ → List ℕ → Bool) (a b : Option Term) → None ≡ of_readings text_pair a b → None ≡ strict (on_texts test) a b
-tested_none test None b h = refl
-tested_none test (Some s) None h = refl
-tested_none test (Some s) (Some t) h = ap (option_map (λ (p : List ℕ × List ℕ). truth (test p.0 p.1))) h

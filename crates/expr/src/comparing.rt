@@ -63,7 +63,8 @@ pub fn equal(alloc: Global, a: &Outcome<'_>, b: &Outcome<'_>) -> Result<Option<b
 #[tactic(auto, using(crate::proofs::OutcomeLaws::two_some, crate::proofs::OutcomeLaws::two_left, crate::proofs::OutcomeLaws::two_right))]
 /// Whether two values are one term (SPARQL 1.1 Query, 17.4.1.8), and nothing where one is an error.
 pub fn same(alloc: Global, a: &Outcome<'_>, b: &Outcome<'_>) -> Result<Option<bool>, AllocError>
-    ensures { IfOk result (λ so. so ≡ of_two (λ x y. Some (is_same_term x y)) (seen a.entry.now) (seen b.entry.now)) }
+    ensures { IfOk result (λ so. so ≡ of_two (λ x y. Some (is_same_term x y)) (seen a.entry.now)
+        (seen b.entry.now)) }
 {
     let Some(left) = parts_of(a) else {
         return Ok(None);

@@ -61,7 +61,9 @@ pub fn value<'a>(
     expression: &Expression<Id>,
     mapping: &Mapping,
 ) -> Result<Outcome<'a>, AllocError>
-    ensures { IfOk result (λ v. seen v ≡ value_of (renamed_expression (term_of dict.entry.now) (expression_of expression.now)) (renamed_mapping (term_of dict.entry.now) mapping.now)) }
+    ensures { IfOk result (λ v. seen v ≡ value_of
+        (renamed_expression (term_of dict.entry.now) (expression_of expression.now))
+        (renamed_mapping (term_of dict.entry.now) mapping.now)) }
 {
     match expression {
         Expression::Constant(id) => Ok(known(dict, *id)),

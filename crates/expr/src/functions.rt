@@ -143,7 +143,8 @@ fn reading_length<'r>(reading: Reading<'_>) -> Result<Outcome<'r>, AllocError>
 /// STRLEN.
 #[tactic(auto, using(crate::proofs::OutcomeLaws::length_some, crate::proofs::OutcomeLaws::length_none))]
 fn length<'r>(value: &Outcome<'_>) -> Result<Outcome<'r>, AllocError>
-    ensures { IfOk result (λ v. seen v ≡ option_and_then (λ t. text_length (read_as t)) (seen value.entry.now)) }
+    ensures { IfOk result (λ v. seen v ≡ option_and_then (λ t. text_length (read_as t))
+        (seen value.entry.now)) }
 {
     match read(value) {
         Some(reading) => reading_length(reading),

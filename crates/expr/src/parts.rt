@@ -158,7 +158,8 @@ fn tag_cmp(a: Option<&str>, b: Option<&str>) -> Ordering
 }
 
 fn is_same_literal(a: LiteralParts<'_>, b: LiteralParts<'_>) -> bool
-    ensures { result ≡ is_same_term (OfLiteral (literal_of a.entry)) (OfLiteral (literal_of b.entry)) }
+    ensures { result ≡ is_same_term (OfLiteral (literal_of a.entry))
+        (OfLiteral (literal_of b.entry)) }
 {
     a.lexical
         .cmp(b.lexical)
@@ -173,7 +174,8 @@ fn is_integer_literal(
     number: i64,
     literal: LiteralParts<'_>,
 ) -> Result<bool, AllocError>
-    ensures { IfOk result (λ so. so ≡ is_same_term (integer number) (OfLiteral (literal_of literal.entry))) }
+    ensures { IfOk result (λ so. so ≡ is_same_term (integer number)
+        (OfLiteral (literal_of literal.entry))) }
 {
     let digits = number.to_string(alloc)?;
     Ok(is_same_literal(integer_parts(digits.as_str()), literal))
@@ -184,7 +186,8 @@ fn is_literal_integer(
     literal: LiteralParts<'_>,
     number: i64,
 ) -> Result<bool, AllocError>
-    ensures { IfOk result (λ so. so ≡ is_same_term (OfLiteral (literal_of literal.entry)) (integer number)) }
+    ensures { IfOk result (λ so. so ≡ is_same_term (OfLiteral (literal_of literal.entry))
+        (integer number)) }
 {
     let digits = number.to_string(alloc)?;
     Ok(is_same_literal(literal, integer_parts(digits.as_str())))

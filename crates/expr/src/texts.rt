@@ -32,7 +32,8 @@ fn text_pair<'v>(a: Reading<'v>, b: Reading<'v>) -> Option<(&'v str, &'v str)>
 /// The texts of two values, and nothing where they may not be compared or one is an error.
 #[tactic(auto, using(crate::proofs::OutcomeLaws::readings_left, crate::proofs::OutcomeLaws::readings_right))]
 pub fn texts<'v>(a: &'v Outcome<'_>, b: &'v Outcome<'_>) -> Option<(&'v str, &'v str)>
-    ensures { option_map pair_of result ≡ of_readings text_pair (seen a.entry.now) (seen b.entry.now) }
+    ensures { option_map pair_of result ≡ of_readings text_pair (seen a.entry.now)
+        (seen b.entry.now) }
 {
     let a = read(a)?;
     let b = read(b)?;

@@ -144,12 +144,6 @@ more_all item n e ts = more_with item n (length ts) e ts
 unrolled : (item : Reader Tree) (n : ℕ) → Shrinks item → (e : Tree) (ts : List Token) → more_all item n e ts ≡ more_with item n (suc (length ts)) e ts
 unrolled item n shrinks e ts = more_enough item n shrinks (length ts) (suc (length ts)) e ts (omega arith) (omega arith)
 
-pub more_ends : (item : Reader Tree) (n : ℕ) → Shrinks item → (e : Tree) (ts : List Token) → operator_at n ts ≡ None → more_all item n e ts ≡ Some (e, ts)
-more_ends item n shrinks e ts none = unrolled item n shrinks e ts ∙ rw none refl
-
-pub more_stuck : (item : Reader Tree) (n : ℕ) → Shrinks item → (e : Tree) (ts : List Token) (o : Operator × List Token) → operator_at n ts ≡ Some o → item o.1 ≡ None → more_all item n e ts ≡ None
-more_stuck item n shrinks e ts o op none = unrolled item n shrinks e ts ∙ rw (op, none) refl
-
 pub more_steps : (item : Reader Tree) (n : ℕ) → Shrinks item → (e : Tree) (ts : List Token) (o : Operator × List Token) (x : Tree × List Token) → operator_at n ts ≡ Some o → item o.1 ≡ Some x → more_all item n e ts ≡ more_all item n (Binary o.0 e x.0) x.1
 more_steps item n shrinks e ts o x op i =
     let c = operator_shrinks n ts o op in

@@ -13,7 +13,8 @@ pub fn binary<'a>(
     left: Expression<'a>,
     right: Expression<'a>,
 ) -> Result<Expression<'a>, AllocError>
-    ensures { IfOk result (λ e. tree_of e ≡ tree.Binary operator (tree_of left.entry) (tree_of right.entry)) }
+    ensures { IfOk result (λ e. tree_of e ≡ tree.Binary operator (tree_of left.entry)
+        (tree_of right.entry)) }
 {
     Ok(Expression::Binary(operator, Box::new(alloc, left)?, Box::new(alloc, right)?))
 }
@@ -43,7 +44,8 @@ pub fn call_two<'a>(
     first: Expression<'a>,
     second: Expression<'a>,
 ) -> Result<Expression<'a>, AllocError>
-    ensures { IfOk result (λ e. tree_of e ≡ tree.CallTwo function (tree_of first.entry) (tree_of second.entry)) }
+    ensures { IfOk result (λ e. tree_of e ≡ tree.CallTwo function (tree_of first.entry)
+        (tree_of second.entry)) }
 {
     Ok(Expression::Two(function, Box::new(alloc, first)?, Box::new(alloc, second)?))
 }

@@ -36,7 +36,8 @@ fn called_of(word: &Piece<'_>) -> Option<Called>
 
 /// What the word at the front of the tokens names, and what follows it.
 pub fn called_at<'t, 'a>(tokens: &'t [Token<'a>]) -> Option<(Called, &'t [Token<'a>])>
-    ensures { MatchOption result (called_at tokens.now ≡ None) (λ x. called_at tokens.now ≡ Some (x.0, x.1.now)) }
+    ensures { MatchOption result (called_at tokens.now ≡ None)
+        (λ x. called_at tokens.now ≡ Some (x.0, x.1.now)) }
 {
     let [first, rest @ ..] = tokens else {
         return None;

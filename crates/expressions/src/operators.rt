@@ -30,7 +30,8 @@ pub fn operator_at<'t, 'a>(
     level: Level,
     tokens: &'t [Token<'a>],
 ) -> Option<(Operator, &'t [Token<'a>])>
-    ensures { MatchOption result (operator_at (rank level) tokens.now ≡ None) (λ x. operator_at (rank level) tokens.now ≡ Some (x.0, x.1.now)) }
+    ensures { MatchOption result (operator_at (rank level) tokens.now ≡ None)
+        (λ x. operator_at (rank level) tokens.now ≡ Some (x.0, x.1.now)) }
 {
     let [first, rest @ ..] = tokens else {
         return None;

@@ -55,7 +55,8 @@ fn closed_at<'t, 'a>(
     depth: usize,
     tokens: &'t [Token<'a>],
 ) -> Result<(Expression<'a>, &'t [Token<'a>]), Stop>
-    ensures { Gives (λ x. (tree_of x.0, x.1.now)) result (closed_with (expression_at depth) tokens.now) }
+    ensures { Gives (λ x. (tree_of x.0, x.1.now)) result
+        (closed_with (expression_at depth) tokens.now) }
 {
     let (inner, rest) = expression_at(alloc, depth, tokens)?;
     let Some(rest) = after_sign(Sign::CloseParen, rest) else {
@@ -73,7 +74,8 @@ fn one_at<'t, 'a>(
     function: One,
     tokens: &'t [Token<'a>],
 ) -> Result<(Expression<'a>, &'t [Token<'a>]), Stop>
-    ensures { Gives (λ x. (tree_of x.0, x.1.now)) result (one_with (expression_at depth) function tokens.now) }
+    ensures { Gives (λ x. (tree_of x.0, x.1.now)) result
+        (one_with (expression_at depth) function tokens.now) }
 {
     let (argument, rest) = closed_at(alloc, depth, tokens)?;
     Ok((call(alloc, function, argument)?, rest))
@@ -88,7 +90,8 @@ fn two_at<'t, 'a>(
     function: Two,
     tokens: &'t [Token<'a>],
 ) -> Result<(Expression<'a>, &'t [Token<'a>]), Stop>
-    ensures { Gives (λ x. (tree_of x.0, x.1.now)) result (two_with (expression_at depth) function tokens.now) }
+    ensures { Gives (λ x. (tree_of x.0, x.1.now)) result
+        (two_with (expression_at depth) function tokens.now) }
 {
     let (first, rest) = expression_at(alloc, depth, tokens)?;
     let Some(rest) = after_sign(Sign::Comma, rest) else {
@@ -107,7 +110,8 @@ fn arguments_at<'t, 'a>(
     called: Called,
     tokens: &'t [Token<'a>],
 ) -> Result<(Expression<'a>, &'t [Token<'a>]), Stop>
-    ensures { Gives (λ x. (tree_of x.0, x.1.now)) result (arguments_with depth (expression_at depth) called tokens.now) }
+    ensures { Gives (λ x. (tree_of x.0, x.1.now)) result
+        (arguments_with depth (expression_at depth) called tokens.now) }
 {
     let Some(inside) = after_sign(Sign::OpenParen, tokens) else {
         return Err(Stop::NoReading);
@@ -127,7 +131,8 @@ fn primary_at<'t, 'a>(
     depth: usize,
     tokens: &'t [Token<'a>],
 ) -> Result<(Expression<'a>, &'t [Token<'a>]), Stop>
-    ensures { Gives (λ x. (tree_of x.0, x.1.now)) result (primary_with depth (expression_at depth) tokens.now) }
+    ensures { Gives (λ x. (tree_of x.0, x.1.now)) result
+        (primary_with depth (expression_at depth) tokens.now) }
 {
     if let Some(inside) = after_sign(Sign::OpenParen, tokens) {
         return closed_at(alloc, depth, inside);
@@ -146,7 +151,8 @@ fn not_at<'t, 'a>(
     depth: usize,
     tokens: &'t [Token<'a>],
 ) -> Result<(Expression<'a>, &'t [Token<'a>]), Stop>
-    ensures { Gives (λ x. (tree_of x.0, x.1.now)) result (not_with depth (expression_at depth) tokens.now) }
+    ensures { Gives (λ x. (tree_of x.0, x.1.now)) result
+        (not_with depth (expression_at depth) tokens.now) }
 {
     match after_sign(Sign::Bang, tokens) {
         Some(rest) => {
@@ -165,7 +171,8 @@ fn relation_at<'t, 'a>(
     depth: usize,
     tokens: &'t [Token<'a>],
 ) -> Result<(Expression<'a>, &'t [Token<'a>]), Stop>
-    ensures { Gives (λ x. (tree_of x.0, x.1.now)) result (operand_with depth (expression_at depth) Level.And tokens.now) }
+    ensures { Gives (λ x. (tree_of x.0, x.1.now)) result
+        (operand_with depth (expression_at depth) Level.And tokens.now) }
 {
     let (left, rest) = level_at(alloc, depth, Level::Sum, tokens)?;
     match operator_at(Level::Relation, rest) {
@@ -185,7 +192,8 @@ fn operand_at<'t, 'a>(
     level: Level,
     tokens: &'t [Token<'a>],
 ) -> Result<(Expression<'a>, &'t [Token<'a>]), Stop>
-    ensures { Gives (λ x. (tree_of x.0, x.1.now)) result (operand_with depth (expression_at depth) level tokens.now) }
+    ensures { Gives (λ x. (tree_of x.0, x.1.now)) result
+        (operand_with depth (expression_at depth) level tokens.now) }
 {
     match level {
         Level::Or => level_at(alloc, depth, Level::And, tokens),
@@ -205,7 +213,8 @@ fn level_at<'t, 'a>(
     level: Level,
     tokens: &'t [Token<'a>],
 ) -> Result<(Expression<'a>, &'t [Token<'a>]), Stop>
-    ensures { Gives (λ x. (tree_of x.0, x.1.now)) result (level_with depth (expression_at depth) level tokens.now) }
+    ensures { Gives (λ x. (tree_of x.0, x.1.now)) result
+        (level_with depth (expression_at depth) level tokens.now) }
 {
     let (first, after) = operand_at(alloc, depth, level, tokens)?;
     let mut left = first;

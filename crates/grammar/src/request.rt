@@ -50,7 +50,8 @@ fn declared_at<'t, 'a>(tokens: &'t [Token<'a>]) -> Result<(Step<'a>, &'t [Token<
 
 /// What follows the `;` after an operation, or nothing where nothing is left.
 fn ended_at<'t, 'a>(tokens: &'t [Token<'a>]) -> Option<&'t [Token<'a>]>
-    ensures { MatchOption result (ended_at tokens.now ≡ None) (λ rest. ended_at tokens.now ≡ Some rest.now) }
+    ensures { MatchOption result (ended_at tokens.now ≡ None)
+        (λ rest. ended_at tokens.now ≡ Some rest.now) }
 {
     let [first, rest @ ..] = tokens else {
         return Some(tokens);

@@ -65,7 +65,8 @@ fn value_of<'a>(
     scope: &Scope<'_, 'a>,
     node: &Node<'a>,
 ) -> Result<Made<Term>, AllocError>
-    ensures { IfOk result (λ m. expression_of m ≡ value_of scope.now.prefixes.now scope.now.variables.now node.now) }
+    ensures { IfOk result (λ m. expression_of m
+        ≡ value_of scope.now.prefixes.now scope.now.variables.now node.now) }
 {
     match node {
         Node::Variable(name) => Ok(Made::Variable(scope.variables.number(name))),
@@ -89,7 +90,8 @@ fn two_of(
     left: Made<Term>,
     right: Made<Term>,
 ) -> Result<Made<Term>, AllocError>
-    ensures { IfOk result (λ m. expression_of m ≡ made.Two operator (expression_of left) (expression_of right)) }
+    ensures { IfOk result (λ m. expression_of m
+        ≡ made.Two operator (expression_of left) (expression_of right)) }
 {
     let left = Box::new(alloc, left)?;
     Ok(Made::Two(operator, left, Box::new(alloc, right)?))
@@ -102,7 +104,8 @@ fn chained(
     first: Made<Term>,
     mut steps: Vec<(TwoOperator, Made<Term>)>,
 ) -> Result<Made<Term>, AllocError>
-    ensures { IfOk result (λ m. expression_of m ≡ stacked (expression_of first) (steps_of steps.items)) }
+    ensures { IfOk result (λ m. expression_of m
+        ≡ stacked (expression_of first) (steps_of steps.items)) }
 {
     if steps.is_empty() {
         return Ok(first);
@@ -118,7 +121,8 @@ fn translated_tree<'a>(
     scope: &Scope<'_, 'a>,
     expression: &Expression<'a>,
 ) -> Result<Made<Term>, AllocError>
-    ensures { IfOk result (λ m. expression_of m ≡ translated_tree scope.now.prefixes.now scope.now.variables.now (tree_of expression.now)) }
+    ensures { IfOk result (λ m. expression_of m
+        ≡ translated_tree scope.now.prefixes.now scope.now.variables.now (tree_of expression.now)) }
 {
     let mut steps = Vec::new(alloc);
     let mut rest = expression;
@@ -157,7 +161,9 @@ fn add_filter<'a>(
     found: &mut Vec<Made<Term>>,
     element: &Element<'a>,
 ) -> Result<(), AllocError>
-    ensures { OnOk result (map expression_of found.new.items ≡ map expression_of found.old.items ++ filter_of scope.now.prefixes.now scope.now.variables.now (part_of element.now)) }
+    ensures { OnOk result (map expression_of found.new.items
+        ≡ map expression_of found.old.items
+        ++ filter_of scope.now.prefixes.now scope.now.variables.now (part_of element.now)) }
 {
     match element {
         Element::Filter(expression) => {
@@ -178,7 +184,9 @@ fn filters_of<'a>(
     scope: &Scope<'_, 'a>,
     elements: &[Element<'a>],
 ) -> Result<Vec<Made<Term>>, AllocError>
-    ensures { IfOk result (λ found. map expression_of found.items ≡ filters_of scope.now.prefixes.now scope.now.variables.now (group (parts_of elements.now))) }
+    ensures { IfOk result (λ found. map expression_of found.items
+        ≡ filters_of scope.now.prefixes.now scope.now.variables.now
+        (group (parts_of elements.now))) }
 {
     let mut found = Vec::new(alloc);
     for element in elements {
@@ -195,7 +203,9 @@ fn in_graph<'a>(
     graph: &Node<'a>,
     plan: Plan<Term>,
 ) -> Result<Plan<Term>, AllocError>
-    ensures { IfOk result (λ made. plan_of made ≡ plans.InGraph (place_of scope.now.prefixes.now scope.now.variables.now graph.now) (plan_of plan)) }
+    ensures { IfOk result (λ made. plan_of made
+        ≡ plans.InGraph (place_of scope.now.prefixes.now scope.now.variables.now graph.now)
+        (plan_of plan)) }
 {
     let place = scope.place(alloc, graph)?;
     Ok(Plan::InGraph(place, Box::new(alloc, plan)?))
@@ -209,7 +219,8 @@ type Part = (Link<Term>, Plan<Term>);
 /// Goes on with a pattern.
 #[tactic(auto, using(crate::proofs::PlanLaws::linked_push))]
 fn link(parts: &mut Vec<Part>, link: Link<Term>, plan: Plan<Term>) -> Result<(), AllocError>
-    ensures { OnOk result (linked_all nothing (linked_parts parts.new.items) ≡ plans.linked (linked_all nothing (linked_parts parts.old.items)) link (plan_of plan)) }
+    ensures { OnOk result (linked_all nothing (linked_parts parts.new.items)
+        ≡ plans.linked (linked_all nothing (linked_parts parts.old.items)) link (plan_of plan)) }
 {
     parts.push((link, plan))?;
     Ok(())
@@ -223,7 +234,9 @@ fn link_optional(
     inner: Vec<Part>,
     filters: Vec<Made<Term>>,
 ) -> Result<(), AllocError>
-    ensures { OnOk result (linked_all nothing (linked_parts parts.new.items) ≡ plans.LeftJoin (linked_all nothing (linked_parts parts.old.items)) (linked_all nothing (linked_parts inner.items)) (map expression_of filters.items)) }
+    ensures { OnOk result (linked_all nothing (linked_parts parts.new.items)
+        ≡ plans.LeftJoin (linked_all nothing (linked_parts parts.old.items))
+        (linked_all nothing (linked_parts inner.items)) (map expression_of filters.items)) }
 {
     let right = Plan::Group(inner, Vec::new(alloc));
     link(parts, Link::LeftJoin(filters), right)
@@ -236,7 +249,9 @@ fn parts_of<'a>(
     scope: &Scope<'_, 'a>,
     elements: &[Element<'a>],
 ) -> Result<Vec<Part>, AllocError>
-    ensures { IfOk result (λ parts. linked_all nothing (linked_parts parts.items) ≡ with_parts scope.now.prefixes.now scope.now.variables.now nothing (group (parts_of elements.now))) }
+    ensures { IfOk result (λ parts. linked_all nothing (linked_parts parts.items)
+        ≡ with_parts scope.now.prefixes.now scope.now.variables.now nothing
+        (group (parts_of elements.now))) }
 {
     let mut parts = Vec::new(alloc);
     for element in elements {
@@ -254,7 +269,9 @@ fn add_part<'a>(
     element: &Element<'a>,
     parts: &mut Vec<Part>,
 ) -> Result<(), AllocError>
-    ensures { OnOk result (linked_all nothing (linked_parts parts.new.items) ≡ with_part scope.now.prefixes.now scope.now.variables.now (linked_all nothing (linked_parts parts.old.items)) (part_of element.now)) }
+    ensures { OnOk result (linked_all nothing (linked_parts parts.new.items)
+        ≡ with_part scope.now.prefixes.now scope.now.variables.now
+        (linked_all nothing (linked_parts parts.old.items)) (part_of element.now)) }
 {
     match element {
         Element::Triples(triples) => {
@@ -296,7 +313,9 @@ pub fn translate<'a>(
     scope: &Scope<'_, 'a>,
     elements: &[Element<'a>],
 ) -> Result<Plan<Term>, AllocError>
-    ensures { IfOk result (λ plan. plan_of plan ≡ translated_group scope.now.prefixes.now scope.now.variables.now (group (parts_of elements.now))) }
+    ensures { IfOk result (λ plan. plan_of plan
+        ≡ translated_group scope.now.prefixes.now scope.now.variables.now
+        (group (parts_of elements.now))) }
 {
     let parts = parts_of(alloc, scope, elements)?;
     let filters = filters_of(alloc, scope, elements)?;
@@ -311,7 +330,10 @@ fn block_pattern<'a>(
     scope: &Scope<'_, 'a>,
     block: &Block<'a>,
 ) -> Result<Plan<Term>, AllocError>
-    ensures { IfOk result (λ plan. plan_of plan ≡ block_in scope.now.prefixes.now scope.now.variables.now block.now.graph (plans.Basic (patterns_of scope.now.prefixes.now scope.now.variables.now block.now.triples))) }
+    ensures { IfOk result (λ plan. plan_of plan
+        ≡ block_in scope.now.prefixes.now scope.now.variables.now block.now.graph
+        (plans.Basic (patterns_of scope.now.prefixes.now scope.now.variables.now
+        block.now.triples))) }
 {
     let plan = Plan::Basic(patterns_of(alloc, scope, block.triples.as_slice())?);
     match &block.graph {
@@ -328,7 +350,8 @@ pub fn quads_pattern<'a>(
     scope: &Scope<'_, 'a>,
     blocks: &[Block<'a>],
 ) -> Result<Plan<Term>, AllocError>
-    ensures { IfOk result (λ plan. plan_of plan ≡ quads_pattern scope.now.prefixes.now scope.now.variables.now blocks.now) }
+    ensures { IfOk result (λ plan. plan_of plan
+        ≡ quads_pattern scope.now.prefixes.now scope.now.variables.now blocks.now) }
 {
     let mut parts = Vec::new(alloc);
     for block in blocks {

@@ -19,7 +19,8 @@ pub struct Scope<'s, 'a> {
 impl<'s, 'a> Scope<'s, 'a> {
     /// What a node of a pattern stands for.
     pub(crate) fn place(&self, alloc: Global, node: &Node<'a>) -> Result<Place<Term>, AllocError>
-        ensures { IfOk result (λ place. place ≡ place_of self.now.prefixes.now self.now.variables.now node.now) }
+        ensures { IfOk result (λ place. place ≡ place_of self.now.prefixes.now
+            self.now.variables.now node.now) }
     {
         match node {
             Node::Variable(name) => Ok(Place::Variable(self.variables.number(name))),
@@ -31,7 +32,8 @@ impl<'s, 'a> Scope<'s, 'a> {
 
     /// What a node of a template stands for.
     pub(crate) fn slot(&self, alloc: Global, node: &Node<'a>) -> Result<Slot<Term>, AllocError>
-        ensures { IfOk result (λ slot. slot ≡ slot_of self.now.prefixes.now self.now.variables.now self.now.labels.now node.now) }
+        ensures { IfOk result (λ slot. slot ≡ slot_of self.now.prefixes.now self.now.variables.now
+            self.now.labels.now node.now) }
     {
         match node {
             Node::Variable(name) => Ok(Slot::Variable(self.variables.number(name))),
@@ -49,7 +51,8 @@ impl<'s, 'a> Scope<'s, 'a> {
         with: &Option<Name<'a>>,
         graph: &Option<Node<'a>>,
     ) -> Result<Option<Slot<Term>>, AllocError>
-        ensures { IfOk result (λ slot. slot ≡ graph_of self.now.prefixes.now self.now.variables.now self.now.labels.now with.now graph.now) }
+        ensures { IfOk result (λ slot. slot ≡ graph_of self.now.prefixes.now self.now.variables.now
+            self.now.labels.now with.now graph.now) }
     {
         match graph {
             Some(node) => Ok(Some(self.slot(alloc, node)?)),

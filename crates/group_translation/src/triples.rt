@@ -18,7 +18,9 @@ fn pattern_of<'a>(
     verb: &Node<'a>,
     object: &Node<'a>,
 ) -> Result<TriplePattern<Term>, AllocError>
-    ensures { IfOk result (λ pattern. pattern ≡ pattern_of scope.now.prefixes.now scope.now.variables.now subject.now verb.now object.now) }
+    ensures { IfOk result (λ pattern. pattern
+        ≡ pattern_of scope.now.prefixes.now scope.now.variables.now subject.now verb.now
+        object.now) }
 {
     Ok(TriplePattern {
         subject: scope.place(alloc, subject)?,
@@ -34,7 +36,9 @@ fn add_property_patterns<'a>(
     subject: &Node<'a>,
     property: &Property<'a>,
 ) -> Result<(), AllocError>
-    ensures { OnOk result (found.new ≡ found.old ++ of_property (pattern_of scope.now.prefixes.now scope.now.variables.now) subject.now property.now) }
+    ensures { OnOk result (found.new ≡ found.old
+        ++ of_property (pattern_of scope.now.prefixes.now scope.now.variables.now) subject.now
+        property.now) }
 {
     for object in property.objects.as_slice() {
         found.push(pattern_of(alloc, scope, subject, &property.verb, object)?)?;
@@ -48,7 +52,8 @@ fn add_subject_patterns<'a>(
     found: &mut Items<TriplePattern<Term>>,
     same: &SameSubject<'a>,
 ) -> Result<(), AllocError>
-    ensures { OnOk result (found.new ≡ found.old ++ of_subject (pattern_of scope.now.prefixes.now scope.now.variables.now) same.now) }
+    ensures { OnOk result (found.new ≡ found.old
+        ++ of_subject (pattern_of scope.now.prefixes.now scope.now.variables.now) same.now) }
 {
     for property in same.properties.as_slice() {
         add_property_patterns(alloc, scope, found, &same.subject, property)?;
@@ -62,7 +67,8 @@ pub(crate) fn patterns_of<'a>(
     scope: &Scope<'_, 'a>,
     triples: &[SameSubject<'a>],
 ) -> Result<Items<TriplePattern<Term>>, AllocError>
-    ensures { IfOk result (λ found. found ≡ patterns_of scope.now.prefixes.now scope.now.variables.now triples.now) }
+    ensures { IfOk result (λ found. found ≡ patterns_of scope.now.prefixes.now
+        scope.now.variables.now triples.now) }
 {
     let mut found = Items::new(alloc);
     for same in triples {
@@ -88,7 +94,11 @@ fn quad_of<'a>(
     verb: &Node<'a>,
     object: &Node<'a>,
 ) -> Result<QuadTemplate<Term>, AllocError>
-    ensures { IfOk result (λ quad. quad ≡ quad_of within.now.scope.now.prefixes.now within.now.scope.now.variables.now within.now.scope.now.labels.now (graph_of within.now.scope.now.prefixes.now within.now.scope.now.variables.now within.now.scope.now.labels.now within.now.with.now within.now.graph.now) subject.now verb.now object.now) }
+    ensures { IfOk result (λ quad. quad ≡ quad_of within.now.scope.now.prefixes.now
+        within.now.scope.now.variables.now within.now.scope.now.labels.now
+        (graph_of within.now.scope.now.prefixes.now within.now.scope.now.variables.now
+        within.now.scope.now.labels.now within.now.with.now within.now.graph.now) subject.now
+        verb.now object.now) }
 {
     Ok(QuadTemplate {
         subject: within.scope.slot(alloc, subject)?,
@@ -105,7 +115,11 @@ fn add_property_quads<'a>(
     subject: &Node<'a>,
     property: &Property<'a>,
 ) -> Result<(), AllocError>
-    ensures { OnOk result (found.new ≡ found.old ++ of_property (quad_of within.now.scope.now.prefixes.now within.now.scope.now.variables.now within.now.scope.now.labels.now (graph_of within.now.scope.now.prefixes.now within.now.scope.now.variables.now within.now.scope.now.labels.now within.now.with.now within.now.graph.now)) subject.now property.now) }
+    ensures { OnOk result (found.new ≡ found.old
+        ++ of_property (quad_of within.now.scope.now.prefixes.now within.now.scope.now.variables.now
+        within.now.scope.now.labels.now (graph_of within.now.scope.now.prefixes.now
+        within.now.scope.now.variables.now within.now.scope.now.labels.now within.now.with.now
+        within.now.graph.now)) subject.now property.now) }
 {
     for object in property.objects.as_slice() {
         found.push(quad_of(alloc, within, subject, &property.verb, object)?)?;
@@ -119,7 +133,11 @@ fn add_subject_quads<'a>(
     found: &mut Items<QuadTemplate<Term>>,
     same: &SameSubject<'a>,
 ) -> Result<(), AllocError>
-    ensures { OnOk result (found.new ≡ found.old ++ of_subject (quad_of within.now.scope.now.prefixes.now within.now.scope.now.variables.now within.now.scope.now.labels.now (graph_of within.now.scope.now.prefixes.now within.now.scope.now.variables.now within.now.scope.now.labels.now within.now.with.now within.now.graph.now)) same.now) }
+    ensures { OnOk result (found.new ≡ found.old
+        ++ of_subject (quad_of within.now.scope.now.prefixes.now within.now.scope.now.variables.now
+        within.now.scope.now.labels.now (graph_of within.now.scope.now.prefixes.now
+        within.now.scope.now.variables.now within.now.scope.now.labels.now within.now.with.now
+        within.now.graph.now)) same.now) }
 {
     for property in same.properties.as_slice() {
         add_property_quads(alloc, within, found, &same.subject, property)?;
@@ -133,7 +151,11 @@ fn add_quads<'a>(
     found: &mut Items<QuadTemplate<Term>>,
     triples: &[SameSubject<'a>],
 ) -> Result<(), AllocError>
-    ensures { OnOk result (found.new ≡ found.old ++ of_triples (quad_of within.now.scope.now.prefixes.now within.now.scope.now.variables.now within.now.scope.now.labels.now (graph_of within.now.scope.now.prefixes.now within.now.scope.now.variables.now within.now.scope.now.labels.now within.now.with.now within.now.graph.now)) triples.now) }
+    ensures { OnOk result (found.new ≡ found.old
+        ++ of_triples (quad_of within.now.scope.now.prefixes.now within.now.scope.now.variables.now
+        within.now.scope.now.labels.now (graph_of within.now.scope.now.prefixes.now
+        within.now.scope.now.variables.now within.now.scope.now.labels.now within.now.with.now
+        within.now.graph.now)) triples.now) }
 {
     for same in triples {
         add_subject_quads(alloc, within, found, same)?;
@@ -148,7 +170,9 @@ fn add_block_quads<'a>(
     found: &mut Items<QuadTemplate<Term>>,
     block: &Block<'a>,
 ) -> Result<(), AllocError>
-    ensures { OnOk result (found.new ≡ found.old ++ quads_of_block scope.now.prefixes.now scope.now.variables.now scope.now.labels.now with.now block.now) }
+    ensures { OnOk result (found.new ≡ found.old
+        ++ quads_of_block scope.now.prefixes.now scope.now.variables.now scope.now.labels.now
+        with.now block.now) }
 {
     let within = Within {
         scope,
@@ -166,7 +190,8 @@ pub fn template_of<'a>(
     with: &Option<Name<'a>>,
     blocks: &[Block<'a>],
 ) -> Result<Items<QuadTemplate<Term>>, AllocError>
-    ensures { IfOk result (λ found. found ≡ template_of scope.now.prefixes.now scope.now.variables.now scope.now.labels.now with.now blocks.now) }
+    ensures { IfOk result (λ found. found ≡ template_of scope.now.prefixes.now
+        scope.now.variables.now scope.now.labels.now with.now blocks.now) }
 {
     let mut found = Items::new(alloc);
     for block in blocks {

@@ -142,9 +142,6 @@ module _ (b : Below) (a : BelowAgain) where
     unfolding braces_with parts_with
     braces_again takes _ _ _ (braces {ts} {r} {rest} xs ps f m) = rw (front_again f (parts_follow n I opens m), items_again takes m (length r) (omega arith)) refl
 
-    braces_open : Opens (ReadsBraces n I)
-    braces_open _ _ _ (braces {ts} xs ps f m) = (ts, refl)
-
   -- ---- groups
 
   group_opens : (n : ℕ) → Opens (ReadsGroup n)

@@ -53,9 +53,6 @@ module _ (item : Reader (List Part)) where
   unrolled : Shrinks item → (ts : List Token) → items item ts ≡ items_from item (suc (length ts)) ts
   unrolled shrinks ts = items_enough shrinks (length ts) (suc (length ts)) ts (omega arith) (omega arith)
 
-  pub items_end : Shrinks item → (ts rest : List Token) → sign_at signs.CloseBrace ts ≡ Some rest → items item ts ≡ Some ([], rest)
-  items_end shrinks ts rest close = unrolled shrinks ts ∙ ap (λ (o : Option (List Token)). option_map_or ended o (item ts >>= turn (length ts))) close
-
   pub items_stuck : Shrinks item → (ts : List Token) → sign_at signs.CloseBrace ts ≡ None → item ts ≡ None → items item ts ≡ None
   items_stuck shrinks ts unclosed none = unrolled shrinks ts ∙ ap (λ (o : Option (List Token)). option_map_or ended o (item ts >>= turn (length ts))) unclosed ∙ ap (λ (o : Option (List Part × List Token)). o >>= turn (length ts)) none
 

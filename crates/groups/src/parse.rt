@@ -28,7 +28,8 @@ fn union_link<'t, 'a>(tokens: &'t [Token<'a>]) -> (bool, &'t [Token<'a>])
 
 #[tactic(auto, using(crate::proofs::TreeLaws::union_lists))]
 fn union_of<'a>(groups: Vec<Vec<Element<'a>>>) -> Element<'a>
-    ensures { part_of result ≡ parts.Union (parts.groups (map parts.group (lists_of groups.entry.items))) }
+    ensures { part_of result ≡ parts.Union (parts.groups
+        (map parts.group (lists_of groups.entry.items))) }
 {
     Element::Union(groups)
 }
@@ -94,7 +95,8 @@ fn groups_at<'t, 'a>(
     depth: usize,
     tokens: &'t [Token<'a>],
 ) -> Result<(Vec<Vec<Element<'a>>>, &'t [Token<'a>]), Stop>
-    ensures { Gives (λ x. (lists_of x.0.items, x.1.now)) result (many (group_at depth) union_link tokens.now) }
+    ensures { Gives (λ x. (lists_of x.0.items, x.1.now)) result
+        (many (group_at depth) union_link tokens.now) }
 {
     readings_shrink();
     let mut found = Vec::new(alloc);
@@ -130,7 +132,8 @@ fn optional_at<'t, 'a>(
     depth: usize,
     tokens: &'t [Token<'a>],
 ) -> Result<(Element<'a>, &'t [Token<'a>]), Stop>
-    ensures { Gives (λ x. (part_of x.0, x.1.now)) result (optional_with (group_at depth) tokens.now) }
+    ensures { Gives (λ x. (part_of x.0, x.1.now)) result
+        (optional_with (group_at depth) tokens.now) }
 {
     let (group, rest) = group_at(alloc, depth, tokens)?;
     Ok((optional_of(group), rest))
@@ -172,7 +175,8 @@ fn part_at<'t, 'a>(
     depth: usize,
     tokens: &'t [Token<'a>],
 ) -> Result<(Element<'a>, &'t [Token<'a>]), Stop>
-    ensures { Gives (λ x. (part_of x.0, x.1.now)) result (part_with depth (group_at depth) tokens.now) }
+    ensures { Gives (λ x. (part_of x.0, x.1.now)) result
+        (part_with depth (group_at depth) tokens.now) }
 {
     if let Some(rest) = after_keyword(b"OPTIONAL", tokens) {
         return optional_at(alloc, depth, rest);
@@ -196,7 +200,8 @@ fn parts_at<'t, 'a>(
     depth: usize,
     tokens: &'t [Token<'a>],
 ) -> Result<(Vec<Element<'a>>, &'t [Token<'a>]), Stop>
-    ensures { Gives (λ x. (parts_of x.0.items, x.1.now)) result (parts_with depth (group_at depth) tokens.now) }
+    ensures { Gives (λ x. (parts_of x.0.items, x.1.now)) result
+        (parts_with depth (group_at depth) tokens.now) }
 {
     readings_shrink();
     let mut found = Vec::new(alloc);
@@ -220,7 +225,8 @@ fn braces_at<'t, 'a>(
     depth: usize,
     tokens: &'t [Token<'a>],
 ) -> Result<(Vec<Element<'a>>, &'t [Token<'a>]), Stop>
-    ensures { Gives (λ x. (parts_of x.0.items, x.1.now)) result (braces_with depth (group_at depth) tokens.now) }
+    ensures { Gives (λ x. (parts_of x.0.items, x.1.now)) result
+        (braces_with depth (group_at depth) tokens.now) }
 {
     let Some(inside) = after_sign(Sign::OpenBrace, tokens) else {
         return Err(Stop::NoReading);

@@ -36,7 +36,8 @@ fn push_unlabelled<'t, 'a>(
     found: &mut Vec<Element<'a>>,
     tokens: &'t [Token<'a>],
 ) -> Result<&'t [Token<'a>], Stop>
-    ensures { Gives (λ rest. (parts_of found.new.items, rest.now)) result (behind (parts_of found.old.items) (unlabelled_at tokens.now)) }
+    ensures { Gives (λ rest. (parts_of found.new.items, rest.now)) result
+        (behind (parts_of found.old.items) (unlabelled_at tokens.now)) }
 {
     let (triples, rest) = triples_at(alloc, tokens)?;
     if !are_unlabelled(triples.as_slice()) {
@@ -53,7 +54,8 @@ pub fn push_front<'t, 'a>(
     found: &mut Vec<Element<'a>>,
     tokens: &'t [Token<'a>],
 ) -> Result<&'t [Token<'a>], Stop>
-    ensures { Gives (λ rest. (parts_of found.new.items, rest.now)) result (behind (parts_of found.old.items) (front_at tokens.now)) }
+    ensures { Gives (λ rest. (parts_of found.new.items, rest.now)) result
+        (behind (parts_of found.old.items) (front_at tokens.now)) }
 {
     if begins_node(tokens) {
         push_unlabelled(alloc, found, tokens)

@@ -76,7 +76,8 @@ pub fn is_iri(text: &[u8]) -> bool
 impl Iri {
     /// The IRI of a text, if it is one.
     pub fn check(alloc: Global, text: &str) -> Result<Option<Iri>, AllocError>
-        ensures { IfOk result (λ found. MatchOption found (is_iri text.now ≡ false) (λ iri. (iri ≡ text.now) × IsIri text.now)) }
+        ensures { IfOk result (λ found. MatchOption found (is_iri text.now ≡ false)
+            (λ iri. (iri ≡ text.now) × IsIri text.now)) }
     {
         if !is_iri(text.as_bytes()) {
             return Ok(None);

@@ -5,7 +5,8 @@ ghost use Rattle.std.specs.Str.{is_utf8};
 /// The bytes as a text, if they are UTF-8.
 #[tactic(auto, using(crate::proofs::TextLaws::text_laws))]
 fn text_of(bytes: &[u8]) -> Option<&str>
-    ensures { MatchOption result (is_utf8 bytes.now ≡ false) (λ s. (s.now ≡ bytes.now) × (is_utf8 bytes.now ≡ true)) }
+    ensures { MatchOption result (is_utf8 bytes.now ≡ false)
+        (λ s. (s.now ≡ bytes.now) × (is_utf8 bytes.now ≡ true)) }
 {
     match str::from_utf8(bytes) {
         Ok(text) => Some(text),

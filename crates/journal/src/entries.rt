@@ -14,7 +14,8 @@ use std::alloc::Global;
 /// An event of a request alone, by its word.
 fn event_of(verb: &str, request: usize) -> Option<Event>
     requires { IsRequest request }
-    ensures read { MatchOption result (event_of verb.now request ≡ None) (λ e. event_of verb.now request ≡ Some e) }
+    ensures read { MatchOption result (event_of verb.now request ≡ None)
+        (λ e. event_of verb.now request ≡ Some e) }
     ensures form { IfSome result (λ e. (mark : List ℕ) → IsEvent mark e) }
 {
     if verb == "take" {
@@ -29,7 +30,8 @@ fn event_of(verb: &str, request: usize) -> Option<Event>
 /// An event of a request and its incarnation, by its word.
 fn numbered_event_of(verb: &str, request: usize, incarnation: u64) -> Option<Event>
     requires { IsRequest request }
-    ensures read { MatchOption result (numbered_event_of verb.now request incarnation ≡ None) (λ e. numbered_event_of verb.now request incarnation ≡ Some e) }
+    ensures read { MatchOption result (numbered_event_of verb.now request incarnation ≡ None)
+        (λ e. numbered_event_of verb.now request incarnation ≡ Some e) }
     ensures form { IfSome result (λ e. (mark : List ℕ) → IsEvent mark e) }
 {
     if verb == "publish" {
@@ -56,7 +58,8 @@ fn numbered_event_at<'a>(
     text: &'a str,
 ) -> Result<(Event, &'a str), Stop>
     requires { IsRequest request }
-    ensures read { Gives (λ x. (x.0, x.1.now)) result (numbered_event_at mark.now verb.now request text.entry.now) }
+    ensures read { Gives (λ x. (x.0, x.1.now)) result
+        (numbered_event_at mark.now verb.now request text.entry.now) }
     ensures form { IfOk result (λ x. IsEvent mark.now x.0) }
 {
     let (digits, rest) = first_word(text);

@@ -13,7 +13,8 @@ use nquads_laws::{terms_are_read, terms_end_no_line};
 
 /// A line is read from its text.
 pub fn lines_are_read()
-    ensures { (tag : ℕ) (l : Line) → IsLine (mark_of tag) l → line_of (mark_of tag) (line_body tag l) ≡ Some l }
+    ensures { (tag : ℕ) (l : Line) → IsLine (mark_of tag) l
+        → line_of (mark_of tag) (line_body tag l) ≡ Some l }
 {
     runs_are_longest();
     terms_are_read();
@@ -22,8 +23,10 @@ pub fn lines_are_read()
 
 /// An entry is read at the front of a text exactly where a line's text stands there.
 pub fn entries_are_lines()
-    ensures found { (tag : ℕ) (text rest : List ℕ) (l : Line) → entry_at tag (mark_of tag) text ≡ Some (l, rest) → text ≡ line_text tag l ++ rest }
-    ensures again { (tag : ℕ) (rest : List ℕ) (l : Line) → IsLine (mark_of tag) l → entry_at tag (mark_of tag) (line_text tag l ++ rest) ≡ Some (l, rest) }
+    ensures found { (tag : ℕ) (text rest : List ℕ) (l : Line)
+        → entry_at tag (mark_of tag) text ≡ Some (l, rest) → text ≡ line_text tag l ++ rest }
+    ensures again { (tag : ℕ) (rest : List ℕ) (l : Line) → IsLine (mark_of tag) l
+        → entry_at tag (mark_of tag) (line_text tag l ++ rest) ≡ Some (l, rest) }
 {
     runs_are_longest();
     terms_end_no_line();
@@ -32,8 +35,10 @@ pub fn entries_are_lines()
 
 /// Bytes are the text of one list of lines, and of none where an entry is bad.
 pub fn one_journal()
-    ensures one { (tag : ℕ) (bytes : List ℕ) (a b : List Line) → IsJournal tag bytes a → IsJournal tag bytes b → a ≡ b }
-    ensures none { (tag : ℕ) (bytes : List ℕ) (n : ℕ) (a : List Line) → IsFirstBad tag bytes n → IsJournal tag bytes a → ⊥ }
+    ensures one { (tag : ℕ) (bytes : List ℕ) (a b : List Line) → IsJournal tag bytes a
+        → IsJournal tag bytes b → a ≡ b }
+    ensures none { (tag : ℕ) (bytes : List ℕ) (n : ℕ) (a : List Line) → IsFirstBad tag bytes n
+        → IsJournal tag bytes a → ⊥ }
 {
     entries_are_lines();
 }

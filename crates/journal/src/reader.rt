@@ -37,7 +37,8 @@ fn line_len(text: &[u8]) -> usize
 
 /// What follows an LF.
 fn after_lf(text: &[u8]) -> Option<&[u8]>
-    ensures { MatchOption result (after_lf text.now ≡ None) (λ rest. after_lf text.now ≡ Some rest.now) }
+    ensures { MatchOption result (after_lf text.now ≡ None)
+        (λ rest. after_lf text.now ≡ Some rest.now) }
 {
     match text {
         [b'\n', rest @ ..] => Some(rest),
@@ -111,7 +112,8 @@ fn next_entry<'a>(
 fn read_lines(alloc: Global, tag: u32, mark: &[u8], text: &[u8]) -> Result<Vec<Line>, JournalFault>
     requires { mark.now ≡ mark_of tag }
     ensures lines { IfOk result (λ v. IsJournal tag (first_line ++ text.now) v.items) }
-    ensures bad { (n : ℕ) → IsErrOf result (JournalFault.BadEntry n) → IsBadBehind tag (first_line ++ text.now) n }
+    ensures bad { (n : ℕ) → IsErrOf result (JournalFault.BadEntry n)
+        → IsBadBehind tag (first_line ++ text.now) n }
     ensures legal { (n : ℕ) → IsErrOf result (JournalFault.Illegal n) → ⊥ }
 {
     let mut lines = Vec::new(alloc);
@@ -131,7 +133,9 @@ fn read_lines(alloc: Global, tag: u32, mark: &[u8], text: &[u8]) -> Result<Vec<L
 
 /// What follows the first line of a journal.
 fn after_first_line(bytes: &[u8]) -> Option<&[u8]>
-    ensures { MatchOption result (starts_with nat_eq bytes.now first_line ≡ false) (λ rest. (starts_with nat_eq bytes.now first_line ≡ true) × (rest.now ≡ drop (length first_line) bytes.now)) }
+    ensures { MatchOption result (starts_with nat_eq bytes.now first_line ≡ false)
+        (λ rest. (starts_with nat_eq bytes.now first_line ≡ true)
+        × (rest.now ≡ drop (length first_line) bytes.now)) }
 {
     if !bytes.starts_with(FIRST_LINE) {
         return None;
@@ -158,7 +162,8 @@ pub fn read_journal(alloc: Global, bytes: &[u8], tag: u32) -> Result<Vec<Line>, 
     ensures bad { (n : ℕ) → IsErrOf result (JournalFault.BadEntry n) → IsFirstBad tag bytes.now n }
     ensures legal { (n : ℕ) → IsErrOf result (JournalFault.Illegal n) → ⊥ }
     // What is a journal is read, unless memory runs out.
-    ensures only { (lines : List Line) → IsJournal tag bytes.now lines → MatchResult result (λ v. v.items ≡ lines) (λ e. e ≡ JournalFault.OutOfMemory) }
+    ensures only { (lines : List Line) → IsJournal tag bytes.now lines
+        → MatchResult result (λ v. v.items ≡ lines) (λ e. e ≡ JournalFault.OutOfMemory) }
 {
     one_journal();
     read_bytes(alloc, bytes, tag)

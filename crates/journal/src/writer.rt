@@ -86,7 +86,8 @@ fn push_scan(
     pattern: &QuadPattern<Term>,
     tag: u32,
 ) -> Result<(), AllocError>
-    ensures { OnOk result (text.new.items ≡ text.old.items ++ flat_map spaced (read_words tag (Read.Scan pattern.now))) }
+    ensures { OnOk result (text.new.items ≡ text.old.items
+        ++ flat_map spaced (read_words tag (Read.Scan pattern.now))) }
 {
     push_word(text, b"scan")?;
     push_place(alloc, text, &pattern.subject, tag)?;
@@ -101,7 +102,8 @@ fn push_read(
     read: &Read<Term>,
     tag: u32,
 ) -> Result<(), AllocError>
-    ensures { OnOk result (text.new.items ≡ text.old.items ++ flat_map spaced (read_words tag read.now)) }
+    ensures { OnOk result (text.new.items ≡ text.old.items
+        ++ flat_map spaced (read_words tag read.now)) }
 {
     match read {
         Read::Scan(pattern) => push_scan(alloc, text, pattern, tag),
@@ -115,7 +117,8 @@ fn push_read(
 
 /// Adds the word of an event and its request.
 fn push_verb(text: &mut Vec<u8>, verb: &[u8], request: usize) -> Result<(), AllocError>
-    ensures { OnOk result (text.new.items ≡ text.old.items ++ flat_map spaced (verb.now ∷ request_word request ∷ [])) }
+    ensures { OnOk result (text.new.items ≡ text.old.items
+        ++ flat_map spaced (verb.now ∷ request_word request ∷ [])) }
 {
     push_word(text, verb)?;
     push_request(text, request)
@@ -128,14 +131,16 @@ fn push_numbered(
     request: usize,
     incarnation: u64,
 ) -> Result<(), AllocError>
-    ensures { OnOk result (text.new.items ≡ text.old.items ++ flat_map spaced (verb.now ∷ request_word request ∷ decimal incarnation ∷ [])) }
+    ensures { OnOk result (text.new.items ≡ text.old.items
+        ++ flat_map spaced (verb.now ∷ request_word request ∷ decimal incarnation ∷ [])) }
 {
     push_verb(text, verb, request)?;
     push_number(text, incarnation)
 }
 
 fn push_event(alloc: Global, text: &mut Vec<u8>, event: &Event, tag: u32) -> Result<(), AllocError>
-    ensures { OnOk result (text.new.items ≡ text.old.items ++ flat_map spaced (event_words tag event.now)) }
+    ensures { OnOk result (text.new.items ≡ text.old.items
+        ++ flat_map spaced (event_words tag event.now)) }
 {
     match event {
         Event::Take(request) => push_verb(text, b"take", *request),

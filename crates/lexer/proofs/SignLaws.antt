@@ -22,9 +22,6 @@ pub record At (o : Option (Token × List ℕ)) (r : List ℕ) (u : Token) : Type
 pub exactly : (o : Option (Token × List ℕ)) (r : List ℕ) (u : Token) → o ≡ Some (u, r) → At o r u
 exactly o r u e = record { t = u; rest = r; found = e; less = omega arith; same = λ e. refl }
 
-pub at_same : {o p : Option (Token × List ℕ)} {r : List ℕ} {u : Token} → o ≡ p → At p r u → At o r u
-at_same {o} {p} {r} {u} e at = subst (λ o. At o r u) (sym e) at
-
 -- ---- the tables
 
 one_found : (b : ℕ) (s : Sign) → one_of b ≡ Some s → sign_text s ≡ b ∷ []
@@ -65,28 +62,6 @@ two_found b c s e =
 pub data HasBytes (s : Sign) : Type 0 where
   one : (b : ℕ) → sign_text s ≡ b ∷ [] → one_of b ≡ Some s → HasBytes s
   two : (b c : ℕ) → sign_text s ≡ b ∷ c ∷ [] → two_of b c ≡ Some s → HasBytes s
-
-pub has_bytes : (s : Sign) → HasBytes s
-has_bytes signs.OpenBrace = one 123 refl refl
-has_bytes signs.CloseBrace = one 125 refl refl
-has_bytes signs.OpenParen = one 40 refl refl
-has_bytes signs.CloseParen = one 41 refl refl
-has_bytes signs.Dot = one 46 refl refl
-has_bytes signs.Semicolon = one 59 refl refl
-has_bytes signs.Comma = one 44 refl refl
-has_bytes signs.Carets = two 94 94 refl refl
-has_bytes signs.Equal = one 61 refl refl
-has_bytes signs.NotEqual = two 33 61 refl refl
-has_bytes signs.Less = one 60 refl refl
-has_bytes signs.Greater = one 62 refl refl
-has_bytes signs.LessEqual = two 60 61 refl refl
-has_bytes signs.GreaterEqual = two 62 61 refl refl
-has_bytes signs.Ampersands = two 38 38 refl refl
-has_bytes signs.Bars = two 124 124 refl refl
-has_bytes signs.Bang = one 33 refl refl
-has_bytes signs.Plus = one 43 refl refl
-has_bytes signs.Minus = one 45 refl refl
-has_bytes signs.Star = one 42 refl refl
 
 -- ---- what is read is a sign
 

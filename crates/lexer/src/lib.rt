@@ -15,6 +15,9 @@ mod tags;
 mod token;
 
 pub use cut::tokens;
-pub use pieces::{Digits, IriText, Label, LocalPart, Piece, Quoted, Tag};
+pub use pieces::{
+    AnyForm, Digits, DigitsForm, Form, FormedPiece, IriForm, IriText, Label, LabelForm, LocalForm,
+    LocalPart, Piece, Quoted, Tag,
+};
 pub use stop::Stop;
 pub use token::{Sign, Token};

@@ -8,7 +8,7 @@ ghost use Rattle.lexer.specs.Strings.{IsEscaped, unescaped};
 
 use crate::strings::unescaped;
 use std::alloc::{AllocError, Global};
-use std::marker::Model;
+use std::marker::{Model, PhantomData};
 
 /// The text of these bytes. It takes no memory.
 fn text_of(bytes: Vec<u8>) -> String
@@ -21,213 +21,111 @@ fn text_of(bytes: Vec<u8>) -> String
     }
 }
 
-/// A part of a request's text. Contracts see its bytes.
-#[derive(Drop)]
-pub struct Piece<'a> {
-    text: &'a [u8],
-}
-
-impl<'a> Model for Piece<'a> {
+/// What a kind of text is made of.
+pub trait Form {
     ghost use Rattle.std.specs.Prelude.{List, ℕ};
 
-    ghost Value = { List ℕ };
-
-    ghost view = { λ p. p.text.now };
+    /// Holds of the bytes of such a text.
+    ghost has: { List ℕ → Type 0 };
 }
 
-impl<'a> Piece<'a> {
-    /// The piece that is these bytes. It takes no memory.
-    pub fn new(text: &'a [u8]) -> Piece<'a>
-        ensures { result ≡ text.entry.now }
-    {
-        Piece { text }
-    }
+/// Any bytes.
+pub struct AnyForm;
 
-    /// Its bytes.
-    pub fn as_bytes(&self) -> &'a [u8]
-        ensures { result.now ≡ self.now }
-    {
-        self.text
-    }
-
-    /// The same piece again. It takes no memory.
-    pub fn again(&self) -> Piece<'a>
-        ensures { result ≡ self.now }
-    {
-        Piece { text: self.text }
-    }
+impl Form for AnyForm {
+    ghost has = { λ _. Unit {0} };
 }
 
-/// The text of an IRI, without its angle brackets (SPARQL 1.1 Query, 19.8, production 139). Contracts see its bytes, and they are an IRI.
+/// The text of an IRI, without its angle brackets (SPARQL 1.1 Query, 19.8, production 139).
+pub struct IriForm;
+
+impl Form for IriForm {
+    ghost has = { IsIri };
+}
+
+/// The local part of a prefixed name (SPARQL 1.1 Query, 19.8, production 141).
+pub struct LocalForm;
+
+impl Form for LocalForm {
+    ghost has = { IsLocal };
+}
+
+/// A blank node label, without its `_:` (SPARQL 1.1 Query, 19.8, production 142, in this profile).
+pub struct LabelForm;
+
+impl Form for LabelForm {
+    ghost has = { λ bytes. is_label bytes ≡ true };
+}
+
+/// The digits of an integer (SPARQL 1.1 Query, 19.8, production 146), of which there is one or more.
+pub struct DigitsForm;
+
+impl Form for DigitsForm {
+    ghost has = { AreDigits };
+}
+
+/// A part of a request's text that has some form. Contracts see its bytes.
 #[derive(Drop)]
-pub struct IriText<'a> {
+pub struct FormedPiece<'a, F: Form> {
     bytes: &'a [u8],
+    form: PhantomData<F>,
 }
 
-impl<'a> Model for IriText<'a> {
+impl<'a, F: Form> Model for FormedPiece<'a, F> {
     ghost use Rattle.std.specs.Prelude.{List, ℕ};
-    ghost use Rattle.iris.specs.Iri.{IsIri};
 
     ghost Value = { List ℕ };
 
-    ghost view = { λ i. i.bytes.now };
+    ghost view = { λ p. p.bytes.now };
 
-    ghost invariant = { λ i. IsIri i.bytes.now };
+    ghost invariant = { λ p. F.has p.bytes.now };
 }
 
-impl<'a> IriText<'a> {
-    /// The IRI that is these bytes. It takes no memory.
-    pub(crate) fn new(bytes: &'a [u8]) -> IriText<'a>
-        requires { IsIri bytes.now }
+impl<'a, F: Form> FormedPiece<'a, F> {
+    /// The piece that is these bytes. It takes no memory.
+    pub(crate) fn new(bytes: &'a [u8]) -> FormedPiece<'a, F>
+        requires { F.has bytes.now }
         ensures { result ≡ bytes.entry.now }
     {
-        IriText { bytes }
+        FormedPiece {
+            bytes,
+            form: PhantomData,
+        }
     }
 
     /// Its bytes.
     pub fn as_bytes(&self) -> &'a [u8]
         ensures bytes { result.now ≡ self.now }
-        ensures form { IsIri self.now }
+        ensures form { F.has self.now }
     {
         self.bytes
     }
 
-    /// The same IRI again. It takes no memory.
-    pub fn again(&self) -> IriText<'a>
+    /// The same piece again. It takes no memory.
+    pub fn again(&self) -> FormedPiece<'a, F>
         ensures { result ≡ self.now }
     {
-        IriText { bytes: self.bytes }
-    }
-}
-
-/// The local part of a prefixed name (SPARQL 1.1 Query, 19.8, production 141). Contracts see its bytes, and they are a local part.
-#[derive(Drop)]
-pub struct LocalPart<'a> {
-    name: &'a [u8],
-}
-
-impl<'a> Model for LocalPart<'a> {
-    ghost use Rattle.std.specs.Prelude.{List, ℕ};
-    ghost use Rattle.lexer.specs.Names.{IsLocal};
-
-    ghost Value = { List ℕ };
-
-    ghost view = { λ l. l.name.now };
-
-    ghost invariant = { λ l. IsLocal l.name.now };
-}
-
-impl<'a> LocalPart<'a> {
-    /// The local part that is these bytes. It takes no memory.
-    pub(crate) fn new(name: &'a [u8]) -> LocalPart<'a>
-        requires { IsLocal name.now }
-        ensures { result ≡ name.entry.now }
-    {
-        LocalPart { name }
-    }
-
-    /// Its bytes.
-    pub fn as_bytes(&self) -> &'a [u8]
-        ensures bytes { result.now ≡ self.now }
-        ensures form { IsLocal self.now }
-    {
-        self.name
-    }
-
-    /// The same local part again. It takes no memory.
-    pub fn again(&self) -> LocalPart<'a>
-        ensures { result ≡ self.now }
-    {
-        LocalPart { name: self.name }
-    }
-}
-
-/// A blank node label, without its `_:` (SPARQL 1.1 Query, 19.8, production 142, in this profile). Contracts see its bytes, and they are a
-/// label.
-#[derive(Drop)]
-pub struct Label<'a> {
-    label: &'a [u8],
-}
-
-impl<'a> Model for Label<'a> {
-    ghost use Rattle.std.specs.Prelude.{◌≡◌, List, ℕ, true};
-    ghost use Rattle.iris.specs.Forms.{is_label};
-
-    ghost Value = { List ℕ };
-
-    ghost view = { λ l. l.label.now };
-
-    ghost invariant = { λ l. is_label l.label.now ≡ true };
-}
-
-impl<'a> Label<'a> {
-    /// The label that is these bytes. It takes no memory.
-    pub(crate) fn new(label: &'a [u8]) -> Label<'a>
-        requires { is_label label.now ≡ true }
-        ensures { result ≡ label.entry.now }
-    {
-        Label { label }
-    }
-
-    /// Its bytes.
-    pub fn as_bytes(&self) -> &'a [u8]
-        ensures bytes { result.now ≡ self.now }
-        ensures form { is_label self.now ≡ true }
-    {
-        self.label
-    }
-
-    /// The same label again. It takes no memory.
-    pub fn again(&self) -> Label<'a>
-        ensures { result ≡ self.now }
-    {
-        Label { label: self.label }
-    }
-}
-
-/// The digits of an integer (SPARQL 1.1 Query, 19.8, production 146). Contracts see their bytes, of which there is one or more.
-#[derive(Drop)]
-pub struct Digits<'a> {
-    digits: &'a [u8],
-}
-
-impl<'a> Model for Digits<'a> {
-    ghost use Rattle.std.specs.Prelude.{List, ℕ};
-    ghost use Rattle.lexer.specs.Names.{AreDigits};
-
-    ghost Value = { List ℕ };
-
-    ghost view = { λ d. d.digits.now };
-
-    ghost invariant = { λ d. AreDigits d.digits.now };
-}
-
-impl<'a> Digits<'a> {
-    /// The digits that are these bytes. It takes no memory.
-    pub(crate) fn new(digits: &'a [u8]) -> Digits<'a>
-        requires { AreDigits digits.now }
-        ensures { result ≡ digits.entry.now }
-    {
-        Digits { digits }
-    }
-
-    /// Their bytes.
-    pub fn as_bytes(&self) -> &'a [u8]
-        ensures bytes { result.now ≡ self.now }
-        ensures form { AreDigits self.now }
-    {
-        self.digits
-    }
-
-    /// The same digits again. It takes no memory.
-    pub fn again(&self) -> Digits<'a>
-        ensures { result ≡ self.now }
-    {
-        Digits {
-            digits: self.digits,
+        FormedPiece {
+            bytes: self.bytes,
+            form: PhantomData,
         }
     }
 }
+
+/// A part of a request's text.
+pub type Piece<'a> = FormedPiece<'a, AnyForm>;
+
+/// The text of an IRI, without its angle brackets.
+pub type IriText<'a> = FormedPiece<'a, IriForm>;
+
+/// The local part of a prefixed name.
+pub type LocalPart<'a> = FormedPiece<'a, LocalForm>;
+
+/// A blank node label, without its `_:`.
+pub type Label<'a> = FormedPiece<'a, LabelForm>;
+
+/// The digits of an integer.
+pub type Digits<'a> = FormedPiece<'a, DigitsForm>;
 
 /// A language tag, without its `@` (SPARQL 1.1 Query, 19.8, production 145). Contracts see its bytes in lower case, and they are a tag.
 #[derive(Drop)]

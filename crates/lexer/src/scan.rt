@@ -57,7 +57,8 @@ fn local_at(text: &[u8]) -> (&[u8], &[u8])
 /// The prefixed name of this prefix, where a colon follows it.
 #[tactic(auto, unfolding(crate::specs::Reading::name_after))]
 fn name_after<'a>(prefix: &'a [u8], text: &'a [u8]) -> Option<(Token<'a>, &'a [u8])>
-    ensures { MatchOption result (name_after prefix.now text.now ≡ None) (λ x. name_after prefix.now text.now ≡ Some (x.0, x.1.now)) }
+    ensures { MatchOption result (name_after prefix.now text.now ≡ None)
+        (λ x. name_after prefix.now text.now ≡ Some (x.0, x.1.now)) }
 {
     let [b':', text @ ..] = text else {
         return None;
@@ -128,7 +129,8 @@ fn is_variable_start(b: u8) -> bool
 /// The variable whose mark stands before a text, and what follows it.
 #[tactic(auto, unfolding(crate::specs::Reading::variable_at))]
 fn variable_at(text: &[u8]) -> Option<(Token<'_>, &[u8])>
-    ensures { MatchOption result (variable_at text.now ≡ None) (λ x. variable_at text.now ≡ Some (x.0, x.1.now)) }
+    ensures { MatchOption result (variable_at text.now ≡ None)
+        (λ x. variable_at text.now ≡ Some (x.0, x.1.now)) }
 {
     match text {
         [first, ..] if is_variable_start(*first) => {
@@ -142,7 +144,8 @@ fn variable_at(text: &[u8]) -> Option<(Token<'_>, &[u8])>
 /// The label whose `_:` stands before a text, and what follows it.
 #[tactic(auto, unfolding(crate::specs::Reading::label_at))]
 fn label_at(text: &[u8]) -> Option<(Token<'_>, &[u8])>
-    ensures { MatchOption result (label_at text.now ≡ None) (λ x. label_at text.now ≡ Some (x.0, x.1.now)) }
+    ensures { MatchOption result (label_at text.now ≡ None)
+        (λ x. label_at text.now ≡ Some (x.0, x.1.now)) }
 {
     match text {
         [first, ..] if is_variable_byte(*first) => {
@@ -157,7 +160,8 @@ fn label_at(text: &[u8]) -> Option<(Token<'_>, &[u8])>
 /// The blank node label whose `_` stands before a text, and what follows it.
 #[tactic(auto, unfolding(crate::specs::Reading::blank_at))]
 fn blank_at(text: &[u8]) -> Option<(Token<'_>, &[u8])>
-    ensures { MatchOption result (blank_at text.now ≡ None) (λ x. blank_at text.now ≡ Some (x.0, x.1.now)) }
+    ensures { MatchOption result (blank_at text.now ≡ None)
+        (λ x. blank_at text.now ≡ Some (x.0, x.1.now)) }
 {
     match text {
         [b':', after @ ..] => label_at(after),
@@ -189,7 +193,8 @@ fn continues_integer(text: &[u8]) -> bool
 #[tactic(auto, unfolding(crate::specs::Reading::integer_at))]
 fn integer_at(text: &[u8]) -> Option<(Token<'_>, &[u8])>
     requires { begins_with_digit text.now ≡ true }
-    ensures { MatchOption result (integer_at text.now ≡ None) (λ x. integer_at text.now ≡ Some (x.0, x.1.now)) }
+    ensures { MatchOption result (integer_at text.now ≡ None)
+        (λ x. integer_at text.now ≡ Some (x.0, x.1.now)) }
 {
     let (digits, rest) = cut_digits(text);
     if continues_integer(rest) {
@@ -202,7 +207,8 @@ fn integer_at(text: &[u8]) -> Option<(Token<'_>, &[u8])>
 /// The IRI or the sign whose `<` stands before a text, and what follows it.
 #[tactic(auto, unfolding(crate::specs::Reading::angle_at))]
 fn angle_at(text: &[u8]) -> Option<(Token<'_>, &[u8])>
-    ensures { MatchOption result (angle_at text.now ≡ None) (λ x. angle_at text.now ≡ Some (x.0, x.1.now)) }
+    ensures { MatchOption result (angle_at text.now ≡ None)
+        (λ x. angle_at text.now ≡ Some (x.0, x.1.now)) }
 {
     let (iri, rest) = cut_iri(text);
     match rest {
@@ -216,7 +222,8 @@ fn angle_at(text: &[u8]) -> Option<(Token<'_>, &[u8])>
 #[tactic(auto, unfolding(crate::specs::Reading::plain_at))]
 fn plain_at(text: &[u8], edge: usize) -> Option<(Token<'_>, &[u8])>
     requires { NoneAhead text.now edge }
-    ensures { MatchOption result (plain_at text.now ≡ None) (λ x. plain_at text.now ≡ Some (x.0, x.1.now)) }
+    ensures { MatchOption result (plain_at text.now ≡ None)
+        (λ x. plain_at text.now ≡ Some (x.0, x.1.now)) }
 {
     let [first, after @ ..] = text else {
         return None;
@@ -236,7 +243,8 @@ fn plain_at(text: &[u8], edge: usize) -> Option<(Token<'_>, &[u8])>
 #[tactic(auto, unfolding(crate::specs::Reading::token_at))]
 pub fn token_at(text: &[u8], edge: usize) -> Option<(Token<'_>, &[u8])>
     requires { NoneAhead text.now edge }
-    ensures { MatchOption result (token_at text.now ≡ None) (λ x. token_at text.now ≡ Some (x.0, x.1.now)) }
+    ensures { MatchOption result (token_at text.now ≡ None)
+        (λ x. token_at text.now ≡ Some (x.0, x.1.now)) }
 {
     let [first, after @ ..] = text else {
         return None;

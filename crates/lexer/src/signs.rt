@@ -43,7 +43,8 @@ fn one_of(first: u8) -> Option<Sign>
 /// The sign that begins with this byte, the longer where two do, and what follows it.
 #[tactic(auto, unfolding(crate::specs::Reading::sign_at))]
 pub fn sign_at(first: u8, after: &[u8]) -> Option<(Token<'_>, &[u8])>
-    ensures { MatchOption result (sign_at first after.now ≡ None) (λ x. sign_at first after.now ≡ Some (x.0, x.1.now)) }
+    ensures { MatchOption result (sign_at first after.now ≡ None)
+        (λ x. sign_at first after.now ≡ Some (x.0, x.1.now)) }
 {
     if let [second, rest @ ..] = after {
         if let Some(sign) = two_of(first, *second) {

@@ -30,7 +30,8 @@ fn short_escape(b: u8) -> Option<u8>
 /// What follows the closing quote of a string whose opening quote stands before a text.
 fn string_end(quote: u8, text: &[u8]) -> Option<&[u8]>
     ensures within { IfSome result (λ r. length r.now < length text.now) }
-    ensures rest { MatchOption result (string_end quote false text.now ≡ None) (λ r. string_end quote false text.now ≡ Some r.now) }
+    ensures rest { MatchOption result (string_end quote false text.now ≡ None)
+        (λ r. string_end quote false text.now ≡ Some r.now) }
 {
     let mut escaped = false;
     let mut rest = text;
@@ -65,7 +66,8 @@ fn begins_with_two(quote: u8, text: &[u8]) -> bool
 #[tactic(auto, unfolding(crate::specs::Reading::string_at))]
 pub fn string_at(quote: u8, text: &[u8]) -> Option<(Token<'_>, &[u8])>
     requires { is_quote quote ≡ true }
-    ensures { MatchOption result (string_at quote text.now ≡ None) (λ x. string_at quote text.now ≡ Some (x.0, x.1.now)) }
+    ensures { MatchOption result (string_at quote text.now ≡ None)
+        (λ x. string_at quote text.now ≡ Some (x.0, x.1.now)) }
 {
     if begins_with_two(quote, text) {
         return None;

@@ -44,7 +44,8 @@ fn cut_tag(text: &[u8]) -> (&[u8], &[u8])
 /// The tag whose `@` stands before a text, and what follows it.
 #[tactic(auto, unfolding(crate::specs::Reading::tag_at))]
 pub fn tag_at(text: &[u8]) -> Option<(Token<'_>, &[u8])>
-    ensures { MatchOption result (tag_at text.now ≡ None) (λ x. tag_at text.now ≡ Some (x.0, x.1.now)) }
+    ensures { MatchOption result (tag_at text.now ≡ None)
+        (λ x. tag_at text.now ≡ Some (x.0, x.1.now)) }
 {
     match text {
         [first, ..] if first.is_ascii_alphabetic() => {

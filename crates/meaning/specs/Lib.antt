@@ -6,4 +6,3 @@ pub mod Template
 pub mod GraphOperations
 pub mod Effect
 pub mod Run
-pub mod Near

@@ -238,7 +238,8 @@ impl<'a> Prefixes<'a> {
         prefix: &Piece<'a>,
         local: &LocalPart<'a>,
     ) -> Result<Option<Iri>, AllocError>
-        ensures { IfOk result (λ found. found ≡ iri_of self.now (name.Prefixed prefix.now local.now)) }
+        ensures { IfOk result (λ found. found ≡ iri_of self.now
+            (name.Prefixed prefix.now local.now)) }
     {
         if let Some(iri) = self.named.get(&name_key(prefix, local)) {
             return Ok(Some(iri.copied(alloc)?));
@@ -269,7 +270,8 @@ impl<'a> Prefixes<'a> {
     ) -> Result<Option<Literal>, AllocError>
         requires iri { IsIri datatype.now }
         requires tag { ForSome (tag_bytes tag) (λ t. is_tag t ≡ true) }
-        ensures { IfOk result (λ found. found ≡ the_literal_from (string_bytes lexical) datatype.now (tag_bytes tag)) }
+        ensures { IfOk result (λ found. found ≡ the_literal_from (string_bytes lexical) datatype.now
+            (tag_bytes tag)) }
     {
         match self.whole.iri(alloc, datatype)? {
             Some(iri) => Ok(literal_from(lexical, iri, tag)),
@@ -284,7 +286,8 @@ impl<'a> Prefixes<'a> {
         lexical: String,
         tag: &Tag<'a>,
     ) -> Result<Option<Literal>, AllocError>
-        ensures { IfOk result (λ found. found ≡ the_literal_from (string_bytes lexical) lang_string (Some tag.now)) }
+        ensures { IfOk result (λ found. found ≡ the_literal_from (string_bytes lexical) lang_string
+            (Some tag.now)) }
     {
         let tag = tag.lower(alloc)?;
         self.literal_with(alloc, lexical, LANG_STRING, Some(tag))
@@ -297,7 +300,8 @@ impl<'a> Prefixes<'a> {
         lexical: String,
         datatype: &Name<'a>,
     ) -> Result<Option<Literal>, AllocError>
-        ensures { IfOk result (λ found. found ≡ typed_literal (string_bytes lexical) (iri_of self.now datatype.now)) }
+        ensures { IfOk result (λ found. found ≡ typed_literal (string_bytes lexical)
+            (iri_of self.now datatype.now)) }
     {
         match self.iri_of(alloc, datatype)? {
             Some(iri) => Ok(literal_from(lexical, iri, None)),

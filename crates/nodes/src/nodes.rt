@@ -110,7 +110,8 @@ fn add_expression<'a>(
     found: &mut Vec<Node<'a>>,
     expression: &Expression<'a>,
 ) -> Result<(), AllocError>
-    ensures { OnOk result (found.new.items ≡ found.old.items ++ nodes_of_tree (tree_of expression.now)) }
+    ensures { OnOk result (found.new.items ≡ found.old.items
+        ++ nodes_of_tree (tree_of expression.now)) }
 {
     let mut pending = Vec::new(alloc);
     pending.push(expression)?;
@@ -139,7 +140,8 @@ fn add_group<'a>(
     found: &mut Vec<Node<'a>>,
     elements: &[Element<'a>],
 ) -> Result<(), AllocError>
-    ensures { OnOk result (found.new.items ≡ found.old.items ++ nodes_of_parts (group (parts_of elements.now))) }
+    ensures { OnOk result (found.new.items ≡ found.old.items
+        ++ nodes_of_parts (group (parts_of elements.now))) }
 {
     for element in elements {
         add_element(alloc, found, element)?;
@@ -154,7 +156,8 @@ fn add_element<'a>(
     found: &mut Vec<Node<'a>>,
     element: &Element<'a>,
 ) -> Result<(), AllocError>
-    ensures { OnOk result (found.new.items ≡ found.old.items ++ nodes_of_part (part_of element.now)) }
+    ensures { OnOk result (found.new.items ≡ found.old.items
+        ++ nodes_of_part (part_of element.now)) }
 {
     match element {
         Element::Triples(triples) => add_triples(found, triples.as_slice()),

@@ -385,6 +385,9 @@ unclosed q text value rest so_far stops back shut = so_far ∙ ap (before value)
 pub plain_iri : (text t : List ℕ) → after 62 (rest_of is_iri_byte text) ≡ Some t → quoted_at Iri text ≡ Some (run_of is_iri_byte text, t)
 plain_iri text t shut = closed Iri text (run_of is_iri_byte text) (rest_of is_iri_byte text) t (run_read Iri text) shut
 
+pub run_all : RunsAreLongest → (p : ℕ → Bool) (text : List ℕ) → list_all p (run_of p text) ≡ true
+run_all law p text = ((law p text (run_of p text) (rest_of p text)).0 (refl, refl)).all
+
 pub run_stops : RunsAreLongest → (p : ℕ → Bool) (text : List ℕ) → Stops p (rest_of p text)
 run_stops runs p text = ((runs p text (run_of p text) (rest_of p text)).0 (refl, refl)).stops
 

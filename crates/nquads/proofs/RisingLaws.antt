@@ -1,6 +1,6 @@
 -- Lines that rise are the set of themselves, whatever the order in which they came before.
 use Rattle.std.specs.Prelude.{Bool, ◌&&◌, ◌||◌}
-use Rattle.std.proofs.Common.{◌≡◌, ℕ, ◌+◌, ◌<◌, true, false, cond, List, [], ◌∷◌, ◌++◌, length, get_or, take, map, filter, refl, sym, ap, ◌∙◌}
+use Rattle.std.proofs.Common.{◌≡◌, ℕ, ◌+◌, ◌<◌, true, false, cond, List, [], ◌∷◌, ◌++◌, length, get_or, take, map, filter, refl, sym, ap, ◌∙◌, subst, arith}
 use Rattle.std.specs.List.{list_any, list_all, flat_map, AllByRecursion}
 use Rattle.std.specs.List.Sorted.{IsPermutation, IsStrictlySortedBy}
 use Rattle.std.specs.declared.cmp.Ordering.{Ordering}
@@ -92,6 +92,20 @@ rising_whole made graphs quads h =
     h.text ∙ ap (flat_map ended) (same_set text_total text_exact (graphs ++ quads) (set_of text_cmp (quads ++ graphs)) h.rises (sorted-set_of text_total (quads ++ graphs))
     (λ t. list_any-append (eq_by_cmp text_cmp t) graphs quads ∙ or_comm (list_any (eq_by_cmp text_cmp t) graphs) (list_any (eq_by_cmp text_cmp t) quads)
     ∙ sym (list_any-append (eq_by_cmp text_cmp t) quads graphs) ∙ sym (has-set_of text_total t (quads ++ graphs))))
+
+pub nothing : (xs : List ℕ) → length xs ≡ 0 → xs ≡ []
+nothing [] e = refl
+nothing (x ∷ xs) e = absurd (omega arith)
+
+pub no_lines : (lines : List (List ℕ)) → flat_map ended lines ≡ [] → lines ≡ []
+no_lines [] e = refl
+no_lines ([] ∷ lines) e = absurd cc
+no_lines ((b ∷ bs) ∷ lines) e = absurd cc
+
+-- the quads alone, where there is no line of a graph
+pub rising_alone : (none made : Rising) (graphs quads : List (List ℕ)) → none.text.items ≡ [] → IsRising graphs none → IsRising quads made → made.text.items ≡ flat_map ended (set_of text_cmp (quads ++ graphs))
+rising_alone none made graphs quads e g h =
+    rising_whole made graphs quads (subst (λ (lines : List (List ℕ)). IsRising (lines ++ quads) made) (sym (no_lines graphs (sym g.text ∙ e))) h)
 
 -- in another order, quads and names have the same set of lines
 module _ {A : Type 0} (f : A → List ℕ) (g : ℕ → List ℕ) (kept : ℕ → Bool) (quads others : List A) (names those : List ℕ)

@@ -37,7 +37,8 @@ fn ended_front(bytes: &[u8], limit: usize) -> &[u8]
 /// The first line of a text and what follows its end, if it has one.
 #[tactic(auto, using(crate::proofs::LongLaws::but_last_more))]
 fn ended_line(text: &[u8]) -> Option<(&[u8], &[u8])>
-    ensures cut { MatchOption result (but_last (lines text.now) ≡ []) (λ x. but_last (lines text.now) ≡ x.0.now ∷ but_last (lines x.1.now)) }
+    ensures cut { MatchOption result (but_last (lines text.now) ≡ [])
+        (λ x. but_last (lines text.now) ≡ x.0.now ∷ but_last (lines x.1.now)) }
     ensures shorter { IfSome result (λ x. length x.1.now < length text.now) }
 {
     match first_line(text) {
@@ -48,7 +49,8 @@ fn ended_line(text: &[u8]) -> Option<(&[u8], &[u8])>
 
 /// Whether a line, which has this number, says what a line may say.
 fn check_line(alloc: Global, line: &[u8], number: usize) -> Result<(), BaseFault>
-    ensures ok { OnOk result ((n : ℕ) (later : List (List ℕ)) → first_bad n (line.now ∷ later) ≡ first_bad (n + 1) later) }
+    ensures ok { OnOk result ((n : ℕ) (later : List (List ℕ))
+        → first_bad n (line.now ∷ later) ≡ first_bad (n + 1) later) }
     ensures bad { IfErr result (λ e. Faults e number (line_of line.now)) }
 {
     match said(alloc, line, number) {
@@ -118,7 +120,8 @@ fn read_within<R: Read>(
     requires some { 0 < limit }
     requires limit { limit < 2 ^ 32 }
     ensures answer { IfSome (R.remaining reader.old.inner) (λ text. IsAnswer limit text result) }
-    ensures count { reader.new.failures ≡ (if is_device result then reader.old.failures + 1 else reader.old.failures) }
+    ensures count { reader.new.failures ≡ (if is_device result then reader.old.failures + 1
+        else reader.old.failures) }
 {
     let bytes = front_of(alloc, reader, limit)?;
     answer(alloc, bytes.as_slice(), limit)
@@ -129,7 +132,8 @@ fn read_within<R: Read>(
 pub fn read<R: Read>(alloc: Global, reader: &mut Watched<R>) -> Result<DataSet, BaseFault>
     requires { reader.old.failures < 2 ^ 64 - 1 }
     ensures answer { IfSome (R.remaining reader.old.inner) (λ text. IsAnswer (2 ^ 30) text result) }
-    ensures count { reader.new.failures ≡ (if is_device result then reader.old.failures + 1 else reader.old.failures) }
+    ensures count { reader.new.failures ≡ (if is_device result then reader.old.failures + 1
+        else reader.old.failures) }
 {
     read_within(alloc, reader, MOST_BYTES)
 }
@@ -145,7 +149,8 @@ fn read_within_by<T: Threads + Sync, R: Read>(
     requires some { 0 < limit }
     requires limit { limit < 2 ^ 32 }
     ensures answer { IfSome (R.remaining reader.old.inner) (λ text. IsAnswer limit text result) }
-    ensures count { reader.new.failures ≡ (if is_device result then reader.old.failures + 1 else reader.old.failures) }
+    ensures count { reader.new.failures ≡ (if is_device result then reader.old.failures + 1
+        else reader.old.failures) }
 {
     let bytes = front_of(alloc, reader, limit)?;
     answer_by(rt, alloc, bytes.as_slice(), limit, threads)
@@ -160,7 +165,8 @@ pub fn read_by<T: Threads + Sync, R: Read>(
 ) -> Result<DataSet, BaseFault>
     requires { reader.old.failures < 2 ^ 64 - 1 }
     ensures answer { IfSome (R.remaining reader.old.inner) (λ text. IsAnswer (2 ^ 30) text result) }
-    ensures count { reader.new.failures ≡ (if is_device result then reader.old.failures + 1 else reader.old.failures) }
+    ensures count { reader.new.failures ≡ (if is_device result then reader.old.failures + 1
+        else reader.old.failures) }
 {
     read_within_by(rt, alloc, reader, MOST_BYTES, threads)
 }

@@ -124,7 +124,8 @@ fn graph_line(alloc: Global, texts: &[TextLine], name: u32) -> Result<TextLine, 
 
 /// Puts in the name of a quad's graph.
 fn add_graph(graphs: &mut HashSet<u32>, graph: Option<u32>) -> Result<(), AllocError>
-    ensures { OnOk result ((name : ℕ) → contains nat_eq graphs.new name ≡ (is_name_at name graph || contains nat_eq graphs.old name)) }
+    ensures { OnOk result ((name : ℕ) → contains nat_eq graphs.new name
+        ≡ (is_name_at name graph || contains nat_eq graphs.old name)) }
 {
     if let Some(name) = graph {
         graphs.insert(name)?;
@@ -134,7 +135,8 @@ fn add_graph(graphs: &mut HashSet<u32>, graph: Option<u32>) -> Result<(), AllocE
 
 /// The names of the graphs that have a quad.
 fn full_graphs(alloc: Global, quads: &[Quad<u32>]) -> Result<HashSet<u32>, AllocError>
-    ensures { IfOk result (λ graphs. (name : ℕ) → contains nat_eq graphs name ≡ list_any (is_in_at name) quads.now) }
+    ensures { IfOk result (λ graphs. (name : ℕ)
+        → contains nat_eq graphs name ≡ list_any (is_in_at name) quads.now) }
 {
     let mut graphs = HashSet::new(alloc);
     for quad in quads {
@@ -152,7 +154,9 @@ fn push_graph_lines(
     full: &HashSet<u32>,
 ) -> Result<(), AllocError>
     requires { list_all (is_within texts.now) names.now ≡ true }
-    ensures { OnOk result (lines.new.items ≡ lines.old.items ++ map (graph_line_at texts.now) (filter (λ name. not (contains nat_eq full.now name)) names.now)) }
+    ensures { OnOk result (lines.new.items ≡ lines.old.items
+        ++ map (graph_line_at texts.now)
+        (filter (λ name. not (contains nat_eq full.now name)) names.now)) }
 {
     for name in names {
         if !full.contains(name) {
@@ -184,7 +188,11 @@ fn sorted_text(
 ) -> Result<Vec<u8>, AllocError>
     requires quads { list_all (is_quad_within texts.now) quads.now ≡ true }
     requires names { list_all (is_within texts.now) names.now ≡ true }
-    ensures { IfOk result (λ text. text.items ≡ flat_map ended (set_of_lines text_cmp (map (quad_text_at texts.now) quads.now ++ map (graph_line_at texts.now) (filter (λ name. not (contains nat_eq full.now name)) names.now)))) }
+    ensures { IfOk result (λ text. text.items
+        ≡ flat_map ended (set_of_lines text_cmp
+        (map (quad_text_at texts.now) quads.now
+        ++ map (graph_line_at texts.now)
+        (filter (λ name. not (contains nat_eq full.now name)) names.now)))) }
 {
     let mut lines = quad_lines(alloc, texts, quads)?;
     push_graph_lines(alloc, &mut lines, texts, names, full)?;
@@ -201,7 +209,11 @@ fn text_of_lines(
 ) -> Result<Vec<u8>, AllocError>
     requires quads { list_all (is_quad_within texts.now) quads.now ≡ true }
     requires names { list_all (is_within texts.now) names.now ≡ true }
-    ensures { IfOk result (λ text. text.items ≡ flat_map ended (set_of_lines text_cmp (map (quad_text_at texts.now) quads.now ++ map (graph_line_at texts.now) (filter (λ name. not (contains nat_eq full.now name)) names.now)))) }
+    ensures { IfOk result (λ text. text.items
+        ≡ flat_map ended (set_of_lines text_cmp
+        (map (quad_text_at texts.now) quads.now
+        ++ map (graph_line_at texts.now)
+        (filter (λ name. not (contains nat_eq full.now name)) names.now)))) }
 {
     let quads_in_order = quads_by_text(alloc, texts, quads)?;
     let names_in_order = names_by_text(alloc, texts, names)?;
@@ -223,7 +235,11 @@ fn text_of_lines_by<T: Threads + Sync>(
 ) -> Result<Vec<u8>, AllocError>
     requires quads { list_all (is_quad_within texts.now) quads.now ≡ true }
     requires names { list_all (is_within texts.now) names.now ≡ true }
-    ensures { IfOk result (λ text. text.items ≡ flat_map ended (set_of_lines text_cmp (map (quad_text_at texts.now) quads.now ++ map (graph_line_at texts.now) (filter (λ name. not (contains nat_eq full.now name)) names.now)))) }
+    ensures { IfOk result (λ text. text.items
+        ≡ flat_map ended (set_of_lines text_cmp
+        (map (quad_text_at texts.now) quads.now
+        ++ map (graph_line_at texts.now)
+        (filter (λ name. not (contains nat_eq full.now name)) names.now)))) }
 {
     let quads_in_order = quads_by_text_by(rt, alloc, texts, quads)?;
     let names_in_order = names_by_text(alloc, texts, names)?;

@@ -94,7 +94,8 @@ fn large_at(text: &str) -> Option<(char, &str)>
 
 /// The character of a short escape of strings.
 fn short_of(quote: Quote, b: u8) -> Option<char>
-    ensures { MatchOption result (short_of quote b ≡ None) (λ c. (short_of quote b ≡ Some c) × (c < 128)) }
+    ensures { MatchOption result (short_of quote b ≡ None)
+        (λ c. (short_of quote b ≡ Some c) × (c < 128)) }
 {
     match (quote, b) {
         (Quote::Iri, _) => None,

@@ -16,7 +16,7 @@ use crate::stop::Stop;
 use iris::Iri;
 use iris::laws::run_by_length;
 use std::alloc::{AllocError, Global};
-use terms::{Blank, Literal, Term};
+use terms::{Blank, Literal, Said, Term};
 
 fn is_label_byte(b: u8) -> bool
     ensures { result ≡ is_label_byte b }
@@ -131,7 +131,8 @@ fn simple(alloc: Global, lexical: String) -> Result<Term, Stop>
 
 /// A string with this tag.
 fn tagged(alloc: Global, lexical: String, tag: &str) -> Result<Term, Stop>
-    ensures { Gives (λ x. x) result (tagged (string_bytes lexical) (map to_ascii_lowercase tag.now)) }
+    ensures { Gives (λ x. x) result (tagged (string_bytes lexical)
+        (map to_ascii_lowercase tag.now)) }
 {
     let datatype = lang_string(alloc)?;
     match Literal::new(lexical, datatype, Some(lowered(alloc, tag)?)) {
@@ -164,7 +165,7 @@ fn suffix_at(alloc: Global, lexical: String, text: &str) -> Result<(Term, &str),
             return Err(Stop::Bad);
         };
         let (datatype, rest) = iri_at(alloc, text)?;
-        return Ok((typed(lexical, datatype)?, rest));
+        return Ok((typed(lexical, datatype.into_iri(alloc)?)?, rest));
     }
     Ok((simple(alloc, lexical)?, text))
 }
@@ -193,25 +194,34 @@ pub fn begins_with(text: &str, byte: u8) -> bool
 
 /// The subject at the front of a text, and what follows it.
 #[tactic(auto, unfolding(crate::specs::ReadTerms::subject_at))]
-pub fn subject_at(alloc: Global, text: &str) -> Result<(Term, &str), Stop>
+pub fn subject_at(alloc: Global, text: &str) -> Result<(Said<'_>, &str), Stop>
     ensures { Gives (λ x. (x.0, x.1.now)) result (subject_at text.now) }
 {
     if begins_with(text, b'<') {
         let (iri, rest) = iri_at(alloc, text)?;
-        return Ok((Term::Iri(iri), rest));
+        return Ok((Said::iri(iri), rest));
     }
     let (blank, rest) = blank_at(alloc, text)?;
-    Ok((Term::Blank(blank), rest))
+    Ok((Said::term(alloc, Term::Blank(blank))?, rest))
+}
+
+/// The object at the front of a text, and what follows it.
+#[tactic(auto, unfolding(crate::specs::ReadTerms::object_at))]
+pub fn said_object_at(alloc: Global, text: &str) -> Result<(Said<'_>, &str), Stop>
+    ensures { Gives (λ x. (x.0, x.1.now)) result (object_at text.now) }
+{
+    if begins_with(text, b'"') {
+        let (literal, rest) = literal_at(alloc, text)?;
+        return Ok((Said::term(alloc, literal)?, rest));
+    }
+    subject_at(alloc, text)
 }
 
 /// The object at the front of a text, and what follows it (RDF 1.1 N-Quads, production 5). `Bad` where none stands there, `Memory` where
 /// memory runs out.
-#[tactic(auto, unfolding(crate::specs::ReadTerms::object_at))]
 pub fn object_at(alloc: Global, text: &str) -> Result<(Term, &str), Stop>
     ensures { Gives (λ x. (x.0, x.1.now)) result (object_at text.now) }
 {
-    if begins_with(text, b'"') {
-        return literal_at(alloc, text);
-    }
-    subject_at(alloc, text)
+    let (said, rest) = said_object_at(alloc, text)?;
+    Ok((said.into_term(alloc)?, rest))
 }

@@ -14,7 +14,8 @@ use terms::laws::lists_grow_as_datasets;
 
 /// Bytes without a line end, and an LF after them, are the first line of a text.
 pub fn first_line_is_ended()
-    ensures { (line rest : List ℕ) → list_all is_inner line ≡ true → lines (line ++ 10 ∷ rest) ≡ line ∷ lines rest }
+    ensures { (line rest : List ℕ) → list_all is_inner line ≡ true
+        → lines (line ++ 10 ∷ rest) ≡ line ∷ lines rest }
 {
     runs_are_longest();
 }
@@ -28,7 +29,8 @@ pub fn lines_are_read()
 
 /// An object at the front of a text is read.
 pub fn objects_are_read()
-    ensures { (text rest : List ℕ) (x : Term) → ObjectAt text x rest → object_at text ≡ Some (x, rest) }
+    ensures { (text rest : List ℕ) (x : Term) → ObjectAt text x rest
+        → object_at text ≡ Some (x, rest) }
 {
     runs_are_longest();
 }

@@ -7,13 +7,13 @@ ghost use Rattle.nquads.specs.Line.{is_blank, graph_mark};
 ghost use Rattle.nquads.specs.Reading.{Gives, ends, graph_at, statement_at, is_empty, declared_at, line_of};
 
 use crate::escapes::after;
-use crate::forms::{begins_with, object_at, subject_at};
+use crate::forms::{begins_with, said_object_at, subject_at};
 use crate::quoted::iri_at;
 use crate::stop::{Line, Stop};
 use datasets::Quad;
 use iris::laws::run_by_length;
 use std::alloc::Global;
-use terms::Term;
+use terms::Said;
 
 fn is_blank(b: u8) -> bool
     ensures { result ≡ is_blank b }
@@ -51,28 +51,28 @@ fn ends(text: &str) -> bool
 
 /// The graph of a statement, if it names one, and what follows it and its blanks.
 #[tactic(auto, unfolding(crate::specs::Reading::graph_at))]
-fn graph_at(alloc: Global, text: &str) -> Result<(Option<Term>, &str), Stop>
+fn graph_at(alloc: Global, text: &str) -> Result<(Option<Said<'_>>, &str), Stop>
     ensures { Gives (λ x. (x.0, x.1.now)) result (graph_at text.now) }
 {
     if !begins_with(text, b'<') {
         return Ok((None, text));
     }
     let (name, rest) = iri_at(alloc, text)?;
-    Ok((Some(Term::Iri(name)), skip_blanks(rest)))
+    Ok((Some(Said::iri(name)), skip_blanks(rest)))
 }
 
 #[tactic(auto, unfolding(crate::specs::Reading::statement_at))]
-fn statement_at(alloc: Global, line: &str) -> Result<Line, Stop>
+fn statement_at(alloc: Global, line: &str) -> Result<Line<'_>, Stop>
     ensures { Gives (λ x. x) result (statement_at line.now) }
 {
     let (subject, rest) = subject_at(alloc, skip_blanks(line))?;
     let (predicate, rest) = iri_at(alloc, skip_blanks(rest))?;
-    let (object, rest) = object_at(alloc, skip_blanks(rest))?;
+    let (object, rest) = said_object_at(alloc, skip_blanks(rest))?;
     let (graph, rest) = graph_at(alloc, skip_blanks(rest))?;
     match after(rest, b'.') {
         Some(rest) if ends(rest) => Ok(Line::Statement(Quad {
             subject,
-            predicate: Term::Iri(predicate),
+            predicate: Said::iri(predicate),
             object,
             graph,
         })),
@@ -91,20 +91,22 @@ fn is_empty(text: &str) -> bool
 
 /// The graph that is declared by what follows the mark of a graph line.
 #[tactic(auto, unfolding(crate::specs::Reading::declared_at))]
-fn declared_at(alloc: Global, text: &str) -> Result<Line, Stop>
+fn declared_at(alloc: Global, text: &str) -> Result<Line<'_>, Stop>
     ensures { Gives (λ x. x) result (declared_at text.now) }
 {
     let (name, rest) = iri_at(alloc, text)?;
     if !is_empty(skip_blanks(rest)) {
         return Err(Stop::Bad);
     }
-    Ok(Line::Graph(Term::Iri(name)))
+    Ok(Line::Graph(Said::iri(name)))
 }
 
 /// What follows the mark of a graph line, if a line begins with it.
 #[tactic(auto, using(crate::proofs::CutLaws::mark_cut))]
 fn after_mark(line: &str) -> Option<&str>
-    ensures { MatchOption result (starts_with nat_eq line.now graph_mark ≡ false) (λ rest. (starts_with nat_eq line.now graph_mark ≡ true) × (rest.now ≡ drop (length graph_mark) line.now)) }
+    ensures { MatchOption result (starts_with nat_eq line.now graph_mark ≡ false)
+        (λ rest. (starts_with nat_eq line.now graph_mark ≡ true)
+        × (rest.now ≡ drop (length graph_mark) line.now)) }
 {
     if !line.as_bytes().starts_with(b"#@graph ") {
         return None;
@@ -116,7 +118,8 @@ fn after_mark(line: &str) -> Option<&str>
 /// The bytes as a text, if they are UTF-8.
 #[tactic(auto, using(crate::proofs::CutLaws::text_laws))]
 fn text_of(bytes: &[u8]) -> Option<&str>
-    ensures { MatchOption result (is_utf8 bytes.now ≡ false) (λ text. (text.now ≡ bytes.now) × (is_utf8 bytes.now ≡ true)) }
+    ensures { MatchOption result (is_utf8 bytes.now ≡ false)
+        (λ text. (text.now ≡ bytes.now) × (is_utf8 bytes.now ≡ true)) }
 {
     match str::from_utf8(bytes) {
         Ok(text) => Some(text),
@@ -126,7 +129,7 @@ fn text_of(bytes: &[u8]) -> Option<&str>
 
 /// What a line says.
 #[tactic(auto, unfolding(crate::specs::Reading::line_of))]
-pub fn line_of(alloc: Global, line: &[u8]) -> Result<Line, Stop>
+pub fn line_of(alloc: Global, line: &[u8]) -> Result<Line<'_>, Stop>
     ensures { Gives (λ x. x) result (line_of line.now) }
 {
     let Some(line) = text_of(line) else {

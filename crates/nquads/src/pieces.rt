@@ -14,7 +14,8 @@ use terms::laws::lists_unite;
 
 /// Where the first LF ends that comes at this place or later.
 fn end_of_lf(bytes: &[u8], from: usize) -> Option<usize>
-    ensures { IfSome result (λ end. (0 < end) × (end ≤ length bytes.now) × (slice_index bytes.now (end - 1) ≡ 10)) }
+    ensures { IfSome result (λ end. (0 < end) × (end ≤ length bytes.now)
+        × (slice_index bytes.now (end - 1) ≡ 10)) }
 {
     for place in from..bytes.len() {
         if bytes[place] == b'\n' {

@@ -1,6 +1,6 @@
 //! What stands between quotes and between angle brackets, with its escapes undone (RDF 1.1 N-Quads, productions 8 and 9).
-ghost use Rattle.std.specs.Prelude.{◌≡◌, ◌+◌, ◌≤◌, length, IfOk, IfSome, string_bytes};
-ghost use Rattle.std.specs.List.{prefix_len};
+ghost use Rattle.std.specs.Prelude.{◌≡◌, ◌+◌, ◌≤◌, length, true, IfOk, IfSome, string_bytes};
+ghost use Rattle.std.specs.List.{list_all, prefix_len};
 ghost use Rattle.iris.specs.Iri.{is_iri_byte};
 ghost use Rattle.iris.specs.Runs.{run_of, rest_of};
 ghost use Rattle.iris.specs.Bracketed.{iri_of};
@@ -13,6 +13,7 @@ use crate::stop::Stop;
 use iris::Iri;
 use iris::laws::{run_by_length, runs_are_longest};
 use std::alloc::Global;
+use terms::SaidIri;
 
 fn is_plain(b: u8) -> bool
     ensures { result ≡ is_plain b }
@@ -105,29 +106,42 @@ pub fn quoted_at(alloc: Global, quote: Quote, text: &str) -> Result<(String, &st
     }
 }
 
-/// The IRI of a text, if it is one.
+/// The IRI of a text of bytes that an IRI may hold, if it is one.
 #[tactic(auto, using(crate::proofs::CutLaws::text_laws), unfolding(iris::specs::Bracketed::iri_of))]
-fn iri_of(alloc: Global, text: &str) -> Result<Iri, Stop>
+fn iri_of(text: &str) -> Result<SaidIri<'_>, Stop>
+    requires { list_all is_iri_byte text.now ≡ true }
+    ensures { Gives (λ iri. iri) result (iri_of text.now) }
+{
+    match SaidIri::check(text) {
+        Some(iri) => Ok(iri),
+        None => Err(Stop::Bad),
+    }
+}
+
+/// The IRI of any text, if it is one, in memory of its own.
+#[tactic(auto, using(crate::proofs::CutLaws::text_laws), unfolding(iris::specs::Bracketed::iri_of))]
+fn own_iri_of<'a>(alloc: Global, text: &str) -> Result<SaidIri<'a>, Stop>
     ensures { Gives (λ iri. iri) result (iri_of text.now) }
 {
     match Iri::check(alloc, text)? {
-        Some(iri) => Ok(iri),
+        Some(iri) => Ok(SaidIri::own(iri)),
         None => Err(Stop::Bad),
     }
 }
 
 /// The IRI in angle brackets at the front of a text, and what follows it.
 #[tactic(auto, using(crate::proofs::QuotedLaws::plain_iri), unfolding(crate::specs::Undone::iri_at))]
-pub fn iri_at(alloc: Global, text: &str) -> Result<(Iri, &str), Stop>
+pub fn iri_at(alloc: Global, text: &str) -> Result<(SaidIri<'_>, &str), Stop>
     ensures { Gives (λ x. (x.0, x.1.now)) result (iri_at text.now) }
 {
+    runs_are_longest();
     let Some(text) = after(text, b'<') else {
         return Err(Stop::Bad);
     };
     let (run, rest) = open_run(Quote::Iri, text);
     if let Some(rest) = after(rest, b'>') {
-        return Ok((iri_of(alloc, run)?, rest));
+        return Ok((iri_of(run)?, rest));
     }
     let (value, rest) = quoted_at(alloc, Quote::Iri, text)?;
-    Ok((iri_of(alloc, value.as_str())?, rest))
+    Ok((own_iri_of(alloc, value.as_str())?, rest))
 }

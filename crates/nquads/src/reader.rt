@@ -13,12 +13,12 @@ use crate::line::line_of;
 use crate::lines::first_line;
 use crate::stop::{Line, Stop};
 use std::alloc::{AllocError, Global};
-use terms::DataSet;
 use terms::laws::lists_grow_as_datasets;
+use terms::{DataSet, Gathering};
 
 /// Puts what a line says into the dataset.
-fn keep(dataset: &mut DataSet, said: Line) -> Result<(), AllocError>
-    ensures ok { OnOk result (dataset.new ≡ keep dataset.old said) }
+fn keep<'a>(dataset: &mut Gathering<'a>, said: Line<'a>) -> Result<(), AllocError>
+    ensures ok { OnOk result (dataset.new ≡ keep dataset.old said.entry) }
 {
     match said {
         Line::Nothing => Ok(()),
@@ -28,7 +28,7 @@ fn keep(dataset: &mut DataSet, said: Line) -> Result<(), AllocError>
 }
 
 /// What line says, where it has this number.
-pub fn said(alloc: Global, line: &[u8], number: usize) -> Result<Line, BaseFault>
+pub fn said(alloc: Global, line: &[u8], number: usize) -> Result<Line<'_>, BaseFault>
     ensures ok { IfOk result (λ said. line_of line.now ≡ Some said) }
     ensures bad { IfErr result (λ e. Faults e number (line_of line.now)) }
 {
@@ -42,7 +42,7 @@ pub fn said(alloc: Global, line: &[u8], number: usize) -> Result<Line, BaseFault
 pub fn read_lines(alloc: Global, bytes: &[u8]) -> Result<DataSet, BaseFault>
     ensures { Reads result (read_from no_quads 0 (lines bytes.now)) }
 {
-    let mut dataset = DataSet::new(alloc);
+    let mut dataset = Gathering::new(alloc);
     let mut number = 0;
     let mut rest = Some(bytes);
     while let Some(text) = rest {
@@ -51,7 +51,7 @@ pub fn read_lines(alloc: Global, bytes: &[u8]) -> Result<DataSet, BaseFault>
         keep(&mut dataset, said(alloc, line, number)?)?;
         rest = after;
     }
-    Ok(dataset)
+    Ok(dataset.into_dataset()?)
 }
 
 /// The dataset that the bytes spell.

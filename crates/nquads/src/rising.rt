@@ -33,7 +33,8 @@ pub(crate) fn is_above(last: &[u8], line: &[u8]) -> bool
 
 /// Adds a line, if it is above the last, and says whether it is. The line's memory is then the last one's.
 fn push_line(made: &mut Rising, line: &mut Vec<u8>) -> Result<bool, AllocError>
-    ensures { IfOk result (λ rises. rises ≡ true → (lines : List (List ℕ)) → IsRising lines made.old → IsRising (lines ++ line.old.items ∷ []) made.new) }
+    ensures { IfOk result (λ rises. rises ≡ true → (lines : List (List ℕ)) → IsRising lines made.old
+        → IsRising (lines ++ line.old.items ∷ []) made.new) }
 {
     if !is_above(made.last.as_slice(), line.as_slice()) {
         return Ok(false);
@@ -52,7 +53,8 @@ fn push_one_quad(
     quad: &Quad<u32>,
 ) -> Result<bool, AllocError>
     requires { is_quad_within texts.now quad.now ≡ true }
-    ensures { IfOk result (λ rises. rises ≡ true → (lines : List (List ℕ)) → IsRising lines made.old → IsRising (lines ++ quad_text_at texts.now quad.now ∷ []) made.new) }
+    ensures { IfOk result (λ rises. rises ≡ true → (lines : List (List ℕ)) → IsRising lines made.old
+        → IsRising (lines ++ quad_text_at texts.now quad.now ∷ []) made.new) }
 {
     line.clear();
     push_quad(line, texts, quad)?;
@@ -68,7 +70,8 @@ fn push_one_graph(
     name: u32,
 ) -> Result<bool, AllocError>
     requires { is_within texts.now name ≡ true }
-    ensures { IfOk result (λ rises. rises ≡ true → (lines : List (List ℕ)) → IsRising lines made.old → IsRising (lines ++ graph_line_at texts.now name ∷ []) made.new) }
+    ensures { IfOk result (λ rises. rises ≡ true → (lines : List (List ℕ)) → IsRising lines made.old
+        → IsRising (lines ++ graph_line_at texts.now name ∷ []) made.new) }
 {
     line.clear();
     push_graph_line(line, texts, name)?;
@@ -84,7 +87,8 @@ pub(crate) fn push_quads(
     quads: &[Quad<u32>],
 ) -> Result<bool, AllocError>
     requires { list_all (is_quad_within texts.now) quads.now ≡ true }
-    ensures { IfOk result (λ rises. rises ≡ true → (lines : List (List ℕ)) → IsRising lines made.old → IsRising (lines ++ map (quad_text_at texts.now) quads.now) made.new) }
+    ensures { IfOk result (λ rises. rises ≡ true → (lines : List (List ℕ)) → IsRising lines made.old
+        → IsRising (lines ++ map (quad_text_at texts.now) quads.now) made.new) }
 {
     for quad in quads {
         let rises = push_one_quad(made, line, texts, quad)?;
@@ -104,7 +108,9 @@ pub(crate) fn push_graphs(
     full: &HashSet<u32>,
 ) -> Result<bool, AllocError>
     requires { list_all (is_within texts.now) names.now ≡ true }
-    ensures { IfOk result (λ rises. rises ≡ true → (lines : List (List ℕ)) → IsRising lines made.old → IsRising (lines ++ map (graph_line_at texts.now) (filter (λ name. not (contains nat_eq full.now name)) names.now)) made.new) }
+    ensures { IfOk result (λ rises. rises ≡ true → (lines : List (List ℕ)) → IsRising lines made.old
+        → IsRising (lines ++ map (graph_line_at texts.now)
+        (filter (λ name. not (contains nat_eq full.now name)) names.now)) made.new) }
 {
     for name in names {
         if full.contains(name) {
@@ -128,7 +134,11 @@ pub(crate) fn rising_text(
 ) -> Result<Option<Vec<u8>>, AllocError>
     requires quads { list_all (is_quad_within texts.now) quads.now ≡ true }
     requires names { list_all (is_within texts.now) names.now ≡ true }
-    ensures { IfOk result (λ found. IfSome found (λ text. text.items ≡ flat_map ended (set_of text_cmp (map (quad_text_at texts.now) quads.now ++ map (graph_line_at texts.now) (filter (λ name. not (contains nat_eq full.now name)) names.now))))) }
+    ensures { IfOk result (λ found. IfSome found
+        (λ text. text.items ≡ flat_map ended
+        (set_of text_cmp (map (quad_text_at texts.now) quads.now
+        ++ map (graph_line_at texts.now)
+        (filter (λ name. not (contains nat_eq full.now name)) names.now))))) }
 {
     let mut made = Rising {
         text: Vec::new(alloc),

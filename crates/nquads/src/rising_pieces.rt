@@ -19,9 +19,17 @@ use std::alloc::{AllocError, Global};
 use std::collections::HashSet;
 use std::thread::{Threads, join};
 
+/// Of so many quads one tells how long their lines are.
+const SAMPLED: usize = 64;
+
+/// The most room that is asked for before it is needed.
+const MOST_ROOM: usize = 1_073_741_824;
+
 /// A text and another behind it that begins with this line, if the line is above the first text's last.
 fn behind(low: Rising, high: Rising, line: &[u8]) -> Result<Option<Rising>, AllocError>
-    ensures { IfOk result (λ found. IfSome found (λ made. (lines others : List (List ℕ)) → IsRising lines low → IsRising (line.now ∷ others) high → IsRising (lines ++ line.now ∷ others) made)) }
+    ensures { IfOk result (λ found. IfSome found
+        (λ made. (lines others : List (List ℕ)) → IsRising lines low
+        → IsRising (line.now ∷ others) high → IsRising (lines ++ line.now ∷ others) made)) }
 {
     if !is_above(low.last.as_slice(), line) {
         return Ok(None);
@@ -43,7 +51,10 @@ fn behind_quads(
     quads: &[Quad<u32>],
 ) -> Result<Option<Rising>, AllocError>
     requires { list_all (is_quad_within texts.now) quads.now ≡ true }
-    ensures { IfOk result (λ found. IfSome found (λ made. (lines : List (List ℕ)) → IsRising lines low → IsRising (map (quad_text_at texts.now) quads.now) high → IsRising (lines ++ map (quad_text_at texts.now) quads.now) made)) }
+    ensures { IfOk result (λ found. IfSome found
+        (λ made. (lines : List (List ℕ)) → IsRising lines low
+        → IsRising (map (quad_text_at texts.now) quads.now) high
+        → IsRising (lines ++ map (quad_text_at texts.now) quads.now) made)) }
 {
     let Some(first) = quads.first() else {
         return Ok(Some(low));
@@ -54,19 +65,56 @@ fn behind_quads(
     Ok(made)
 }
 
-/// The text of the lines of these quads, if they rise.
+/// How many bytes the texts of a quad's terms have.
+fn bytes_of(texts: &[TextLine], quad: &Quad<u32>) -> usize {
+    let places = [
+        Some(quad.subject),
+        Some(quad.predicate),
+        Some(quad.object),
+        quad.graph,
+    ];
+    let mut bytes = 8usize;
+    for place in places {
+        if let Some(text) = place.and_then(|place| texts.get(place as usize)) {
+            bytes = bytes.saturating_add(text.as_slice().len());
+        }
+    }
+    bytes
+}
+
+/// About how many bytes the lines of these quads have, from some of them.
+fn room_for(texts: &[TextLine], quads: &[Quad<u32>]) -> usize {
+    let mut bytes = 0usize;
+    for quad in quads.iter().step_by(SAMPLED) {
+        bytes = bytes.saturating_add(bytes_of(texts, quad));
+    }
+    bytes.saturating_mul(SAMPLED).min(MOST_ROOM)
+}
+
+/// No lines, and room for so many bytes where memory has it. A text that has room is not copied when it grows.
+fn begun(alloc: Global, room: usize) -> Rising
+    ensures { IsRising [] result }
+{
+    let mut text = Vec::new(alloc);
+    let _ = text.reserve(room);
+    Rising {
+        text,
+        last: Vec::new(alloc),
+    }
+}
+
+/// The text of the lines of these quads, if they rise, with room for so many bytes.
 fn rising_piece(
     alloc: Global,
     texts: &[TextLine],
     quads: &[Quad<u32>],
+    room: usize,
 ) -> Result<Option<Rising>, AllocError>
     requires { list_all (is_quad_within texts.now) quads.now ≡ true }
-    ensures { IfOk result (λ found. IfSome found (IsRising (map (quad_text_at texts.now) quads.now))) }
+    ensures { IfOk result (λ found. IfSome found
+        (IsRising (map (quad_text_at texts.now) quads.now))) }
 {
-    let mut made = Rising {
-        text: Vec::new(alloc),
-        last: Vec::new(alloc),
-    };
+    let mut made = begun(alloc, room);
     let mut line = Vec::new(alloc);
     let rises = push_quads(&mut made, &mut line, texts, quads)?;
     if !rises {
@@ -75,31 +123,45 @@ fn rising_piece(
     Ok(Some(made))
 }
 
-/// The text of the lines of these quads, made by so many threads, if they rise.
+/// The text of the lines of these quads, made by so many threads, if they rise. The first piece has room for so many bytes, since the others
+/// are put behind it.
 fn rising_quads<T: Threads + Sync>(
     rt: &T,
     alloc: Global,
     texts: &[TextLine],
     quads: &[Quad<u32>],
     threads: usize,
+    room: usize,
 ) -> Result<Option<Rising>, AllocError>
     requires { list_all (is_quad_within texts.now) quads.now ≡ true }
-    ensures { IfOk result (λ found. IfSome found (IsRising (map (quad_text_at texts.now) quads.now))) }
+    ensures { IfOk result (λ found. IfSome found
+        (IsRising (map (quad_text_at texts.now) quads.now))) }
 {
     if threads <= 1 {
-        return rising_piece(alloc, texts, quads);
+        return rising_piece(alloc, texts, quads, room);
     }
     let (first, rest) = quads.split_at(share(quads.len(), threads));
     let (low, high) = join(
         rt,
         || -> Result<Option<Rising>, AllocError>
             requires { IsSync T.row × (list_all (is_quad_within texts.now) first.now ≡ true) }
-            ensures { IfOk result (λ found. IfSome found (IsRising (map (quad_text_at texts.entry.now) first.entry.now))) }
-        { rising_quads(rt, alloc, texts, first, threads / 2) },
+            ensures { IfOk result (λ found. IfSome found
+                (IsRising (map (quad_text_at texts.entry.now) first.entry.now))) }
+        { rising_quads(rt, alloc, texts, first, threads / 2, room) },
         || -> Result<Option<Rising>, AllocError>
             requires { IsSync T.row × (list_all (is_quad_within texts.now) rest.now ≡ true) }
-            ensures { IfOk result (λ found. IfSome found (IsRising (map (quad_text_at texts.entry.now) rest.entry.now))) }
-        { rising_quads(rt, alloc, texts, rest, threads - threads / 2) },
+            ensures { IfOk result (λ found. IfSome found
+                (IsRising (map (quad_text_at texts.entry.now) rest.entry.now))) }
+        {
+            rising_quads(
+                rt,
+                alloc,
+                texts,
+                rest,
+                threads - threads / 2,
+                room_for(texts, rest),
+            )
+        },
     );
     match (low?, high?) {
         (Some(low), Some(high)) => behind_quads(alloc, low, high, texts, rest),
@@ -119,7 +181,11 @@ pub(crate) fn rising_text_by<T: Threads + Sync>(
 ) -> Result<Option<Vec<u8>>, AllocError>
     requires quads { list_all (is_quad_within texts.now) quads.now ≡ true }
     requires names { list_all (is_within texts.now) names.now ≡ true }
-    ensures { IfOk result (λ found. IfSome found (λ text. text.items ≡ flat_map ended (set_of text_cmp (map (quad_text_at texts.now) quads.now ++ map (graph_line_at texts.now) (filter (λ name. not (contains nat_eq full.now name)) names.now))))) }
+    ensures { IfOk result (λ found. IfSome found
+        (λ text. text.items ≡ flat_map ended
+        (set_of text_cmp (map (quad_text_at texts.now) quads.now
+        ++ map (graph_line_at texts.now)
+        (filter (λ name. not (contains nat_eq full.now name)) names.now))))) }
 {
     let mut made = Rising {
         text: Vec::new(alloc),
@@ -130,9 +196,13 @@ pub(crate) fn rising_text_by<T: Threads + Sync>(
     if !graphs_rise {
         return Ok(None);
     }
-    let Some(high) = rising_quads(rt, alloc, texts, quads, threads)? else {
+    let room = room_for(texts, quads);
+    let Some(high) = rising_quads(rt, alloc, texts, quads, threads, room)? else {
         return Ok(None);
     };
+    if made.text.is_empty() {
+        return Ok(Some(high.text));
+    }
     match behind_quads(alloc, made, high, texts, quads)? {
         Some(whole) => Ok(Some(whole.text)),
         None => Ok(None),

@@ -4,15 +4,15 @@ ghost use Rattle.nquads.specs.declared.stop.Stop.TheVariants.{Memory};
 
 use datasets::Quad;
 use std::alloc::{AllocError, AllocFailed};
-use terms::Term;
+use terms::Said;
 
 /// What a line says.
 #[derive(Drop)]
-pub enum Line {
+pub enum Line<'a> {
     Nothing,
     /// A named graph is declared, by its name.
-    Graph(Term),
-    Statement(Quad<Term>),
+    Graph(Said<'a>),
+    Statement(Quad<Said<'a>>),
 }
 
 /// Why a line was not read.

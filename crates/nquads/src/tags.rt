@@ -66,7 +66,9 @@ fn add_label(
     beginnings: &mut HashSet<TextLine>,
     label: &[u8],
 ) -> Result<(), AllocError>
-    ensures { OnOk result ((text : List ℕ) → contains (eq_by_cmp text_cmp) beginnings.new text ≡ (eq_by_cmp text_cmp text (beginning label.now) || contains (eq_by_cmp text_cmp) beginnings.old text)) }
+    ensures { OnOk result ((text : List ℕ) → contains (eq_by_cmp text_cmp) beginnings.new text
+        ≡ (eq_by_cmp text_cmp text (beginning label.now)
+        || contains (eq_by_cmp text_cmp) beginnings.old text)) }
 {
     let text = beginning(alloc, label)?;
     beginnings.insert(text)?;
@@ -79,7 +81,8 @@ fn add_term(
     beginnings: &mut HashSet<TextLine>,
     term: &Term,
 ) -> Result<(), AllocError>
-    ensures { OnOk result ((text : List ℕ) → contains (eq_by_cmp text_cmp) beginnings.new text ≡ (begins_as text term.now || contains (eq_by_cmp text_cmp) beginnings.old text)) }
+    ensures { OnOk result ((text : List ℕ) → contains (eq_by_cmp text_cmp) beginnings.new text
+        ≡ (begins_as text term.now || contains (eq_by_cmp text_cmp) beginnings.old text)) }
 {
     match term {
         Term::Blank(blank) => add_label(alloc, beginnings, blank.as_str().as_bytes()),
@@ -94,7 +97,9 @@ fn add_term_at(
     terms: &[Term],
     place: u32,
 ) -> Result<(), AllocError>
-    ensures { OnOk result ((text : List ℕ) → contains (eq_by_cmp text_cmp) beginnings.new text ≡ (begins_as text (term_at terms.now place) || contains (eq_by_cmp text_cmp) beginnings.old text)) }
+    ensures { OnOk result ((text : List ℕ) → contains (eq_by_cmp text_cmp) beginnings.new text
+        ≡ (begins_as text (term_at terms.now place)
+        || contains (eq_by_cmp text_cmp) beginnings.old text)) }
 {
     match terms.get(place as usize) {
         Some(term) => add_term(alloc, beginnings, term),
@@ -109,7 +114,9 @@ fn add_quad(
     terms: &[Term],
     quad: &Quad<u32>,
 ) -> Result<(), AllocError>
-    ensures { OnOk result ((text : List ℕ) → contains (eq_by_cmp text_cmp) beginnings.new text ≡ (is_begun_in text (quad_at terms.now quad.now) || contains (eq_by_cmp text_cmp) beginnings.old text)) }
+    ensures { OnOk result ((text : List ℕ) → contains (eq_by_cmp text_cmp) beginnings.new text
+        ≡ (is_begun_in text (quad_at terms.now quad.now)
+        || contains (eq_by_cmp text_cmp) beginnings.old text)) }
 {
     add_term_at(alloc, beginnings, terms, quad.object)?;
     add_term_at(alloc, beginnings, terms, quad.subject)
@@ -121,7 +128,9 @@ fn beginnings_of(
     terms: &[Term],
     quads: &[Quad<u32>],
 ) -> Result<HashSet<TextLine>, AllocError>
-    ensures { IfOk result (λ beginnings. (text : List ℕ) → contains (eq_by_cmp text_cmp) beginnings text ≡ list_any (λ q. is_begun_in text (quad_at terms.now q)) quads.now) }
+    ensures { IfOk result (λ beginnings. (text : List ℕ)
+        → contains (eq_by_cmp text_cmp) beginnings text
+        ≡ list_any (λ q. is_begun_in text (quad_at terms.now q)) quads.now) }
 {
     let mut beginnings = HashSet::new(alloc);
     for quad in quads {
@@ -132,7 +141,8 @@ fn beginnings_of(
 
 /// The beginnings that are taken for the labels of made nodes.
 fn taken_marks(alloc: Global, dataset: &DataSet) -> Result<HashSet<TextLine>, AllocError>
-    ensures { IfOk result (λ taken. (tag : ℕ) → tag < 2 ^ 32 → contains (eq_by_cmp text_cmp) taken (mark_of tag) ≡ is_taken dataset.now.quads tag) }
+    ensures { IfOk result (λ taken. (tag : ℕ) → tag < 2 ^ 32
+        → contains (eq_by_cmp text_cmp) taken (mark_of tag) ≡ is_taken dataset.now.quads tag) }
 {
     sets_pass_alike();
     let parts = dataset.parts();

@@ -29,7 +29,8 @@ pub fn write<W: Write>(
     tag: u32,
 ) -> Result<(), WriteFault>
     requires { writer.old.failures < 2 ^ 64 - 1 }
-    ensures ok { OnOk result (Appends (W.contents writer.old.inner) (W.contents writer.new.inner) (canonical dataset.now tag)) }
+    ensures ok { OnOk result (Appends (W.contents writer.old.inner) (W.contents writer.new.inner)
+        (canonical dataset.now tag)) }
     ensures memory { IsErrOf result WriteFault.OutOfMemory → writer.new ≡ writer.old }
     ensures device { IsErrOf result WriteFault.Device
         → ((n : ℕ) × Appends (W.contents writer.old.inner) (W.contents writer.new.inner) (take n (canonical dataset.now tag)))

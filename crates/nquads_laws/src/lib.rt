@@ -20,8 +20,11 @@ use nquads::laws::{first_line_is_ended, objects_are_read, one_dataset};
 /// The canonical text of a well-formed dataset spells it with each made node as the blank node of its label, whatever the tag. Where no
 /// blank label begins with the tag's mark, no two terms of the dataset become one.
 pub fn spells_again()
-    ensures spelled { (d : Dataset Term) (tag : ℕ) → IsWellFormed d → Spells (canonical d tag) (named d tag) }
-    ensures apart { (d : Dataset Term) (tag : ℕ) → IsWellFormed d → is_taken d.quads tag ≡ false → (x y : Term) → Contains (terms_of d) x → Contains (terms_of d) y → named_term tag x ≡ named_term tag y → x ≡ y }
+    ensures spelled { (d : Dataset Term) (tag : ℕ) → IsWellFormed d
+        → Spells (canonical d tag) (named d tag) }
+    ensures apart { (d : Dataset Term) (tag : ℕ) → IsWellFormed d → is_taken d.quads tag ≡ false
+        → (x y : Term) → Contains (terms_of d) x → Contains (terms_of d) y
+        → named_term tag x ≡ named_term tag y → x ≡ y }
 {
     runs_are_longest();
     first_line_is_ended();
@@ -30,7 +33,8 @@ pub fn spells_again()
 
 /// The text of a term, with a space behind it, is read as the term, where a made node is the blank node of its label.
 pub fn terms_are_read()
-    ensures { (tag : ℕ) (t : Term) (rest : List ℕ) → IsTerm t → object_at (term_text tag t ++ 32 ∷ rest) ≡ Some (named_term tag t, 32 ∷ rest) }
+    ensures { (tag : ℕ) (t : Term) (rest : List ℕ) → IsTerm t
+        → object_at (term_text tag t ++ 32 ∷ rest) ≡ Some (named_term tag t, 32 ∷ rest) }
 {
     objects_are_read();
 }
@@ -44,12 +48,14 @@ pub fn terms_end_no_line()
 /// What a text spells is well-formed, and has no made node.
 pub fn spelled_is_well_formed()
     ensures formed { (text : List ℕ) (d : Dataset Term) → Spells text d → IsWellFormed d }
-    ensures written { (text : List ℕ) (d : Dataset Term) → Spells text d → All (λ t. is_written t ≡ true) (terms_of d) }
+    ensures written { (text : List ℕ) (d : Dataset Term) → Spells text d
+        → All (λ t. is_written t ≡ true) (terms_of d) }
 {}
 
 /// What was read and is written spells what was read.
 pub fn read_and_written_again()
-    ensures { (text : List ℕ) (d : Dataset Term) (tag : ℕ) → Spells text d → Spells (canonical d tag) d }
+    ensures { (text : List ℕ) (d : Dataset Term) (tag : ℕ) → Spells text d
+        → Spells (canonical d tag) d }
 {
     first_line_is_ended();
     one_dataset();
@@ -58,8 +64,11 @@ pub fn read_and_written_again()
 /// Two well-formed datasets have one text only if they are the same by the labels of their made nodes, whatever the tags; and with one tag
 /// whose mark begins no blank label of either, only if they are the same.
 pub fn texts_differ()
-    ensures labels { (d e : Dataset Term) (tag other : ℕ) → IsWellFormed d → IsWellFormed e → canonical d tag ≡ canonical e other → named d tag ≡ named e other }
-    ensures one_tag { (d e : Dataset Term) (tag : ℕ) → IsWellFormed d → IsWellFormed e → is_taken d.quads tag ≡ false → is_taken e.quads tag ≡ false → canonical d tag ≡ canonical e tag → d ≡ e }
+    ensures labels { (d e : Dataset Term) (tag other : ℕ) → IsWellFormed d → IsWellFormed e
+        → canonical d tag ≡ canonical e other → named d tag ≡ named e other }
+    ensures one_tag { (d e : Dataset Term) (tag : ℕ) → IsWellFormed d → IsWellFormed e
+        → is_taken d.quads tag ≡ false → is_taken e.quads tag ≡ false
+        → canonical d tag ≡ canonical e tag → d ≡ e }
 {
     runs_are_longest();
     first_line_is_ended();

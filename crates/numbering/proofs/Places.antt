@@ -23,20 +23,6 @@ use Rattle.store.proofs.Places.{at_map, same_length, all_at}
 pub further : (a b c : List Term) → GoesOn a b → GoesOn b c → GoesOn a c
 further a b c g h = (g.0 ++ h.0, h.1 ∙ ap (λ xs. xs ++ h.0) g.1 ∙ append_assoc a g.0 h.0)
 
-pub no_further : (a : List Term) → GoesOn a a
-no_further a = ([], sym (append-nil a))
-
--- the place of a known number
-pub known_place : (dict table : List Term) (places : List ℕ) (n : ℕ) → ArePlaces dict table places → is_known dict (Known n) ≡ true
-    → (n < length places) × (term_at table (slice_index_or places n 0) ≡ term_of dict (Known n)) × (is_within table (slice_index_or places n 0) ≡ true)
-known_place dict table places n are h =
-    let same : length places ≡ length dict = sym (same_length (term_at table) places) ∙ ap length are.each in
-    let lt : n < length places = let in_dict : n < length dict = ltb-true n (length dict) h in (omega (arith, same, in_dict)) in (
-      lt,
-      sym (at_map (term_at table) places n 0 (term.Made 0 0 0 0) lt) ∙ ap (λ ts. term_at ts n) are.each,
-      all_at (is_within table) places n 0 are.within lt,
-    )
-
 module _ (keep : TermsKeepPlaces) (old new : List Term) (on : GoesOn old new) where
   kept_names : (names : List ℕ) → list_all (is_within old) names ≡ true → (map (term_at new) names ≡ map (term_at old) names) × (list_all (is_within new) names ≡ true)
   kept_names [] h = (refl, refl)

@@ -144,9 +144,6 @@ module _ {A : Type 0} (k : A → Bool) (parts : Vec (Link A × Kept A)) (es : Ve
   pub parts_known : (xs : List (Link A × Kept A)) → all ≡ kept.Group parts es → xs ≡ parts.items → plan_known k (plan_of all) ≡ true → list_all (part_known k) (parts_of xs) ≡ true
   parts_known xs is there h = ap (λ ys. list_all (part_known k) (parts_of ys)) there ∙ (group_parts is h).1
 
-  pub filters_known : (xs : List (KeptExpression A)) → all ≡ kept.Group parts es → xs ≡ es.items → plan_known k (plan_of all) ≡ true → list_all (expression_known k) (map expression_of xs) ≡ true
-  filters_known xs is there h = ap (λ ys. list_all (expression_known k) (map expression_of ys)) there ∙ (group_parts is h).0
-
 pub plans_known : {A : Type 0} (k : A → Bool) (ps : Vec (Kept A)) (all : Kept A) (xs : List (Kept A)) → all ≡ kept.Union ps → xs ≡ ps.items → plan_known k (plan_of all) ≡ true → list_all (plan_known k) (map plan_of xs) ≡ true
 plans_known k ps all xs is there h =
     ap (λ ys. list_all (plan_known k) (map plan_of ys)) there ∙ sym (ap (λ x. plan_known k (plan_of x)) is ∙ union_known k ps) ∙ h

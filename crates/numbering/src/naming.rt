@@ -61,7 +61,8 @@ fn place_name(
 ) -> Result<Option<u32>, AllocError>
     requires known { option_known (is_known dict.now) name ≡ true }
     requires places { ArePlaces dict.now table.old places.now }
-    ensures name { IfOk result (λ place. option_map (term_at table.new) place ≡ option_map (term_of dict.now) name) }
+    ensures name { IfOk result (λ place. option_map (term_at table.new) place
+        ≡ option_map (term_of dict.now) name) }
     ensures within { IfOk result (λ place. is_name_within table.new place ≡ true) }
     ensures kept { GoesOn table.old table.new }
 {
@@ -80,7 +81,8 @@ fn place_quad(
 ) -> Result<Quad<u32>, AllocError>
     requires known { quad_known (is_known dict.now) quad.now ≡ true }
     requires places { ArePlaces dict.now table.old places.now }
-    ensures quad { IfOk result (λ q. quad_at table.new q ≡ renamed_quad (term_of dict.now) quad.now) }
+    ensures quad { IfOk result (λ q. quad_at table.new q
+        ≡ renamed_quad (term_of dict.now) quad.now) }
     ensures within { IfOk result (λ q. is_quad_within table.new q ≡ true) }
     ensures kept { GoesOn table.old table.new }
 {
@@ -108,7 +110,9 @@ fn push_quad(
     requires known { quad_known (is_known dict.now) quad.now ≡ true }
     requires places { ArePlaces dict.now table.old places.now }
     ensures places { OnOk result (ArePlaces dict.now table.new places.now) }
-    ensures stands { OnOk result ((done : List (Quad Id)) → StandFor dict.now table.old list.old.items done → StandFor dict.now table.new list.new.items (done ++ quad.now ∷ [])) }
+    ensures stands { OnOk result ((done : List (Quad Id))
+        → StandFor dict.now table.old list.old.items done
+        → StandFor dict.now table.new list.new.items (done ++ quad.now ∷ [])) }
 {
     terms_keep_places();
     let placed = place_quad(alloc, dict, table, places, quad)?;
@@ -148,7 +152,9 @@ fn push_name(
     requires places { ArePlaces dict.now table.old places.now }
     ensures places { OnOk result (ArePlaces dict.now table.new places.now) }
     ensures kept { OnOk result (GoesOn table.old table.new) }
-    ensures stands { OnOk result ((done : List Id) → NamesStandFor dict.now table.old list.old.items done → NamesStandFor dict.now table.new list.new.items (done ++ name ∷ [])) }
+    ensures stands { OnOk result ((done : List Id)
+        → NamesStandFor dict.now table.old list.old.items done
+        → NamesStandFor dict.now table.new list.new.items (done ++ name ∷ [])) }
 {
     terms_keep_places();
     let placed = place_of(alloc, dict, table, places, name)?;

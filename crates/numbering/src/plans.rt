@@ -45,8 +45,10 @@ fn number_patterns(
     patterns: &[TriplePattern<Term>],
 ) -> Result<Vec<TriplePattern<Id>>, AllocError>
     requires { list_all (pattern_known (is_held dict.now)) patterns.now ≡ true }
-    ensures renamed { IfOk result (λ list. map (renamed_pattern (term_of dict.now)) list.items ≡ patterns.now) }
-    ensures known { IfOk result (λ list. list_all (pattern_known (is_known dict.now)) list.items ≡ true) }
+    ensures renamed { IfOk result (λ list. map (renamed_pattern (term_of dict.now)) list.items
+        ≡ patterns.now) }
+    ensures known { IfOk result (λ list. list_all (pattern_known (is_known dict.now)) list.items
+        ≡ true) }
 {
     let mut list = Vec::new(alloc);
     for pattern in patterns {
@@ -62,8 +64,11 @@ fn number_steps(
     steps: &[(TwoOperator, Expression<Term>)],
 ) -> Result<Vec<(TwoOperator, Expression<Id>)>, AllocError>
     requires { list_all (λ s. expression_known (is_held dict.now) s.1) (steps_of steps.now) ≡ true }
-    ensures renamed { (first : Tree Number) → IfOk result (λ list. renamed_expression (term_of dict.now) (chained first (steps_of list.items)) ≡ chained (renamed_expression (term_of dict.now) first) (steps_of steps.now)) }
-    ensures known { IfOk result (λ list. list_all (λ s. expression_known (is_known dict.now) s.1) (steps_of list.items) ≡ true) }
+    ensures renamed { (first : Tree Number) → IfOk result
+        (λ list. renamed_expression (term_of dict.now) (chained first (steps_of list.items))
+        ≡ chained (renamed_expression (term_of dict.now) first) (steps_of steps.now)) }
+    ensures known { IfOk result (λ list. list_all (λ s. expression_known (is_known dict.now) s.1)
+        (steps_of list.items) ≡ true) }
 {
     let mut list = Vec::new(alloc);
     for step in steps {
@@ -81,8 +86,10 @@ fn number_expression(
     expression: &Expression<Term>,
 ) -> Result<Expression<Id>, AllocError>
     requires { expression_known (is_held dict.now) (expression_of expression.now) ≡ true }
-    ensures renamed { IfOk result (λ e. renamed_expression (term_of dict.now) (expression_of e) ≡ expression_of expression.now) }
-    ensures known { IfOk result (λ e. expression_known (is_known dict.now) (expression_of e) ≡ true) }
+    ensures renamed { IfOk result (λ e. renamed_expression (term_of dict.now) (expression_of e)
+        ≡ expression_of expression.now) }
+    ensures known { IfOk result (λ e. expression_known (is_known dict.now) (expression_of e)
+        ≡ true) }
 {
     match expression {
         Expression::Constant(term) => Ok(Expression::Constant(number_term(dict, term))),
@@ -110,9 +117,12 @@ fn number_expressions(
     dict: &Dict,
     expressions: &[Expression<Term>],
 ) -> Result<Vec<Expression<Id>>, AllocError>
-    requires { list_all (expression_known (is_held dict.now)) (map expression_of expressions.now) ≡ true }
-    ensures renamed { IfOk result (λ list. map (renamed_expression (term_of dict.now)) (map expression_of list.items) ≡ map expression_of expressions.now) }
-    ensures known { IfOk result (λ list. list_all (expression_known (is_known dict.now)) (map expression_of list.items) ≡ true) }
+    requires { list_all (expression_known (is_held dict.now)) (map expression_of expressions.now)
+        ≡ true }
+    ensures renamed { IfOk result (λ list. map (renamed_expression (term_of dict.now))
+        (map expression_of list.items) ≡ map expression_of expressions.now) }
+    ensures known { IfOk result (λ list. list_all (expression_known (is_known dict.now))
+        (map expression_of list.items) ≡ true) }
 {
     let mut list = Vec::new(alloc);
     for expression in expressions {
@@ -123,7 +133,10 @@ fn number_expressions(
 
 fn number_link(alloc: Global, dict: &Dict, link: &Link<Term>) -> Result<Link<Id>, AllocError>
     requires { link_known (is_held dict.now) link.now ≡ true }
-    ensures renamed { (before : PlanTree Number) (p : PlanTree Number) → IfOk result (λ l. renamed_plan (term_of dict.now) (linked before l p) ≡ linked (renamed_plan (term_of dict.now) before) link.now (renamed_plan (term_of dict.now) p)) }
+    ensures renamed { (before : PlanTree Number) (p : PlanTree Number)
+        → IfOk result (λ l. renamed_plan (term_of dict.now) (linked before l p)
+        ≡ linked (renamed_plan (term_of dict.now) before) link.now
+        (renamed_plan (term_of dict.now) p)) }
     ensures known { IfOk result (λ l. link_known (is_known dict.now) l ≡ true) }
 {
     match link {
@@ -143,8 +156,11 @@ fn number_parts(
     parts: &[(Link<Term>, Plan<Term>)],
 ) -> Result<Vec<(Link<Id>, Plan<Id>)>, AllocError>
     requires { list_all (part_known (is_held dict.now)) (parts_of parts.now) ≡ true }
-    ensures renamed { (before : PlanTree Number) → IfOk result (λ list. renamed_plan (term_of dict.now) (linked_all before (parts_of list.items)) ≡ linked_all (renamed_plan (term_of dict.now) before) (parts_of parts.now)) }
-    ensures known { IfOk result (λ list. list_all (part_known (is_known dict.now)) (parts_of list.items) ≡ true) }
+    ensures renamed { (before : PlanTree Number) → IfOk result
+        (λ list. renamed_plan (term_of dict.now) (linked_all before (parts_of list.items))
+        ≡ linked_all (renamed_plan (term_of dict.now) before) (parts_of parts.now)) }
+    ensures known { IfOk result (λ list. list_all (part_known (is_known dict.now))
+        (parts_of list.items) ≡ true) }
 {
     let mut list = Vec::new(alloc);
     for part in parts {
@@ -161,8 +177,10 @@ fn number_plans(
     plans: &[Plan<Term>],
 ) -> Result<Vec<Plan<Id>>, AllocError>
     requires { list_all (plan_known (is_held dict.now)) (map plan_of plans.now) ≡ true }
-    ensures renamed { IfOk result (λ list. map (renamed_plan (term_of dict.now)) (map plan_of list.items) ≡ map plan_of plans.now) }
-    ensures known { IfOk result (λ list. list_all (plan_known (is_known dict.now)) (map plan_of list.items) ≡ true) }
+    ensures renamed { IfOk result (λ list. map (renamed_plan (term_of dict.now))
+        (map plan_of list.items) ≡ map plan_of plans.now) }
+    ensures known { IfOk result (λ list. list_all (plan_known (is_known dict.now))
+        (map plan_of list.items) ≡ true) }
 {
     let mut list = Vec::new(alloc);
     for plan in plans {
@@ -180,7 +198,8 @@ pub(crate) fn number_plan(
     plan: &Plan<Term>,
 ) -> Result<Plan<Id>, AllocError>
     requires { plan_known (is_held dict.now) (plan_of plan.now) ≡ true }
-    ensures renamed { IfOk result (λ p. renamed_plan (term_of dict.now) (plan_of p) ≡ plan_of plan.now) }
+    ensures renamed { IfOk result (λ p. renamed_plan (term_of dict.now) (plan_of p)
+        ≡ plan_of plan.now) }
     ensures known { IfOk result (λ p. plan_known (is_known dict.now) (plan_of p) ≡ true) }
 {
     match plan {

@@ -58,8 +58,10 @@ fn number_templates(
     templates: &[QuadTemplate<Term>],
 ) -> Result<Vec<QuadTemplate<Id>>, AllocError>
     requires { list_all (template_known (is_held dict.now)) templates.now ≡ true }
-    ensures renamed { IfOk result (λ list. map (renamed_template (term_of dict.now)) list.items ≡ templates.now) }
-    ensures known { IfOk result (λ list. list_all (template_known (is_known dict.now)) list.items ≡ true) }
+    ensures renamed { IfOk result (λ list. map (renamed_template (term_of dict.now)) list.items
+        ≡ templates.now) }
+    ensures known { IfOk result (λ list. list_all (template_known (is_known dict.now)) list.items
+        ≡ true) }
 {
     let mut list = Vec::new(alloc);
     for template in templates {
@@ -85,8 +87,10 @@ fn number_modify(
     modify: &Modify<Term>,
 ) -> Result<Modify<Id>, AllocError>
     requires { operation_known (is_held dict.now) (Operation.Modify modify.now) ≡ true }
-    ensures renamed { IfOk result (λ m. renamed_operation (term_of dict.now) (Operation.Modify m) ≡ Operation.Modify modify.now) }
-    ensures known { IfOk result (λ m. operation_known (is_known dict.now) (Operation.Modify m) ≡ true) }
+    ensures renamed { IfOk result (λ m. renamed_operation (term_of dict.now) (Operation.Modify m)
+        ≡ Operation.Modify modify.now) }
+    ensures known { IfOk result (λ m. operation_known (is_known dict.now) (Operation.Modify m)
+        ≡ true) }
 {
     let delete = number_templates(alloc, dict, modify.delete.as_slice())?;
     let insert = number_templates(alloc, dict, modify.insert.as_slice())?;
@@ -154,8 +158,10 @@ fn number_operations(
     operations: &[Operation<Term>],
 ) -> Result<Vec<Operation<Id>>, AllocError>
     requires { list_all (operation_known (is_held dict.now)) operations.now ≡ true }
-    ensures renamed { IfOk result (λ list. map (renamed_operation (term_of dict.now)) list.items ≡ operations.now) }
-    ensures known { IfOk result (λ list. list_all (operation_known (is_known dict.now)) list.items ≡ true) }
+    ensures renamed { IfOk result (λ list. map (renamed_operation (term_of dict.now)) list.items
+        ≡ operations.now) }
+    ensures known { IfOk result (λ list. list_all (operation_known (is_known dict.now)) list.items
+        ≡ true) }
 {
     let mut list = Vec::new(alloc);
     for operation in operations {
@@ -185,8 +191,10 @@ pub(crate) fn number_requests(
     requests: &[Checked],
 ) -> Result<Vec<Request<Id>>, AllocError>
     requires { list_all (request_known (is_held dict.now)) requests.now ≡ true }
-    ensures renamed { IfOk result (λ list. map (renamed_request (term_of dict.now)) list.items ≡ requests.now) }
-    ensures known { IfOk result (λ list. list_all (request_known (is_known dict.now)) list.items ≡ true) }
+    ensures renamed { IfOk result (λ list. map (renamed_request (term_of dict.now)) list.items
+        ≡ requests.now) }
+    ensures known { IfOk result (λ list. list_all (request_known (is_known dict.now)) list.items
+        ≡ true) }
 {
     let mut list = Vec::new(alloc);
     for request in requests {

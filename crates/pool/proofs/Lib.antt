@@ -1,2 +1,3 @@
+mod AskingAll
 mod Passes
 mod Sent

@@ -13,28 +13,35 @@ use Rattle.block_machine.specs.declared.state.Reply.{Reply as Told}
 use Rattle.blocklock.specs.Passes.{Includes}
 use Rattle.book.specs.Run.{Run, front_run, state_of}
 use Rattle.shared.specs.Calls.{Viewed, Made, owner, history_of, run_of}
+use Rattle.shared.specs.InTurn.{Adds}
 use Rattle.shared.specs.Duty.{Duty, IsPassFor}
 use Rattle.shared.specs.Asks.{Asker, Asks}
 use Rattle.shared.proofs.Asking.{asks_sees}
-use Rattle.asking.specs.Goes.{Asked, Ends, Stops}
+use Rattle.reads.specs.Asking.{Asked}
+use Rattle.asking.specs.Goes.{Ends, Stops}
 use Rattle.asking.proofs.Notes.{asked_all}
 use Rattle.reads.specs.declared.note.Note.{Note}
 use Rattle.reads.specs.declared.source.Stop.{Stop}
+use Rattle.pool.proofs.AskingAll.{sees_in_turn}
 use Rattle.pool.specs.Duty.{MayBegin, IsDone, AreDone}
 
+-- a pass that has seen more is still for its duty
+seen_for : (d : Duty) (old new : Viewed) → IsPassFor d old → new ≡ record old { seen = new.seen } → IsPassFor d new
+seen_for d old new h sees =
+    record {
+      table = ap (λ (p : Viewed). p.table) sees ∙ h.table;
+      subject = ap (λ (p : Viewed). p.subject) sees ∙ h.subject;
+      holds = ap (λ (p : Viewed). p.holds) sees ∙ h.holds;
+    }
+
 pub still_for : {E : Type 0} (d : Duty) (old new : Viewed) (event : Event) (r : Result Told E) → IsPassFor d old → Made old new event r → IsPassFor d new
-still_for d old new event (Ok reply) h made =
-    record {
-      table = ap (λ (p : Viewed). p.table) made.sees ∙ h.table;
-      subject = ap (λ (p : Viewed). p.subject) made.sees ∙ h.subject;
-      holds = ap (λ (p : Viewed). p.holds) made.sees ∙ h.holds;
-    }
-still_for d old new event (Err e) h made =
-    record {
-      table = ap (λ (p : Viewed). p.table) made.watches.sees ∙ h.table;
-      subject = ap (λ (p : Viewed). p.subject) made.watches.sees ∙ h.subject;
-      holds = ap (λ (p : Viewed). p.holds) made.watches.sees ∙ h.holds;
-    }
+still_for d old new event (Ok reply) h made = seen_for d old new h made.sees
+still_for d old new event (Err e) h made = seen_for d old new h made.watches.sees
+
+-- one that made events in turn
+pub still_adds : {E : Type 0} (d : Duty) (old new : Viewed) (events : List Event) (before after : List Told) (made : Result Bool E) → IsPassFor d old
+    → Adds old new events before after made → IsPassFor d new
+still_adds d old new events before after made h adds = seen_for d old new h (sees_in_turn old new events adds.replies made adds.in_turn)
 
 -- a call changes of a pass only what it has seen
 pub sees_more : {E : Type 0} (old new : Viewed) (event : Event) (r : Result Told E) → Made old new event r → new ≡ record old { seen = new.seen }

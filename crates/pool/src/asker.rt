@@ -1,12 +1,17 @@
 //! A worker's pass as the source of one incarnation of a request.
-ghost use Rattle.std.specs.Prelude.{◌≡◌};
+ghost use Rattle.std.specs.Prelude.{◌≡◌, ◌+◌, ◌≤◌, length, vec_len, vec_capacity, IfOk};
+ghost use Rattle.reads.specs.Asking.{AsksAll};
+ghost use Rattle.shared.specs.Asks.{Asks};
+ghost use Rattle.shared.specs.Calls.{Viewed};
+ghost use Rattle.shared.specs.InTurn.{InTurn, questions, reading};
 
 use crate::gate::Gate;
 use crate::worker::{Turn, Workers};
-use block_machine::{Event, scans_of};
+use block_machine::{Event, Reply, scans_of};
 use datasets::{Id, Read};
-use reads::{Answered, Source, Stop};
+use reads::{Answered, IndexedView, Note, Scanned, Source, Stop};
 use shared::{Pass, told};
+use std::alloc::{AllocError, Global};
 use std::marker::Model;
 use std::sync::Wait;
 
@@ -40,7 +45,12 @@ impl<'w, 's, 'a, R: Wait, G: Gate> Asking<'w, 's, 'a, R, G> {
     pub fn new(workers: &'w Workers<'s, 'a, R, G>, pass: Pass<'a>, turn: Turn) -> Self
         requires table { pass.table ≡ workers.now.table }
         requires subject { pass.subject ≡ workers.now.subject }
-        ensures { result ≡ record { pass = pass.entry; place = turn.place; incarnation = turn.incarnation } }
+        ensures { result ≡ record {
+          pass = pass.entry;
+          place = turn.place;
+          incarnation =
+              turn.incarnation;
+        } }
     {
         Asking {
             workers,
@@ -55,6 +65,51 @@ impl<'w, 's, 'a, R: Wait, G: Gate> Asking<'w, 's, 'a, R, G> {
     {
         self.pass
     }
+
+    // Shows the gate what reads were replied that were made in turn, and notes them with their answers, as far as they were answered.
+    fn note_replies(
+        &self,
+        reads: &[Read<Id>],
+        mut replies: Vec<Reply>,
+        made: Result<bool, AllocError>,
+        notes: &mut Vec<Note>,
+    ) -> Result<(), Stop>
+        requires { vec_len notes.old + length reads.now ≤ vec_capacity notes.old }
+        ensures { (old : Viewed) → InTurn old (reading self.now.place self.now.incarnation
+            reads.now) replies.items made self.now.pass
+            → AsksAll Asks (record self.now { pass = old }) reads.now notes.old.items
+            notes.new.items result self.now }
+    {
+        let Turn { place, incarnation } = self.turn;
+        let mut left = reads;
+        while !left.is_empty() && !replies.is_empty() {
+            let (_, others) = left.split_at(1);
+            let read = left[0];
+            let event = Event::Read(place, incarnation, read);
+            let reply = self.workers.shown(&self.pass, event, replies.remove(0));
+            let answer = told(reply)?;
+            notes.push_reserved(Note { read, answer });
+            left = others;
+        }
+        made?;
+        Ok(())
+    }
+}
+
+// What each of the reads says of the base.
+fn scans_of_all<'a>(
+    alloc: Global,
+    base: &'a IndexedView,
+    reads: &[Read<Id>],
+) -> Result<Vec<Scanned<'a>>, AllocError>
+    ensures { IfOk result (λ scans. scans.items ≡ questions base.now reads.now) }
+{
+    let mut scans = Vec::new(alloc);
+    for read in reads {
+        let scanned = Scanned::new(alloc, base, read)?;
+        scans.push(scanned)?;
+    }
+    Ok(scans)
 }
 
 impl<'w, 's, 'a, R: Wait, G: Gate> Source for Asking<'w, 's, 'a, R, G> {
@@ -77,5 +132,25 @@ impl<'w, 's, 'a, R: Wait, G: Gate> Source for Asking<'w, 's, 'a, R, G> {
             &scans,
         )?;
         told(workers.shown(&self.pass, event, reply))
+    }
+
+    // The book is held once for all of them.
+    fn ask_all(&mut self, reads: &[Read<Id>], notes: &mut Vec<Note>) -> Result<(), Stop> {
+        let Turn { place, incarnation } = self.turn;
+        let workers = self.workers;
+        notes.reserve(reads.len())?;
+        let scans = scans_of_all(workers.alloc, workers.base, reads)?;
+        let mut replies = Vec::new(workers.alloc);
+        let made = workers.shared.read_all(
+            workers.rt,
+            workers.alloc,
+            &mut self.pass,
+            place,
+            incarnation,
+            reads,
+            &scans,
+            &mut replies,
+        );
+        self.note_replies(reads, replies, made, notes)
     }
 }

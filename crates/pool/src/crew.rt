@@ -22,7 +22,8 @@ impl<'s, 'a, R: Threads + Wait + Sync, G: Gate + Sync> Crew<'s, 'a, R, G> {
     fn work_alone(self) -> Result<Vec<Pass<'a>>, AllocError>
         requires begin { MayBegin self.workers self.passes.items }
         requires one { vec_len self.passes ≤ 1 }
-        ensures { IfOk result (λ done. AreDone self.entry.workers self.entry.passes.items done.items) }
+        ensures { IfOk result (λ done. AreDone self.entry.workers self.entry.passes.items
+            done.items) }
     {
         let Crew {
             workers,
@@ -37,9 +38,12 @@ impl<'s, 'a, R: Threads + Wait + Sync, G: Gate + Sync> Crew<'s, 'a, R, G> {
 
     // Two crews, with the first half of the passes and the others.
     fn split(self) -> Result<(Self, Self), AllocError>
-        ensures workers { IfOk result (λ r. (r.0.workers ≡ self.entry.workers) × (r.1.workers ≡ self.entry.workers)) }
-        ensures first { IfOk result (λ r. r.0.passes.items ≡ take (length self.entry.passes.items / 2) self.entry.passes.items) }
-        ensures others { IfOk result (λ r. r.1.passes.items ≡ drop (length self.entry.passes.items / 2) self.entry.passes.items) }
+        ensures workers { IfOk result (λ r. (r.0.workers ≡ self.entry.workers)
+            × (r.1.workers ≡ self.entry.workers)) }
+        ensures first { IfOk result (λ r. r.0.passes.items
+            ≡ take (length self.entry.passes.items / 2) self.entry.passes.items) }
+        ensures others { IfOk result (λ r. r.1.passes.items
+            ≡ drop (length self.entry.passes.items / 2) self.entry.passes.items) }
     {
         let Crew {
             workers,
@@ -56,10 +60,14 @@ impl<'s, 'a, R: Threads + Wait + Sync, G: Gate + Sync> Crew<'s, 'a, R, G> {
     // Two crews, of about half the workers each.
     fn halves(self) -> Result<(Self, Self), AllocError>
         requires { MayBegin self.workers self.passes.items }
-        ensures count { IfOk result (λ r. length r.0.passes.items + length r.1.passes.items ≡ length self.entry.passes.items) }
-        ensures some { 2 ≤ length self.entry.passes.items → IfOk result (λ r. (0 < length r.0.passes.items) × (0 < length r.1.passes.items)) }
-        ensures first { IfOk result (λ r. (r.0.workers ≡ self.entry.workers) × MayBegin r.0.workers r.0.passes.items) }
-        ensures second { IfOk result (λ r. (r.1.workers ≡ self.entry.workers) × MayBegin r.1.workers r.1.passes.items) }
+        ensures count { IfOk result (λ r. length r.0.passes.items + length r.1.passes.items
+            ≡ length self.entry.passes.items) }
+        ensures some { 2 ≤ length self.entry.passes.items
+            → IfOk result (λ r. (0 < length r.0.passes.items) × (0 < length r.1.passes.items)) }
+        ensures first { IfOk result (λ r. (r.0.workers ≡ self.entry.workers)
+            × MayBegin r.0.workers r.0.passes.items) }
+        ensures second { IfOk result (λ r. (r.1.workers ≡ self.entry.workers)
+            × MayBegin r.1.workers r.1.passes.items) }
     {
         let (first, second) = self.split()?;
         Ok((first, second))
@@ -70,7 +78,8 @@ impl<'s, 'a, R: Threads + Wait + Sync, G: Gate + Sync> Crew<'s, 'a, R, G> {
     pub fn work(self) -> Result<Vec<Pass<'a>>, AllocError>
         requires shared { IsSync R.row × IsSync G.row }
         requires begin { MayBegin self.workers self.passes.items }
-        ensures { IfOk result (λ done. AreDone self.entry.workers self.entry.passes.items done.items) }
+        ensures { IfOk result (λ done. AreDone self.entry.workers self.entry.passes.items
+            done.items) }
     {
         if self.passes.len() <= 1 {
             return self.work_alone();
@@ -81,11 +90,14 @@ impl<'s, 'a, R: Threads + Wait + Sync, G: Gate + Sync> Crew<'s, 'a, R, G> {
             rt,
             move || -> Result<Vec<Pass<'_>>, AllocError>
                 requires { IsSync R.row × IsSync G.row × MayBegin first.workers first.passes.items }
-                ensures { IfOk result (λ done. AreDone first.entry.workers first.entry.passes.items done.items) }
+                ensures { IfOk result (λ done. AreDone first.entry.workers first.entry.passes.items
+                    done.items) }
             { first.work() },
             move || -> Result<Vec<Pass<'_>>, AllocError>
-                requires { IsSync R.row × IsSync G.row × MayBegin second.workers second.passes.items }
-                ensures { IfOk result (λ done. AreDone second.entry.workers second.entry.passes.items done.items) }
+                requires { IsSync R.row × IsSync G.row
+                    × MayBegin second.workers second.passes.items }
+                ensures { IfOk result (λ done. AreDone second.entry.workers
+                    second.entry.passes.items done.items) }
             { second.work() },
         );
         let mut done = low?;

@@ -7,6 +7,7 @@
 mod asker;
 mod crew;
 mod gate;
+mod lengths;
 mod pace;
 mod run;
 mod worker;

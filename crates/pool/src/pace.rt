@@ -35,8 +35,8 @@ impl Pace {
         ahead < self.eighths.load(Ordering::SeqCst) / 8
     }
 
-    // One more request is committed.
-    fn commit(&self) {
+    /// One more request is committed.
+    pub(crate) fn commit(&self) {
         self.committed.fetch_add(1, Ordering::SeqCst);
         let eighths = self.eighths.load(Ordering::SeqCst);
         self.eighths.store(

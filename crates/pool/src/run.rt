@@ -9,6 +9,7 @@ ghost use Rattle.shared.specs.Duty.{IsPassFor};
 
 use crate::crew::Crew;
 use crate::gate::Gate;
+use crate::lengths::Lengths;
 use crate::pace::Pace;
 use crate::worker::Workers;
 use book::Book;
@@ -34,7 +35,12 @@ fn opened<'a>(
     requires dataset { IsDataset base.now }
     requires workers { (0 < workers) × (workers ≤ 64) }
     ensures count { IfOk result (λ r. length r.1.items ≡ workers) }
-    ensures passes { IfOk result (λ r. All (IsPassFor (record { table = r.0; subject = record { terms = terms.now; base = base.now; block = block.now } })) r.1.items) }
+    ensures passes { IfOk result (λ r. All (IsPassFor
+        (record {
+          table = r.0;
+          subject = record
+              { terms = terms.now; base = base.now; block = block.now };
+        })) r.1.items) }
 {
     let (shared, passes) = SharedBlock::new(alloc, terms, base, block, workers)?;
     Ok((shared, passes))
@@ -64,6 +70,7 @@ pub fn run_book<'a, R: Threads + Wait + Sync, G: Gate + Sync>(
 {
     let (shared, passes) = opened(alloc, terms, base, block, workers)?;
     let pace = Pace::new();
+    let lengths = Lengths::new(alloc, block.len())?;
     let stopped = AtomicBool::new(false);
     let workers = Workers {
         rt,
@@ -74,6 +81,7 @@ pub fn run_book<'a, R: Threads + Wait + Sync, G: Gate + Sync>(
         block,
         gate,
         pace: &pace,
+        lengths: &lengths,
         stopped: &stopped,
     };
     let passes = Crew { workers, passes }.work()?;
@@ -97,7 +105,8 @@ pub fn run_block<R: Threads + Wait + Sync, G: Gate + Sync>(
     requires dataset { IsDataset base.now }
     requires size { length block.now < 2 ^ 32 }
     requires short { AreShort block.now }
-    ensures { IfOk result (λ outcome. (outcome.dataset, outcome.replies) ≡ run (numbers terms.now) block.now base.now) }
+    ensures { IfOk result (λ outcome. (outcome.dataset, outcome.replies)
+        ≡ run (numbers terms.now) block.now base.now) }
 {
     let book = run_book(rt, alloc, terms, base, block, workers, gate)?;
     let outcome = book.outcome(alloc)?;

@@ -7,6 +7,7 @@ ghost use Rattle.pool.specs.Duty.{IsDone};
 
 use crate::asker::Asking;
 use crate::gate::Gate;
+use crate::lengths::Lengths;
 use crate::pace::Pace;
 use block_machine::{Entry, Event, Reply};
 use crossbeam_utils::Backoff;
@@ -22,6 +23,9 @@ use std::marker::Model;
 use std::sync::Wait;
 use std::sync::atomic::{AtomicBool, Ordering};
 use update::execute;
+
+/// How many requests a worker commits at most while it holds the book once.
+const MOST_COMMITS: usize = 64;
 
 /// Which incarnation of which request is run.
 #[derive(Clone, Copy)]
@@ -41,6 +45,7 @@ pub struct Workers<'s, 'a, R: Wait, G: Gate> {
     pub(crate) block: &'a [Request<Id>],
     pub(crate) gate: &'s G,
     pub(crate) pace: &'s Pace,
+    pub(crate) lengths: &'s Lengths,
     // Whether one of them was refused memory.
     pub(crate) stopped: &'s AtomicBool,
 }
@@ -85,7 +90,8 @@ impl<'s, 'a, R: Wait, G: Gate> Workers<'s, 'a, R, G> {
         requires is { slice_get self.now.subject.block turn.place ≡ Some request.now }
         requires short { IsShort request.now }
         ensures pass { IfOk result (λ r. IsPassFor self.now r.0) }
-        ensures sound { IfOk result (λ r. IfSome r.1 (λ run. IsSoundAt self.now.subject turn.place run)) }
+        ensures sound { IfOk result (λ r. IfSome r.1
+            (λ run. IsSoundAt self.now.subject turn.place run)) }
     {
         let mut asking = Asking::new(self, pass, turn);
         let place = turn.place as u32;
@@ -129,24 +135,53 @@ impl<'s, 'a, R: Wait, G: Gate> Workers<'s, 'a, R, G> {
         Ok(false)
     }
 
-    // Begins a pass of checks of a run of so many notes, and checks them as long as they pass. The next task is not asked for in between.
-    fn check_own(&self, pass: &mut Pass<'a>, turn: Turn, notes: usize) -> Result<(), AllocError>
+    // Shows the gate the replies of a settling, in order.
+    fn show_settled(&self, pass: &Pass<'a>, turn: Turn, notes: usize, replies: Vec<Reply>) {
+        let Turn { place, incarnation } = turn;
+        let mut front = place;
+        for (k, reply) in replies.into_iter().enumerate() {
+            let event = match k {
+                0 => Event::Begin(place, incarnation),
+                k if k <= notes => Event::Check(place, incarnation),
+                _ => Event::Commit(front),
+            };
+            match self.shown(pass, event, reply) {
+                Reply::Aborted => self.pace.slow_down(),
+                Reply::Committed => {
+                    self.pace.commit();
+                    front = front.saturating_add(1);
+                }
+                _ => {}
+            }
+        }
+    }
+
+    // Settles a published run of so many notes while the book is held once: its checks, as long as they pass, and the commits of the request
+    // and of those behind it, as long as each can be committed. It answers whether its pass of checks was begun.
+    fn settle(&self, pass: &mut Pass<'a>, turn: Turn, notes: usize) -> Result<bool, AllocError>
         requires { IsPassFor self.now pass.old }
         ensures { IsPassFor self.now pass.new }
     {
-        if !self.begin(pass, turn)? {
-            return Ok(());
-        }
-        for _note in 0..notes {
-            let passed = self.check(pass, turn)?;
-            if !passed {
-                break;
-            }
-        }
-        Ok(())
+        let Turn { place, incarnation } = turn;
+        let until = self.block.len().min(place.saturating_add(MOST_COMMITS));
+        let mut replies = Vec::new(self.alloc);
+        let settled = self.shared.settle(
+            self.rt,
+            self.alloc,
+            pass,
+            place,
+            incarnation,
+            notes,
+            until,
+            &mut replies,
+        );
+        let is_begun = matches!(replies.first(), Some(Reply::Begun));
+        self.show_settled(pass, turn, notes, replies);
+        settled?;
+        Ok(is_begun)
     }
 
-    // Runs an incarnation that was taken, publishes its run and checks it. It answers whether one was published.
+    // Runs an incarnation that was taken, publishes its run and settles it. It answers whether one was published.
     fn run_taken(
         &self,
         pass: Pass<'a>,
@@ -166,9 +201,10 @@ impl<'s, 'a, R: Wait, G: Gate> Workers<'s, 'a, R, G> {
             return Ok((pass, false));
         };
         let notes = run.transcript.as_slice().len();
+        self.lengths.put(turn.place, notes);
         let is_published = self.publish(&mut pass, turn, run)?;
         if is_published {
-            self.check_own(&mut pass, turn, notes)?;
+            self.settle(&mut pass, turn, notes)?;
         }
         Ok((pass, is_published))
     }
@@ -192,19 +228,6 @@ impl<'s, 'a, R: Wait, G: Gate> Workers<'s, 'a, R, G> {
             return Ok((pass, false));
         };
         self.run_taken(pass, Turn { place, incarnation }, request)
-    }
-
-    // Begins a pass of checks. It answers whether that was not refused.
-    fn begin(&self, pass: &mut Pass<'a>, turn: Turn) -> Result<bool, AllocError>
-        requires { IsPassFor self.now pass.old }
-        ensures { IsPassFor self.now pass.new }
-    {
-        let Turn { place, incarnation } = turn;
-        let reply = self
-            .shared
-            .begin(self.rt, self.alloc, pass, place, incarnation)?;
-        let reply = self.shown(pass, Event::Begin(place, incarnation), reply);
-        Ok(matches!(reply, Reply::Begun))
     }
 
     // Checks the next note of the pass of checks. It answers whether that passed.
@@ -246,7 +269,10 @@ impl<'s, 'a, R: Wait, G: Gate> Workers<'s, 'a, R, G> {
         let got_on = match task {
             Task::Take(place) => return self.take(pass, place),
             Task::Commit(place) => self.commit(&mut pass, place)?,
-            Task::Begin(place, incarnation) => self.begin(&mut pass, Turn { place, incarnation })?,
+            Task::Begin(place, incarnation) => {
+                let turn = Turn { place, incarnation };
+                self.settle(&mut pass, turn, self.lengths.at(place))?
+            }
             Task::Check(place, incarnation) => self.check(&mut pass, Turn { place, incarnation })?,
         };
         Ok((pass, got_on))
@@ -320,6 +346,7 @@ impl<'s, 'a, R: Wait, G: Gate> Workers<'s, 'a, R, G> {
             block: self.block,
             gate: self.gate,
             pace: self.pace,
+            lengths: self.lengths,
             stopped: self.stopped,
         }
     }

@@ -57,9 +57,6 @@ module _ {A : Type 0} (item : List Token → Option (A × List Token)) (link : L
       ap (with_front front) (unrolled c ts ∙ ap (λ (o : Option (A × List Token)). o >>= λ x. go_on (length ts) x (link x.1).0) item-is
       ∙ ap (λ (p : Bool × List Token). cond p.0 (many_from item link (length ts) p.1 >>= λ xs. Some (x ∷ xs.0, xs.1)) (Some (x ∷ [], p.1))) link-is)
 
-  pub many_none : Consumes → (front : List A) (ts : List Token) → item ts ≡ None → with_front front (many item link ts) ≡ None
-  many_none c front ts item-is = ap (with_front front) (unrolled c ts ∙ ap (λ (o : Option (A × List Token)). o >>= λ x. go_on (length ts) x (link x.1).0) item-is)
-
   pub no_front : (read : Option (List A × List Token)) → with_front [] read ≡ read
   no_front None = refl
   no_front (Some x) = refl

@@ -73,6 +73,3 @@ sign_found s [] rest e = absurd cc
 sign_found s (t ∷ ts) rest e =
     let g = guard_some (is_sign s t) ts rest e in
     ap (λ (u : Token). u ∷ ts) (is_sign_found s t g.0) ∙ ap (λ (r : List Token). token.Sign s ∷ r) g.1
-
-pub sign_again : (s : Sign) (rest : List Token) → sign_at s (token.Sign s ∷ rest) ≡ Some rest
-sign_again s rest = ap (λ b. cond b (let r : Option (List Token) = Some rest in r) None) (number_is s)

@@ -14,7 +14,8 @@ pub fn is_keyword(word: &Piece<'_>, keyword: &[u8]) -> bool
 
 /// What follows a keyword at the front of the tokens, in any case. `None` where they begin with anything else.
 pub fn after_keyword<'t, 'a>(keyword: &[u8], tokens: &'t [Token<'a>]) -> Option<&'t [Token<'a>]>
-    ensures { MatchOption result (keyword_at keyword.now tokens.now ≡ None) (λ rest. keyword_at keyword.now tokens.now ≡ Some rest.now) }
+    ensures { MatchOption result (keyword_at keyword.now tokens.now ≡ None)
+        (λ rest. keyword_at keyword.now tokens.now ≡ Some rest.now) }
 {
     let [first, rest @ ..] = tokens else {
         return None;

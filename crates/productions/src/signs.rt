@@ -15,7 +15,8 @@ fn is_sign(sign: Sign, token: &Token<'_>) -> bool
 
 /// What follows a sign at the front of the tokens. `None` where they begin with anything else.
 pub fn after_sign<'t, 'a>(sign: Sign, tokens: &'t [Token<'a>]) -> Option<&'t [Token<'a>]>
-    ensures { MatchOption result (sign_at sign tokens.now ≡ None) (λ rest. sign_at sign tokens.now ≡ Some rest.now) }
+    ensures { MatchOption result (sign_at sign tokens.now ≡ None)
+        (λ rest. sign_at sign tokens.now ≡ Some rest.now) }
 {
     let [first, rest @ ..] = tokens else {
         return None;

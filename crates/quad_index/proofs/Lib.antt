@@ -3,6 +3,7 @@ pub mod Filtering
 pub mod Joined
 pub mod Looking
 pub mod Mapped
+pub mod Moved
 pub mod Orders
 pub mod Requests
 pub mod Searching

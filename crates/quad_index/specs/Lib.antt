@@ -9,4 +9,5 @@ pub mod Hints
 pub mod Sorted
 pub mod Indexed
 pub mod Index
+pub mod QuadList
 pub mod Seen

@@ -85,7 +85,8 @@ pub fn known_hints_of(
     quads: &[Quad<Id>],
     request: usize,
 ) -> Result<Option<Vec<KnownHint>>, AllocError>
-    ensures { IfOk result (λ list. IfSome list (λ known. map hint_of known.items ≡ the_hints_of request quads.now)) }
+    ensures { IfOk result (λ list. IfSome list
+        (λ known. map hint_of known.items ≡ the_hints_of request quads.now)) }
 {
     let mut known = Vec::new(alloc);
     known.reserve(quads.len())?;
@@ -126,7 +127,8 @@ pub fn widened(alloc: Global, known: &[KnownHint]) -> Result<Vec<Hint>, AllocErr
 
 /// These hints in an order. Where they are in it already, that is found in one pass.
 pub fn sorted_hints(mut hints: Vec<Hint>, arrangement: Arrangement) -> Result<Vec<Hint>, AllocError>
-    ensures sorted { IfOk result (λ sorted. IsSortedByKey (λ (h : Hint). key_of arrangement h.quad) key_order sorted.items) }
+    ensures sorted { IfOk result (λ sorted. IsSortedByKey (λ (h : Hint). key_of arrangement h.quad)
+        key_order sorted.items) }
     ensures same { IfOk result (λ sorted. IsPermutation hints.items sorted.items) }
 {
     hints.sort_by(|left, right| arrangement.compare(&left.quad, &right.quad))?;
@@ -138,8 +140,10 @@ pub fn sorted_known_hints(
     mut known: Vec<KnownHint>,
     arrangement: Arrangement,
 ) -> Result<Vec<KnownHint>, AllocError>
-    ensures sorted { IfOk result (λ sorted. IsSortedByKey (λ (h : Hint). key_of arrangement h.quad) key_order (map hint_of sorted.items)) }
-    ensures same { IfOk result (λ sorted. IsPermutation (map hint_of known.items) (map hint_of sorted.items)) }
+    ensures sorted { IfOk result (λ sorted. IsSortedByKey (λ (h : Hint). key_of arrangement h.quad)
+        key_order (map hint_of sorted.items)) }
+    ensures same { IfOk result (λ sorted. IsPermutation (map hint_of known.items)
+        (map hint_of sorted.items)) }
 {
     known.sort_by(|left, right| left.quad.compare(&right.quad, arrangement))?;
     Ok(known)
@@ -151,7 +155,8 @@ pub fn add_requests(
     hints: &[Hint],
     pattern: &QuadPattern<Id>,
 ) -> Result<(), AllocError>
-    ensures { OnOk result (found.new.items ≡ found.old.items ++ map (λ h. h.request) (filter (λ h. the_matches id_order pattern.now h.quad) hints.now)) }
+    ensures { OnOk result (found.new.items ≡ found.old.items
+        ++ map (λ h. h.request) (filter (λ h. the_matches id_order pattern.now h.quad) hints.now)) }
 {
     for hint in hints {
         if matches(pattern, &hint.quad) {
@@ -167,7 +172,9 @@ pub fn add_known_requests(
     known: &[KnownHint],
     pattern: &QuadPattern<Id>,
 ) -> Result<(), AllocError>
-    ensures { OnOk result (found.new.items ≡ found.old.items ++ map (λ h. h.request) (filter (λ h. the_matches id_order pattern.now h.quad) (map hint_of known.now))) }
+    ensures { OnOk result (found.new.items ≡ found.old.items
+        ++ map (λ h. h.request) (filter (λ h. the_matches id_order pattern.now h.quad)
+        (map hint_of known.now))) }
 {
     for entry in known {
         let hint = entry.to_hint();

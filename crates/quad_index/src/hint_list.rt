@@ -96,7 +96,8 @@ impl HintList {
 
     /// These hints in an order. Where they are in it already, that is found in one pass.
     pub fn sorted(self, arrangement: Arrangement) -> Result<HintList, AllocError>
-        ensures sorted { IfOk result (λ list. IsSortedByKey (λ (h : Told). key_of arrangement h.quad) key_order (hints_in list)) }
+        ensures sorted { IfOk result (λ list. IsSortedByKey
+            (λ (h : Told). key_of arrangement h.quad) key_order (hints_in list)) }
         ensures same { IfOk result (λ list. IsPermutation (hints_in self) (hints_in list)) }
     {
         match self {
@@ -116,8 +117,11 @@ impl HintList {
         arrangement: Arrangement,
         pattern: &QuadPattern<Id>,
     ) -> Result<(), AllocError>
-        requires { IsSortedByKey (λ (h : Told). key_of arrangement h.quad) key_order (hints_in self.now) }
-        ensures { OnOk result (found.new.items ≡ found.old.items ++ map (λ h. h.request) (filter (λ h. matches id_order pattern.now h.quad) (hints_in self.now))) }
+        requires { IsSortedByKey (λ (h : Told). key_of arrangement h.quad) key_order
+            (hints_in self.now) }
+        ensures { OnOk result (found.new.items
+            ≡ found.old.items ++ map (λ h. h.request)
+            (filter (λ h. matches id_order pattern.now h.quad) (hints_in self.now))) }
     {
         match self {
             HintList::Narrow(known) => {

@@ -52,9 +52,11 @@ impl Hints {
         quads: &[Quad<Id>],
         request: usize,
     ) -> Result<(), AllocError>
-        ensures added { OnOk result ((p : Hint → Bool) → list_any p (the_hints_of request quads.now) ≡ true → list_any p self.new ≡ true) }
+        ensures added { OnOk result ((p : Hint → Bool)
+            → list_any p (the_hints_of request quads.now) ≡ true → list_any p self.new ≡ true) }
         ensures kept { (p : Hint → Bool) → list_any p self.old ≡ true → list_any p self.new ≡ true }
-        ensures only { (p : Hint → Bool) → list_any p self.old ≡ false → list_any p (the_hints_of request quads.now) ≡ false → list_any p self.new ≡ false }
+        ensures only { (p : Hint → Bool) → list_any p self.old ≡ false
+            → list_any p (the_hints_of request quads.now) ≡ false → list_any p self.new ≡ false }
     {
         if quads.len() >= MOST_IN_TAIL {
             let hints = HintList::of_quads(alloc, quads, request)?;
@@ -71,7 +73,8 @@ impl Hints {
     // Puts the tail into the orders, if there is memory.
     fn settle(&mut self, alloc: Global) -> Result<(), AllocError>
         ensures kept { (p : Hint → Bool) → list_any p self.old ≡ true → list_any p self.new ≡ true }
-        ensures only { (p : Hint → Bool) → list_any p self.old ≡ false → list_any p self.new ≡ false }
+        ensures only { (p : Hint → Bool) → list_any p self.old ≡ false
+            → list_any p self.new ≡ false }
     {
         let hints = HintList::of_hints(alloc, &self.tail)?;
         self.ordered.add(alloc, hints)?;
@@ -85,7 +88,9 @@ impl Hints {
         alloc: Global,
         pattern: &QuadPattern<Id>,
     ) -> Result<Vec<usize>, AllocError>
-        ensures { IfOk result (λ found. (j : ℕ) → list_any (λ h. matches id_order pattern.now h.quad && (h.request == j)) self.now ≡ true → list_any (λ r. r == j) found.items ≡ true) }
+        ensures { IfOk result (λ found. (j : ℕ)
+            → list_any (λ h. matches id_order pattern.now h.quad && (h.request == j)) self.now
+            ≡ true → list_any (λ r. r == j) found.items ≡ true) }
     {
         let mut found = Vec::new(alloc);
         self.ordered.add_requests(&mut found, pattern)?;

@@ -12,10 +12,12 @@ ghost use Rattle.quad_index.specs.Looks.{IsScan};
 use crate::key::{Arrangement, order_for};
 use crate::looks::Looks;
 use crate::order::Order;
+use crate::quad_list::QuadList;
 use datasets::{Id, Quad, QuadPattern};
 use sets::set_of;
 use std::alloc::{AllocError, Global};
 use std::marker::Model;
+use std::thread::Threads;
 
 /// A set of quads. Contracts see its list, and the orders in which it is kept: SPOG, and those that it was made with. In an order that
 /// begins with the bound places of a pattern, its quads are found by binary search.
@@ -55,6 +57,23 @@ fn orders_of(
     Ok(orders)
 }
 
+// The same, put in order by several threads.
+fn orders_of_by<T: Threads + Sync>(
+    rt: &T,
+    alloc: Global,
+    spog: &Order,
+    arrangements: &[Arrangement],
+) -> Result<Vec<Order>, AllocError>
+    ensures orders { IfOk result (λ orders. arrangements_of orders.items ≡ arrangements.now) }
+    ensures alike { IfOk result (λ orders. AllAlike spog.now.quads orders.items) }
+{
+    let mut orders = Vec::new(alloc);
+    for arrangement in arrangements {
+        orders.push(spog.rearranged_by(rt, alloc, *arrangement)?)?;
+    }
+    Ok(orders)
+}
+
 impl Index {
     /// This set of quads, in SPOG and in these orders. An error comes only where memory runs out, as it does for 2^62 quads.
     pub fn new(
@@ -63,7 +82,8 @@ impl Index {
         arrangements: &[Arrangement],
     ) -> Result<Index, AllocError>
         requires { IsStrictlySortedBy (quad_order id_order) quads.now }
-        ensures { IfOk result (λ index. index ≡ record { quads = quads.now; orders = Arrangement.Spog ∷ arrangements.now }) }
+        ensures { IfOk result (λ index. index ≡ record
+            { quads = quads.now; orders = Arrangement.Spog ∷ arrangements.now }) }
     {
         let spog = Order::of_set(alloc, quads)?;
         let others = orders_of(alloc, &spog, arrangements)?;
@@ -74,13 +94,35 @@ impl Index {
     /// for 2^62 quads.
     pub fn of_quads(
         alloc: Global,
-        quads: Vec<Quad<Id>>,
+        quads: QuadList,
         arrangements: &[Arrangement],
     ) -> Result<Index, AllocError>
-        ensures { IfOk result (λ index. index ≡ record { quads = the_set_of (quad_order id_order) quads.items; orders = Arrangement.Spog ∷ arrangements.now }) }
+        ensures { IfOk result (λ index. index ≡ record {
+          quads = the_set_of (quad_order id_order) quads;
+          orders = Arrangement.Spog ∷
+              arrangements.now;
+        }) }
     {
         let spog = Order::of_quads(alloc, quads)?;
         let others = orders_of(alloc, &spog, arrangements)?;
+        Ok(Index { spog, others })
+    }
+
+    /// The same, put in order by several threads.
+    pub fn of_quads_by<T: Threads + Sync>(
+        rt: &T,
+        alloc: Global,
+        quads: QuadList,
+        arrangements: &[Arrangement],
+    ) -> Result<Index, AllocError>
+        ensures { IfOk result (λ index. index ≡ record {
+          quads = the_set_of (quad_order id_order) quads;
+          orders = Arrangement.Spog ∷
+              arrangements.now;
+        }) }
+    {
+        let spog = Order::of_quads_by(rt, alloc, quads)?;
+        let others = orders_of_by(rt, alloc, &spog, arrangements)?;
         Ok(Index { spog, others })
     }
 
@@ -89,6 +131,13 @@ impl Index {
         ensures { IsStrictlySortedBy (quad_order id_order) self.now.quads }
     {
         let _ = &self.spog;
+    }
+
+    /// Its quads, by subject, predicate, object and graph.
+    pub fn quads(&self, alloc: Global) -> Result<Vec<Quad<Id>>, AllocError>
+        ensures { IfOk result (λ quads. quads.items ≡ self.now.quads) }
+    {
+        self.spog.quads(alloc)
     }
 
     /// The orders beside SPOG, in which its quads are kept.
@@ -107,7 +156,8 @@ impl Index {
         ensures arrangement { IfSome result (λ order. order.now.arrangement ≡ arrangement) }
         ensures alike { IfSome result (λ order. IsPermutation self.now.quads order.now.quads) }
         ensures set { IsStrictlySortedBy (quad_order id_order) self.now.quads }
-        ensures none { IfNone result (Contains self.now.orders arrangement → arrangement ≡ Arrangement.Spog) }
+        ensures none { IfNone result (Contains self.now.orders arrangement
+            → arrangement ≡ Arrangement.Spog) }
     {
         for order in &self.others {
             if order.arrangement() == arrangement {
@@ -127,8 +177,10 @@ impl Index {
         looks: &mut Looks,
     ) -> Result<Vec<Quad<Id>>, AllocError>
         requires { looks.old < 2 ^ 63 }
-        ensures found { IfOk result (λ found. found.items ≡ filter (matches id_order pattern.now) self.now.quads) }
-        ensures looks { IfOk result (λ found. Contains self.now.orders (arrangement_for pattern.now) → IsScan looks.old looks.new (length self.now.quads) (length found.items)) }
+        ensures found { IfOk result (λ found. found.items
+            ≡ filter (matches id_order pattern.now) self.now.quads) }
+        ensures looks { IfOk result (λ found. Contains self.now.orders (arrangement_for pattern.now)
+            → IsScan looks.old looks.new (length self.now.quads) (length found.items)) }
     {
         match self.other(order_for(pattern)) {
             Some(order) => Ok(set_of(order.matching(alloc, pattern, looks)?)),
@@ -142,7 +194,8 @@ impl Index {
         alloc: Global,
         pattern: &QuadPattern<Id>,
     ) -> Result<Vec<Quad<Id>>, AllocError>
-        ensures { IfOk result (λ found. found.items ≡ filter (matches id_order pattern.now) self.now.quads) }
+        ensures { IfOk result (λ found. found.items
+            ≡ filter (matches id_order pattern.now) self.now.quads) }
     {
         self.scan_counted(alloc, pattern, &mut Looks::new())
     }

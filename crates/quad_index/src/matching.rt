@@ -43,7 +43,8 @@ pub fn matching(
     pattern: &QuadPattern<Id>,
     quads: &[Quad<Id>],
 ) -> Result<Vec<Quad<Id>>, AllocError>
-    ensures { IfOk result (λ kept. kept.items ≡ filter (the_matches id_order pattern.now) quads.now) }
+    ensures { IfOk result (λ kept. kept.items
+        ≡ filter (the_matches id_order pattern.now) quads.now) }
 {
     quads
         .iter()

@@ -19,7 +19,8 @@ pub struct OrderSet {
 impl OrderSet {
     /// SPOG and these orders.
     pub fn of(orders: &[Arrangement]) -> OrderSet
-        ensures { (a : Which) → (has_order result a ≡ true) ↔ Contains (Arrangement.Spog ∷ orders.now) a }
+        ensures { (a : Which) → (has_order result a ≡ true)
+            ↔ Contains (Arrangement.Spog ∷ orders.now) a }
     {
         OrderSet {
             pogs: orders.contains(&Arrangement::Pogs),

@@ -48,8 +48,11 @@ fn add_if(
     sorted: &mut SortedHints,
     hints: &HintList,
 ) -> Result<(), AllocError>
-    ensures added { OnOk result (is_kept ≡ true → (p : Hint → Bool) → list_any p (hints_in hints.now) ≡ true → list_any p (all_entries sorted.new.runs.items) ≡ true) }
-    ensures kept { (p : Hint → Bool) → list_any p (all_entries sorted.old.runs.items) ≡ true → list_any p (all_entries sorted.new.runs.items) ≡ true }
+    ensures added { OnOk result (is_kept ≡ true → (p : Hint → Bool)
+        → list_any p (hints_in hints.now) ≡ true
+        → list_any p (all_entries sorted.new.runs.items) ≡ true) }
+    ensures kept { (p : Hint → Bool) → list_any p (all_entries sorted.old.runs.items) ≡ true
+        → list_any p (all_entries sorted.new.runs.items) ≡ true }
 {
     if !is_kept {
         return Ok(());
@@ -75,9 +78,11 @@ impl OrderedHints {
 
     /// These hints more. What was there stays, also where memory runs out.
     pub fn add(&mut self, alloc: Global, hints: HintList) -> Result<(), AllocError>
-        ensures added { OnOk result ((p : Hint → Bool) → list_any p (hints_in hints) ≡ true → list_any p self.new ≡ true) }
+        ensures added { OnOk result ((p : Hint → Bool) → list_any p (hints_in hints) ≡ true
+            → list_any p self.new ≡ true) }
         ensures kept { (p : Hint → Bool) → list_any p self.old ≡ true → list_any p self.new ≡ true }
-        ensures only { (p : Hint → Bool) → list_any p self.old ≡ false → list_any p (hints_in hints) ≡ false → list_any p self.new ≡ false }
+        ensures only { (p : Hint → Bool) → list_any p self.old ≡ false
+            → list_any p (hints_in hints) ≡ false → list_any p self.new ≡ false }
     {
         let orders = self.orders;
         add_if(alloc, orders.pogs, &mut self.pogs, &hints)?;
@@ -90,7 +95,8 @@ impl OrderedHints {
 
     // The hints in this order, or in SPOG where it is not kept.
     fn sorted(&self, arrangement: Arrangement) -> &SortedHints
-        ensures { (p : Hint → Bool) → list_any p self.now ≡ true → list_any p (all_entries result.now.runs.items) ≡ true }
+        ensures { (p : Hint → Bool) → list_any p self.now ≡ true
+            → list_any p (all_entries result.now.runs.items) ≡ true }
     {
         if !self.orders.has(arrangement) {
             return &self.spog;
@@ -111,8 +117,11 @@ impl OrderedHints {
         found: &mut Vec<usize>,
         pattern: &QuadPattern<Id>,
     ) -> Result<(), AllocError>
-        ensures kept { OnOk result ((j : ℕ) → list_any (λ r. r == j) found.old.items ≡ true → list_any (λ r. r == j) found.new.items ≡ true) }
-        ensures added { OnOk result ((j : ℕ) → list_any (λ h. matches id_order pattern.now h.quad && (h.request == j)) self.now ≡ true → list_any (λ r. r == j) found.new.items ≡ true) }
+        ensures kept { OnOk result ((j : ℕ) → list_any (λ r. r == j) found.old.items ≡ true
+            → list_any (λ r. r == j) found.new.items ≡ true) }
+        ensures added { OnOk result ((j : ℕ) → list_any
+            (λ h. matches id_order pattern.now h.quad && (h.request == j)) self.now ≡ true
+            → list_any (λ r. r == j) found.new.items ≡ true) }
     {
         self.sorted(order_for(pattern)).add_requests(found, pattern)
     }

@@ -42,7 +42,9 @@ impl Run {
         found: &mut Vec<usize>,
         pattern: &QuadPattern<Id>,
     ) -> Result<(), AllocError>
-        ensures { OnOk result (found.new.items ≡ found.old.items ++ map (λ h. h.request) (filter (λ h. matches id_order pattern.now h.quad) (hints_in self.now.hints))) }
+        ensures { OnOk result (found.new.items
+            ≡ found.old.items ++ map (λ h. h.request)
+            (filter (λ h. matches id_order pattern.now h.quad) (hints_in self.now.hints))) }
     {
         self.hints.add_requests(found, self.arrangement, pattern)
     }
@@ -50,7 +52,8 @@ impl Run {
 
 /// One run of the hints of two, in the order of the first.
 pub fn joined(alloc: Global, first: &Run, second: &Run) -> Result<Run, AllocError>
-    ensures { IfOk result (λ run. IsPermutation (hints_in first.now.hints ++ hints_in second.now.hints) (hints_in run.hints)) }
+    ensures { IfOk result (λ run. IsPermutation
+        (hints_in first.now.hints ++ hints_in second.now.hints) (hints_in run.hints)) }
 {
     Run::new(
         first.arrangement,

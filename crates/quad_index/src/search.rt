@@ -39,8 +39,11 @@ fn place_of<E: Entry>(
 ) -> usize
     requires { IsSortedByKey (λ e. key_of arrangement (E.quad e)) key_order entries.now }
     ensures within { result ≤ length entries.now }
-    ensures front { AllWithin (λ e. the_is_before past (order_at depth (key_of arrangement (E.quad e)) target.now) ≡ true) entries.now 0 result }
-    ensures back { AllWithin (λ e. the_is_before past (order_at depth (key_of arrangement (E.quad e)) target.now) ≡ false) entries.now result (length entries.now) }
+    ensures front { AllWithin (λ e. the_is_before past
+        (order_at depth (key_of arrangement (E.quad e)) target.now) ≡ true) entries.now 0 result }
+    ensures back { AllWithin (λ e. the_is_before past
+        (order_at depth (key_of arrangement (E.quad e)) target.now) ≡ false) entries.now result
+        (length entries.now) }
 {
     let mut low = 0;
     let mut high = entries.len();
@@ -72,7 +75,8 @@ fn part_of<'a, E: Entry>(
     target: &Key,
 ) -> &'a [E]
     requires { IsSortedByKey (λ e. key_of arrangement (E.quad e)) key_order entries.now }
-    ensures { result.now ≡ filter (λ e. is_eq (order_at depth (key_of arrangement (E.quad e)) target.now)) entries.now }
+    ensures { result.now ≡ filter (λ e. is_eq
+        (order_at depth (key_of arrangement (E.quad e)) target.now)) entries.now }
 {
     let first = place_of(entries, arrangement, depth, target, false);
     let past = place_of(entries, arrangement, depth, target, true);
@@ -87,7 +91,9 @@ pub fn part_for<'a, E: Entry>(
     pattern: &QuadPattern<Id>,
 ) -> &'a [E]
     requires { IsSortedByKey (λ e. key_of arrangement (E.quad e)) key_order entries.now }
-    ensures { (p : E → Bool) → ((e : E) → p e ≡ true → matches id_order pattern.now (E.quad e) ≡ true) → filter p result.now ≡ filter p entries.now }
+    ensures { (p : E → Bool) → ((e : E) → p e ≡ true
+        → matches id_order pattern.now (E.quad e) ≡ true)
+        → filter p result.now ≡ filter p entries.now }
 {
     let bounds = arrangement.bounds_of(pattern);
     part_of(entries, arrangement, bounds.depth(), &bounds.target())
@@ -96,7 +102,8 @@ pub fn part_for<'a, E: Entry>(
 /// Of a set of quads, a part that has all that the pattern matches.
 pub fn part_of_set<'a>(quads: &'a [Quad<Id>], pattern: &QuadPattern<Id>) -> &'a [Quad<Id>]
     requires { IsStrictlySortedBy (quad_order id_order) quads.now }
-    ensures { filter (matches id_order pattern.now) result.now ≡ filter (matches id_order pattern.now) quads.now }
+    ensures { filter (matches id_order pattern.now) result.now
+        ≡ filter (matches id_order pattern.now) quads.now }
 {
     part_for(quads, Arrangement::Spog, pattern)
 }

@@ -94,8 +94,10 @@ impl SeenQuads {
 
     /// One more quad. What was let through still is, also where memory runs out.
     pub fn put(&mut self, quad: &Quad<Id>) -> Result<(), AllocError>
-        ensures added { OnOk result ((p : PatternOf Number) → matches id_order p quad.now ≡ true → the_may_match self.new p ≡ true) }
-        ensures kept { (p : PatternOf Number) → the_may_match self.old p ≡ true → the_may_match self.new p ≡ true }
+        ensures added { OnOk result ((p : PatternOf Number) → matches id_order p quad.now ≡ true
+            → the_may_match self.new p ≡ true) }
+        ensures kept { (p : PatternOf Number) → the_may_match self.old p ≡ true
+            → the_may_match self.new p ≡ true }
     {
         self.subjects.put(quad.subject)?;
         self.predicates.put(quad.predicate)?;
@@ -116,7 +118,8 @@ impl SeenQuads {
 
 fn put_graph(seen: &mut Seen, graph: Option<Id>) -> Result<(), AllocError>
     ensures added { OnOk result (is_graph_seen seen.new graph ≡ true) }
-    ensures kept { (g : Option Number) → is_graph_seen seen.old g ≡ true → is_graph_seen seen.new g ≡ true }
+    ensures kept { (g : Option Number) → is_graph_seen seen.old g ≡ true
+        → is_graph_seen seen.new g ≡ true }
 {
     match graph {
         Some(term) => seen.put(term),

@@ -33,8 +33,12 @@ impl SortedHints {
 
     /// These hints more. Where there is no memory there are as many as before.
     pub fn add(&mut self, alloc: Global, hints: HintList) -> Result<(), AllocError>
-        ensures ok { OnOk result ((p : Hint → Bool) → list_any p (all_entries self.new.runs.items) ≡ (list_any p (all_entries self.old.runs.items) || list_any p (hints_in hints))) }
-        ensures err { OnErr result ((p : Hint → Bool) → list_any p (all_entries self.new.runs.items) ≡ list_any p (all_entries self.old.runs.items)) }
+        ensures ok { OnOk result ((p : Hint → Bool)
+            → list_any p (all_entries self.new.runs.items)
+            ≡ (list_any p (all_entries self.old.runs.items) || list_any p (hints_in hints))) }
+        ensures err { OnErr result ((p : Hint → Bool)
+            → list_any p (all_entries self.new.runs.items)
+            ≡ list_any p (all_entries self.old.runs.items)) }
     {
         let run = Run::new(self.arrangement, hints)?;
         // What is to be joined with a long run is joined before, so that the long one is copied once.
@@ -46,7 +50,8 @@ impl SortedHints {
 
     // Joins runs of like lengths, as far as there is memory, as if the last had so many hints at least.
     fn join_last(&mut self, alloc: Global, least: usize)
-        ensures { (p : Hint → Bool) → list_any p (all_entries self.new.runs.items) ≡ list_any p (all_entries self.old.runs.items) }
+        ensures { (p : Hint → Bool) → list_any p (all_entries self.new.runs.items)
+            ≡ list_any p (all_entries self.old.runs.items) }
     {
         'joining: for _ in 0..64 {
             if !self.join_two(alloc, least) {
@@ -57,7 +62,8 @@ impl SortedHints {
 
     // Joins the last two runs if the last, or what is to come, is not much the shorter, and there is memory. Whether it did.
     fn join_two(&mut self, alloc: Global, least: usize) -> bool
-        ensures { (p : Hint → Bool) → list_any p (all_entries self.new.runs.items) ≡ list_any p (all_entries self.old.runs.items) }
+        ensures { (p : Hint → Bool) → list_any p (all_entries self.new.runs.items)
+            ≡ list_any p (all_entries self.old.runs.items) }
     {
         let count = self.runs.len();
         if count < 2 {
@@ -84,7 +90,9 @@ impl SortedHints {
         found: &mut Vec<usize>,
         pattern: &QuadPattern<Id>,
     ) -> Result<(), AllocError>
-        ensures { OnOk result (found.new.items ≡ found.old.items ++ map (λ h. h.request) (filter (λ h. matches id_order pattern.now h.quad) (all_entries self.now.runs.items))) }
+        ensures { OnOk result (found.new.items
+            ≡ found.old.items ++ map (λ h. h.request)
+            (filter (λ h. matches id_order pattern.now h.quad) (all_entries self.now.runs.items))) }
     {
         for run in &self.runs {
             run.add_requests(found, pattern)?;

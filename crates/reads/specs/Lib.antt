@@ -4,3 +4,4 @@ pub mod Runs
 pub mod Shared
 pub mod Questions
 pub mod Tells
+pub mod Asking

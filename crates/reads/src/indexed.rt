@@ -9,18 +9,11 @@ ghost use Rattle.reads.specs.Reads.{says};
 use crate::answered::Answered;
 use crate::lists::copied_names;
 use crate::view::View;
-use datasets::{Answer, GraphPlace, Id, Quad, QuadPattern, Read};
-use quad_index::{Arrangement, Index};
+use datasets::{Answer, Id, QuadPattern, Read};
+use quad_index::{Arrangement, Index, QuadList};
 use std::alloc::{AllocError, Global};
 use std::marker::Model;
-
-// What every quad matches.
-const EVERY_QUAD: QuadPattern<Id> = QuadPattern {
-    subject: None,
-    predicate: None,
-    object: None,
-    graph: GraphPlace::Any,
-};
+use std::thread::Threads;
 
 /// A dataset that stays as it is: a set of quads, found by binary search whatever a pattern binds, and a set of graph names.
 #[derive(Drop)]
@@ -59,16 +52,37 @@ impl IndexedView {
     /// where memory runs out.
     pub fn of_parts(
         alloc: Global,
-        quads: Vec<Quad<Id>>,
+        quads: QuadList,
         names: Vec<Id>,
         orders: &[Arrangement],
     ) -> Result<IndexedView, AllocError>
-        ensures quads { IfOk result (λ indexed. indexed.quads ≡ set_of (quad_order id_order) quads.items) }
+        ensures quads { IfOk result (λ indexed. indexed.quads
+            ≡ set_of (quad_order id_order) quads) }
         ensures names { IfOk result (λ indexed. indexed.names ≡ set_of id_order names.items) }
     {
         let quads = Index::of_quads(alloc, quads, orders)?;
         let named = View::from_parts(Vec::new(alloc), names);
         Ok(IndexedView { quads, named })
+    }
+
+    /// The same, its quads put in order by several threads.
+    pub fn of_parts_by<T: Threads + Sync>(
+        rt: &T,
+        alloc: Global,
+        quads: QuadList,
+        names: Vec<Id>,
+        orders: &[Arrangement],
+    ) -> Result<IndexedView, AllocError>
+        ensures quads { IfOk result (λ indexed. indexed.quads
+            ≡ set_of (quad_order id_order) quads) }
+        ensures names { IfOk result (λ indexed. indexed.names ≡ set_of id_order names.items) }
+    {
+        let quads = Index::of_quads_by(rt, alloc, quads, orders)?;
+        let graphs = View::from_parts(Vec::new(alloc), names);
+        Ok(IndexedView {
+            quads,
+            named: graphs,
+        })
     }
 
     /// Its graph names.
@@ -89,7 +103,7 @@ impl IndexedView {
         ensures { IfOk result (λ copy. copy ≡ self.now) }
     {
         self.rises();
-        let quads = self.quads.scan(alloc, &EVERY_QUAD)?;
+        let quads = self.quads.quads(alloc)?;
         let names = copied_names(alloc, self.names())?;
         Ok(View::from_sets(quads, names))
     }
@@ -104,7 +118,8 @@ impl IndexedView {
 
     // The quads that match.
     fn matching_part(&self, alloc: Global, pattern: &QuadPattern<Id>) -> Result<View, AllocError>
-        ensures { IfOk result (λ part. part ≡ record { quads = filter (matches id_order pattern.now) self.now.quads; names = [] }) }
+        ensures { IfOk result (λ part. part ≡ record
+            { quads = filter (matches id_order pattern.now) self.now.quads; names = [] }) }
     {
         self.rises();
         let quads = self.quads.scan(alloc, pattern)?;

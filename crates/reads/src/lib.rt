@@ -7,6 +7,7 @@
 mod answered;
 mod indexed;
 pub mod lists;
+mod near;
 mod note;
 pub mod same;
 mod scanned;

@@ -41,7 +41,8 @@ impl<'a> Scanned<'a> {
         dataset: &'a IndexedView,
         read: &Read<Id>,
     ) -> Result<Scanned<'a>, AllocError>
-        ensures { IfOk result (λ scanned. scanned ≡ record { dataset = dataset.now; read = read.now }) }
+        ensures { IfOk result (λ scanned. scanned
+            ≡ record { dataset = dataset.now; read = read.now }) }
     {
         let answer = dataset.answer(alloc, read)?;
         Ok(Scanned {
@@ -109,7 +110,8 @@ impl<'a> Scanned<'a> {
 
     fn matching_part(&self, alloc: Global, pattern: &QuadPattern<Id>) -> Result<View, AllocError>
         requires { self.now.read ≡ Read.Scan pattern.now }
-        ensures { IfOk result (λ part. part ≡ record { quads = filter (matches id_order pattern.now) self.now.dataset.quads; names = [] }) }
+        ensures { IfOk result (λ part. part ≡ record
+            { quads = filter (matches id_order pattern.now) self.now.dataset.quads; names = [] }) }
     {
         self.rises();
         let quads = copied_quads(alloc, self.quads(pattern))?;
@@ -118,7 +120,11 @@ impl<'a> Scanned<'a> {
 
     fn name_part(&self, alloc: Global, name: &Id) -> Result<View, AllocError>
         requires { self.now.read ≡ Read.GraphIs name.now }
-        ensures { IfOk result (λ part. part ≡ record { quads = []; names = if has id_order self.now.dataset.names name.now then name.now ∷ [] else [] }) }
+        ensures { IfOk result (λ part. part ≡ record {
+          quads = [];
+          names = if has id_order self.now.dataset.names name.now then name.now ∷ []
+              else [];
+        }) }
     {
         let names = name_if(alloc, self.has(name), name)?;
         Ok(View::from_sets(Vec::new(alloc), names))
@@ -126,7 +132,8 @@ impl<'a> Scanned<'a> {
 
     fn names_part(&self, alloc: Global) -> Result<View, AllocError>
         requires { self.now.read ≡ Read.Graphs }
-        ensures { IfOk result (λ part. part ≡ record { quads = []; names = self.now.dataset.names }) }
+        ensures { IfOk result (λ part. part ≡ record
+            { quads = []; names = self.now.dataset.names }) }
     {
         self.rises();
         let names = copied_names(alloc, self.names())?;
@@ -136,7 +143,8 @@ impl<'a> Scanned<'a> {
     /// The part of the dataset that the read asks for: what it says of the part is what it says of the whole. An error comes only where
     /// memory runs out.
     pub fn part(&self, alloc: Global) -> Result<View, AllocError>
-        ensures { IfOk result (λ part. says self.now.read part ≡ says self.now.read self.now.dataset) }
+        ensures { IfOk result (λ part. says self.now.read part
+            ≡ says self.now.read self.now.dataset) }
     {
         match &self.read {
             Read::Scan(pattern) => self.matching_part(alloc, pattern),

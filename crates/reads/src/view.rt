@@ -106,7 +106,8 @@ impl View {
 
     // The quads that match.
     fn matching_part(&self, alloc: Global, pattern: &QuadPattern<Id>) -> Result<View, AllocError>
-        ensures { IfOk result (λ part. part ≡ record { quads = filter (matches id_order pattern.now) self.now.quads; names = [] }) }
+        ensures { IfOk result (λ part. part ≡ record
+            { quads = filter (matches id_order pattern.now) self.now.quads; names = [] }) }
     {
         let part = part_of_set(&self.quads, pattern);
         let quads = matching(alloc, pattern, part)?;
@@ -118,7 +119,11 @@ impl View {
 
     // The name alone, if it is there.
     fn name_part(&self, alloc: Global, name: &Id) -> Result<View, AllocError>
-        ensures { IfOk result (λ part. part ≡ record { quads = []; names = if has id_order self.now.names name.now then name.now ∷ [] else [] }) }
+        ensures { IfOk result (λ part. part ≡ record {
+          quads = [];
+          names = if has id_order self.now.names name.now then name.now ∷ []
+              else [];
+        }) }
     {
         let is_there = is_member(&self.names, name);
         let names = name_if(alloc, is_there, name)?;

@@ -24,15 +24,6 @@ module _ (terms : List Term) (lines : List Line) (i : ℕ) (lt : i < length line
   entries : (history : List Entry) → HasLines terms history (take i lines) → length history ≡ i
   entries history h = sym (length-map (line_of terms) history) ∙ ap length h.printed ∙ length-take-le i lines (omega (arith, lt))
 
-  lines_more : (history : List Entry) (line : Line) (e : Entry) → HasLines terms history (take i lines) → line ≡ get_or lines i line → IsEntryOf terms line e → HasLines terms (history ++ e ∷ []) (take (i + 1) lines)
-  lines_more history line e h at is =
-      record {
-        printed =
-            map-append (line_of terms) history (e ∷ []) ∙ (λ z. h.printed z ++ is.printed z ∷ []) ∙ ap (λ (l : Line). take i lines ++ l ∷ []) at
-            ∙ sym (take_more lines i line lt);
-        known = list_all-append (entry_known terms) history (e ∷ []) ∙ both_true h.known (both_true is.known refl);
-      }
-
 module _ (terms : List Term) (base : View) (block : List (Request Id)) (lines : List Line) where
   -- a book of these terms, base and block whose journal has the first n lines
   pub record IsBegun (book : Run) (n : ℕ) : Type 0 where
@@ -40,18 +31,6 @@ module _ (terms : List Term) (base : View) (block : List (Request Id)) (lines : 
     pub base_is : book.base ≡ base
     pub block_is : book.block ≡ block
     pub journal : HasLines terms book.history (take n lines)
-
-  pub begun_more : (book new : Run) (i : ℕ) (line : Line) → IsBegun book i → i < length lines → line ≡ get_or lines i line → GoesOnBy book line new → IsBegun new (i + 1)
-  begun_more book new i line b lt at g =
-      record {
-        terms_are = ap (λ (r : Run). r.terms) g.entry ∙ b.terms_are;
-        base_is = ap (λ (r : Run). r.base) g.entry ∙ b.base_is;
-        block_is = ap (λ (r : Run). r.block) g.entry ∙ b.block_is;
-        journal =
-            let next = subst (λ (ts : List Term). IsEntryOf ts line g.next) b.terms_are g.is in
-            subst (λ (h : List Entry). HasLines terms h (take (i + 1) lines)) (sym (ap (λ (r : Run). r.history) g.entry))
-            (lines_more terms lines i lt book.history line g.next b.journal at next);
-      }
 
   pub stops : (book : Run) (i : ℕ) (line : Line) (n : ℕ) → IsBegun book i → i < length lines → line ≡ get_or lines i line → n ≡ length book.history + 1 → IsHistory (setting_of book) book.history → IsUnlawful book line → StopsAt terms base block lines n
   stops book i line n b lt at number lawful unlawful =

@@ -33,7 +33,8 @@ fn read(
     read: &Read<Term>,
 ) -> Result<Option<Reply>, AllocError>
     requires { line.now.event ≡ told.Read i n read.now }
-    ensures some { IfOk result (λ found. IfSome found (λ reply. Follows book.old line.now reply book.new)) }
+    ensures some { IfOk result (λ found. IfSome found
+        (λ reply. Follows book.old line.now reply book.new)) }
     ensures none { IfOk result (λ found. IfNone found (NoneIsLawful book.old line.now)) }
 {
     let Some(read) = find_read(book.terms(), read) else {
@@ -100,7 +101,8 @@ fn check(
 fn follow(alloc: Global, book: &mut Book<'_>, line: &Line) -> Result<Option<Reply>, AllocError>
     requires size { length book.old.block < 2 ^ 32 }
     requires short { AreShort book.old.block }
-    ensures some { IfOk result (λ found. IfSome found (λ reply. Follows book.old line.now reply book.new)) }
+    ensures some { IfOk result (λ found. IfSome found
+        (λ reply. Follows book.old line.now reply book.new)) }
     ensures none { IfOk result (λ found. IfNone found (NoneIsLawful book.old line.now)) }
 {
     let reply = match &line.event {

@@ -20,7 +20,8 @@ fn find(terms: &Dict, term: &Term) -> Option<Id>
 }
 
 fn find_optional(terms: &Dict, term: &Option<Term>) -> Option<Option<Id>>
-    ensures { IsFound (option_known (is_known terms.now)) (option_map (term_of terms.now)) term.now result }
+    ensures { IsFound (option_known (is_known terms.now)) (option_map (term_of terms.now)) term.now
+        result }
 {
     match term {
         Some(term) => Some(Some(find(terms, term)?)),
@@ -29,7 +30,8 @@ fn find_optional(terms: &Dict, term: &Option<Term>) -> Option<Option<Id>>
 }
 
 fn find_place(terms: &Dict, place: &GraphPlace<Term>) -> Option<GraphPlace<Id>>
-    ensures { IsFound (place_known (is_known terms.now)) (renamed_place (term_of terms.now)) place.now result }
+    ensures { IsFound (place_known (is_known terms.now)) (renamed_place (term_of terms.now))
+        place.now result }
 {
     match place {
         GraphPlace::Any => Some(GraphPlace::Any),
@@ -38,7 +40,8 @@ fn find_place(terms: &Dict, place: &GraphPlace<Term>) -> Option<GraphPlace<Id>>
 }
 
 fn find_pattern(terms: &Dict, pattern: &QuadPattern<Term>) -> Option<QuadPattern<Id>>
-    ensures { IsFound (pattern_known (is_known terms.now)) (renamed_pattern (term_of terms.now)) pattern.now result }
+    ensures { IsFound (pattern_known (is_known terms.now)) (renamed_pattern (term_of terms.now))
+        pattern.now result }
 {
     let subject = find_optional(terms, &pattern.subject)?;
     let predicate = find_optional(terms, &pattern.predicate)?;
@@ -54,7 +57,8 @@ fn find_pattern(terms: &Dict, pattern: &QuadPattern<Term>) -> Option<QuadPattern
 
 /// A read at the dictionary's numbers, or nothing where it lacks one of its terms.
 pub fn find_read(terms: &Dict, read: &Read<Term>) -> Option<Read<Id>>
-    ensures { IsFound (read_known (is_known terms.now)) (renamed_read (term_of terms.now)) read.now result }
+    ensures { IsFound (read_known (is_known terms.now)) (renamed_read (term_of terms.now)) read.now
+        result }
 {
     match read {
         Read::Scan(pattern) => Some(Read::Scan(find_pattern(terms, pattern)?)),

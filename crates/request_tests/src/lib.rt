@@ -1,10 +1,18 @@
-//! Worked examples of requests: texts and blocks with their updates or refusals, values of filter expressions, and the numbers of terms. It
-//! has tests alone.
+//! Worked examples of requests: texts with their tokens, groups and trees, texts and blocks with their updates or refusals, values of filter
+//! expressions, and the numbers of terms. It has tests alone.
 #![tactic(auto)]
 
 #[cfg(test)]
 mod filters;
 #[cfg(test)]
+mod groups;
+#[cfg(test)]
 mod numbers;
 #[cfg(test)]
 mod texts;
+#[cfg(test)]
+mod tokens;
+#[cfg(test)]
+mod told_groups;
+#[cfg(test)]
+mod told_tokens;

@@ -87,7 +87,8 @@ fn add_expression<'t>(
     found: &mut Vec<TermRef<'t>>,
     expression: &'t Expression<Term>,
 ) -> Result<(), AllocError>
-    ensures { OnOk result (found.new.items ≡ found.old.items ++ terms_of_expression (expression_of expression.now)) }
+    ensures { OnOk result (found.new.items ≡ found.old.items
+        ++ terms_of_expression (expression_of expression.now)) }
 {
     match expression {
         Expression::Constant(term) => {
@@ -114,7 +115,8 @@ fn add_expressions<'t>(
     found: &mut Vec<TermRef<'t>>,
     expressions: &'t [Expression<Term>],
 ) -> Result<(), AllocError>
-    ensures { OnOk result (found.new.items ≡ found.old.items ++ flat_map terms_of_expression (map expression_of expressions.now)) }
+    ensures { OnOk result (found.new.items ≡ found.old.items
+        ++ flat_map terms_of_expression (map expression_of expressions.now)) }
 {
     for expression in expressions {
         add_expression(found, expression)?;
@@ -126,7 +128,8 @@ fn add_patterns<'t>(
     found: &mut Vec<TermRef<'t>>,
     patterns: &'t [TriplePattern<Term>],
 ) -> Result<(), AllocError>
-    ensures { OnOk result (found.new.items ≡ found.old.items ++ flat_map terms_of_pattern patterns.now) }
+    ensures { OnOk result (found.new.items ≡ found.old.items
+        ++ flat_map terms_of_pattern patterns.now) }
 {
     for pattern in patterns {
         add_pattern(found, pattern)?;
@@ -148,7 +151,8 @@ fn add_parts<'t>(
     found: &mut Vec<TermRef<'t>>,
     parts: &'t [(Link<Term>, Plan<Term>)],
 ) -> Result<(), AllocError>
-    ensures { OnOk result (found.new.items ≡ found.old.items ++ flat_map terms_of_part (parts_of parts.now)) }
+    ensures { OnOk result (found.new.items ≡ found.old.items
+        ++ flat_map terms_of_part (parts_of parts.now)) }
 {
     for part in parts {
         add_plan(found, &part.1)?;
@@ -159,7 +163,8 @@ fn add_parts<'t>(
 
 #[cycle(plans)]
 fn add_plans<'t>(found: &mut Vec<TermRef<'t>>, plans: &'t [Plan<Term>]) -> Result<(), AllocError>
-    ensures { OnOk result (found.new.items ≡ found.old.items ++ flat_map terms_of_plan (map plan_of plans.now)) }
+    ensures { OnOk result (found.new.items ≡ found.old.items
+        ++ flat_map terms_of_plan (map plan_of plans.now)) }
 {
     for plan in plans {
         add_plan(found, plan)?;
@@ -197,7 +202,8 @@ fn add_name<'t>(found: &mut Vec<TermRef<'t>>, graph: &'t Option<Term>) -> Result
 }
 
 fn add_modify<'t>(found: &mut Vec<TermRef<'t>>, modify: &'t Modify<Term>) -> Result<(), AllocError>
-    ensures { OnOk result (found.new.items ≡ found.old.items ++ terms_of_operation (Operation.Modify modify.now)) }
+    ensures { OnOk result (found.new.items ≡ found.old.items
+        ++ terms_of_operation (Operation.Modify modify.now)) }
 {
     add_name(found, &modify.active)?;
     add_plan(found, modify.pattern.plan())?;
@@ -250,7 +256,8 @@ fn add_operations<'t>(
     found: &mut Vec<TermRef<'t>>,
     operations: &'t [Operation<Term>],
 ) -> Result<(), AllocError>
-    ensures { OnOk result (found.new.items ≡ found.old.items ++ flat_map terms_of_operation operations.now) }
+    ensures { OnOk result (found.new.items ≡ found.old.items
+        ++ flat_map terms_of_operation operations.now) }
 {
     for operation in operations {
         add_operation(found, operation)?;

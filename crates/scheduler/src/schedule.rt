@@ -11,7 +11,8 @@ use book::Book;
 
 // Whether a stamp stands, where the lower requests last changed at this moment of the clock.
 fn is_stamped(stamp: Option<u64>, latest: u64) -> bool
-    ensures { (slots : _) (i : ℕ) → ((moment : ℕ) → is_current slots i moment ≡ nat_le latest moment) → result ≡ is_stamped slots i stamp }
+    ensures { (slots : _) (i : ℕ) → ((moment : ℕ)
+        → is_current slots i moment ≡ nat_le latest moment) → result ≡ is_stamped slots i stamp }
 {
     match stamp {
         None => false,
@@ -22,7 +23,9 @@ fn is_stamped(stamp: Option<u64>, latest: u64) -> bool
 // Whether the request at the front is executed, with a stamp that stands.
 fn can_commit(book: &Book<'_>, front: usize) -> bool
     requires { front ≡ (state_of book.now).front }
-    ensures { result ≡ (is_executed (slot_at (state_of book.now).slots front).status && is_stamped (state_of book.now).slots front (slot_at (state_of book.now).slots front).stamp) }
+    ensures { result ≡ (is_executed (slot_at (state_of book.now).slots front).status
+        && is_stamped (state_of book.now).slots front
+        (slot_at (state_of book.now).slots front).stamp) }
 {
     match book.status(front) {
         Some(Status::Executed(_)) => is_stamped(book.stamp(front), book.latest()),
@@ -35,7 +38,8 @@ fn can_commit(book: &Book<'_>, front: usize) -> bool
 
 // What can be done for an executed request for which something can be, but to commit it.
 fn settling(place: usize, incarnation: u64, has_pass: bool) -> Task
-    ensures { (stamped : Bool) → (has_pass || not stamped) ≡ true → settling place incarnation has_pass stamped ≡ Some result }
+    ensures { (stamped : Bool) → (has_pass || not stamped) ≡ true
+        → settling place incarnation has_pass stamped ≡ Some result }
 {
     if has_pass {
         Task::Check(place, incarnation)

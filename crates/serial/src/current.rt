@@ -38,7 +38,9 @@ fn part_after(
     read: &Read<Id>,
     part: View,
 ) -> Result<View, AllocError>
-    ensures { IfOk result (λ next. (d : Dataset) → IsRising id_order d → says read.now part ≡ says read.now d → says read.now next ≡ says read.now (applied change.now d)) }
+    ensures { IfOk result (λ next. (d : Dataset) → IsRising id_order d
+        → says read.now part ≡ says read.now d
+        → says read.now next ≡ says read.now (applied change.now d)) }
 {
     if change.covers(read) {
         change.asked(alloc, read)?.apply(alloc, part)

@@ -25,7 +25,8 @@ fn finished(
 ) -> Result<Finished, AllocError>
     requires dataset { IsDataset current.now }
     requires short { IsShort request.now }
-    ensures { IfOk result (λ run. (applied run.delta current.now, run.reply) ≡ answer_of (numbers terms.now) place request.now current.now) }
+    ensures { IfOk result (λ run. (applied run.delta current.now, run.reply)
+        ≡ answer_of (numbers terms.now) place request.now current.now) }
 {
     let mut reader = Reader { alloc, current };
     match execute(alloc, terms, place, request, &mut reader) {
@@ -46,7 +47,8 @@ fn answer(
 ) -> Result<Reply, AllocError>
     requires dataset { IsDataset current.old }
     requires short { IsShort request.now }
-    ensures { IfOk result (λ reply. (current.new, reply) ≡ answer_of (numbers terms.now) place request.now current.old) }
+    ensures { IfOk result (λ reply. (current.new, reply)
+        ≡ answer_of (numbers terms.now) place request.now current.old) }
 {
     let run = finished(alloc, terms, place, request, current)?;
     let reply = run.reply;
@@ -60,7 +62,8 @@ pub fn run(alloc: Global, base: &Base, block: &[Request<Id>]) -> Result<Outcome,
     requires size { length block.now < 2 ^ 32 }
     requires short { AreShort block.now }
     ensures dataset { IfOk result (λ outcome. IsDataset outcome.dataset) }
-    ensures run { IfOk result (λ outcome. (outcome.dataset, outcome.replies) ≡ run_of (numbers base.now.terms) block.now base.now.dataset) }
+    ensures run { IfOk result (λ outcome. (outcome.dataset, outcome.replies)
+        ≡ run_of (numbers base.now.terms) block.now base.now.dataset) }
 {
     let mut current = Current::new(alloc, base.dataset());
     let mut replies = Items::new(alloc);

@@ -14,7 +14,7 @@ use Rattle.shared.specs.declared.kept.Subject.{Subject}
 use Rattle.shared.specs.Calls.{Viewed, owner, history_of, run_of, entry, Answers, Unmade, Made, Has}
 
 -- the earlier journal's entries of the worker are all of the later one's, so what lies between has none
-none_between : (w : ℕ) (before between : List Entry) → of_worker owner w (before ++ between) ≡ of_worker owner w before → of_worker owner w between ≡ []
+pub none_between : (w : ℕ) (before between : List Entry) → of_worker owner w (before ++ between) ≡ of_worker owner w before → of_worker owner w between ≡ []
 none_between w before between e = empty (of_worker owner w before) (of_worker owner w between) (sym (filter-append (λ x. eqb (owner x) w) before between) ∙ e)
   where
     nothing : (ys : List Entry) → length ys ≡ 0 → ys ≡ []

@@ -50,7 +50,7 @@ use Rattle.delta.specs.contracts.parts.Parts as Parts
 use Rattle.delta.specs.contracts.finished.Finished as Finished
 use Rattle.reads.specs.contracts.note.Note as Note
 use Rattle.quad_index.specs.contracts.known.KnownQuad as KnownQuad
-use Rattle.quad_index.specs.contracts.order.Entries as Entries
+use Rattle.quad_index.specs.contracts.quad_list.Entries as Entries
 use Rattle.quad_index.specs.contracts.order.Order as Order
 use Rattle.quad_index.specs.contracts.index.Index as Index
 use Rattle.quad_index.specs.contracts.hints.Hints as Hints

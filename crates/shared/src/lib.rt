@@ -1,9 +1,11 @@
-//! A book that many threads use: each call is one event, made while its worker has the lock. Stands on `blocklock`, `book` and `scheduler`.
+//! A book that many threads use: each call is one event, or some in turn, made while its worker has the lock. Stands on `blocklock`, `book` and
+//! `scheduler`.
 //!
 //! The contract used above: a call that is answered leaves the pass with a lawful history that goes on from what it had seen, ends with
 //! the call's entry, and has no other new entry of its worker. At the end the journal begins with what each pass has seen.
 #![tactic(auto)]
 
+mod in_turn;
 mod kept;
 mod reader;
 mod refused;

@@ -28,7 +28,7 @@ use std::sync::Wait;
 /// A book that threads share. To a contract it is the name of its lock's table.
 #[derive(Drop)]
 pub struct SharedBlock<'a> {
-    lock: BlockLock<Kept<'a>>,
+    pub(crate) lock: BlockLock<Kept<'a>>,
 }
 
 impl<'a> Model for SharedBlock<'a> {
@@ -49,8 +49,14 @@ fn make<'a>(
     requires own { pass.old.table ≡ held.lock.now }
     requires has { Has pass.old held.book.value.book }
     requires sound { IsSoundEvent held.book.value.book event }
-    ensures ok { IfOk result (λ reply. pass.new ≡ record pass.old { seen = pass.old.seen ++ entry pass.old.worker event reply ∷ []; holds = false }) }
-    ensures allowed { IfOk result (λ reply. IsAllowed pass.old.subject.base (state_of (run_of pass.old.subject pass.old.seen)) pass.old.worker event reply) }
+    ensures ok { IfOk result (λ reply. pass.new
+        ≡ record pass.old {
+          seen = pass.old.seen
+              ++ entry pass.old.worker event reply ∷ [];
+          holds = false;
+        }) }
+    ensures allowed { IfOk result (λ reply. IsAllowed pass.old.subject.base
+        (state_of (run_of pass.old.subject pass.old.seen)) pass.old.worker event reply) }
     ensures lawful { IsHistory (setting_of (run_of pass.old.subject pass.new.seen)) pass.new.seen }
     ensures err { OnErr result (pass.new ≡ record pass.old { holds = false }) }
 {
@@ -72,8 +78,14 @@ fn make_scanned<'a>(
     requires has { Has pass.old held.book.value.book }
     requires sound { IsSoundEvent held.book.value.book event }
     requires scans { scans.now ≡ questions_of pass.old.subject.base event }
-    ensures ok { IfOk result (λ reply. pass.new ≡ record pass.old { seen = pass.old.seen ++ entry pass.old.worker event reply ∷ []; holds = false }) }
-    ensures allowed { IfOk result (λ reply. IsAllowed pass.old.subject.base (state_of (run_of pass.old.subject pass.old.seen)) pass.old.worker event reply) }
+    ensures ok { IfOk result (λ reply. pass.new
+        ≡ record pass.old {
+          seen = pass.old.seen
+              ++ entry pass.old.worker event reply ∷ [];
+          holds = false;
+        }) }
+    ensures allowed { IfOk result (λ reply. IsAllowed pass.old.subject.base
+        (state_of (run_of pass.old.subject pass.old.seen)) pass.old.worker event reply) }
     ensures lawful { IsHistory (setting_of (run_of pass.old.subject pass.new.seen)) pass.new.seen }
     ensures err { OnErr result (pass.new ≡ record pass.old { holds = false }) }
 {
@@ -96,7 +108,10 @@ impl<'a> SharedBlock<'a> {
         requires dataset { IsDataset base.now }
         requires seats { (0 < seats) × (seats ≤ 64) }
         ensures count { IfOk result (λ r. vec_len r.1 ≡ seats) }
-        ensures passes { IfOk result (λ r. (k : ℕ) → k < seats → slice_get r.1.items k ≡ Some (fresh_pass r.0 (history_of (record { terms = terms.now; base = base.now; block = block.now; history = [] })) k)) }
+        ensures passes { IfOk result (λ r. (k : ℕ) → k < seats
+            → slice_get r.1.items k ≡ Some
+            (fresh_pass r.0 (history_of (record
+            { terms = terms.now; base = base.now; block = block.now; history = [] })) k)) }
     {
         let book = Book::new(alloc, terms, base, block)?;
         let (lock, passes) = BlockLock::new(alloc, Kept { book }, seats)?;
@@ -162,7 +177,8 @@ impl<'a> SharedBlock<'a> {
         requires { pass.old.table ≡ self.now }
         ensures front { result ≡ (state_of (run_of pass.new.subject pass.new.seen)).front }
         ensures pass { Watches owner pass.old pass.new }
-        ensures lawful { IsHistory (setting_of (run_of pass.new.subject pass.new.seen)) pass.new.seen }
+        ensures lawful { IsHistory (setting_of (run_of pass.new.subject pass.new.seen))
+            pass.new.seen }
     {
         let taken = self.lock.hold(rt, pass);
         let front = taken.book.book.front();
@@ -176,7 +192,8 @@ impl<'a> SharedBlock<'a> {
         requires { pass.old.table ≡ self.now }
         ensures next { IsNext (state_of (run_of pass.new.subject pass.new.seen)) result }
         ensures pass { Watches owner pass.old pass.new }
-        ensures lawful { IsHistory (setting_of (run_of pass.new.subject pass.new.seen)) pass.new.seen }
+        ensures lawful { IsHistory (setting_of (run_of pass.new.subject pass.new.seen))
+            pass.new.seen }
     {
         let taken = self.lock.hold(rt, pass);
         let task = next(&taken.book.book);
@@ -191,7 +208,8 @@ impl<'a> SharedBlock<'a> {
         requires some { 0 < vec_len passes }
         requires passes { All (IsIdleAt self) passes.items }
         ensures includes { All (λ p. Includes owner p (history_of result)) passes.entry.items }
-        ensures fronts { All (λ p. (state_of (run_of p.subject p.seen)).front ≤ (state_of result).front) passes.entry.items }
+        ensures fronts { All (λ p. (state_of (run_of p.subject p.seen)).front
+            ≤ (state_of result).front) passes.entry.items }
     {
         let SharedBlock { lock } = self;
         let Kept { book } = lock.close(rt, passes);

@@ -1,8 +1,10 @@
 //! The calls that wait until the book is there. The places and incarnations are as in `block_machine::Event`.
-ghost use Rattle.std.specs.Prelude.{◌≡◌, Some};
+ghost use Rattle.std.specs.Prelude.{◌≡◌, ◌++◌, Some};
 ghost use Rattle.block_machine.specs.Scans.{questions_of};
 ghost use Rattle.shared.specs.Calls.{IsSoundAt, Made};
+ghost use Rattle.shared.specs.InTurn.{questions, reading, checking, committing, Adds};
 
+use crate::in_turn::{make_reads, make_settling};
 use crate::kept::Pass;
 use crate::shared_block::SharedBlock;
 use block_machine::{Event, Reply};
@@ -154,5 +156,79 @@ impl<'a> SharedBlock<'a> {
         ensures { Made pass.old pass.new (Event.GiveUp i n) result }
     {
         self.make_waiting(rt, alloc, pass, Event::GiveUp(i, n))
+    }
+
+    /// What follows a publication, in one hold of the lock: a pass of checks of incarnation `n` of request `i`, which has so many notes, and
+    /// the commits of the requests from `i` on and below `until`. It stops behind the first reply that is none of `Begun`, `Passed` and
+    /// `Committed`, and answers whether there was none. The replies come to the end of the list, those too after which a growth was refused.
+    pub fn settle<R: Wait>(
+        &self,
+        rt: &R,
+        alloc: Global,
+        pass: &mut Pass<'a>,
+        i: usize,
+        n: u64,
+        notes: usize,
+        until: usize,
+        replies: &mut Vec<Reply>,
+    ) -> Result<bool, AllocError>
+        requires { pass.old.table ≡ self.now }
+        ensures { Adds pass.old pass.new (checking i n notes ++ committing i until)
+            replies.old.items replies.new.items result }
+    {
+        replies.reserve(notes.saturating_add(1))?;
+        let mut held = self.lock.hold(rt, pass);
+        let _before = held.book.book.journal();
+        let made = make_settling(
+            alloc,
+            &mut held.book.book,
+            pass,
+            i,
+            n,
+            notes,
+            until,
+            replies,
+        );
+        held.give(pass);
+        made
+    }
+
+    /// Asks what reads say where incarnation `n` of the request runs, in one hold of the lock, with what each says of the base. It stops behind
+    /// the first that is not answered, and answers whether there was none. The replies come to the end of the list, those too after which a
+    /// growth was refused.
+    pub fn read_all<R: Wait>(
+        &self,
+        rt: &R,
+        alloc: Global,
+        pass: &mut Pass<'a>,
+        i: usize,
+        n: u64,
+        reads: &[Read<Id>],
+        scans: &[Scanned<'_>],
+        replies: &mut Vec<Reply>,
+    ) -> Result<bool, AllocError>
+        requires own { pass.old.table ≡ self.now }
+        requires scans { scans.now ≡ questions pass.old.subject.base reads.now }
+        ensures { Adds pass.old pass.new (reading i n reads.now) replies.old.items replies.new.items
+            result }
+    {
+        if reads.is_empty() {
+            return Ok(true);
+        }
+        replies.reserve(reads.len())?;
+        let mut held = self.lock.hold(rt, pass);
+        let _before = held.book.book.journal();
+        let made = make_reads(
+            alloc,
+            &mut held.book.book,
+            pass,
+            i,
+            n,
+            reads,
+            scans,
+            replies,
+        );
+        held.give(pass);
+        made
     }
 }

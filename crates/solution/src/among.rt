@@ -16,7 +16,8 @@ fn mapping_onto(
     pattern: &TriplePattern<Id>,
     quad: &Quad<Id>,
 ) -> Result<Option<Mapping>, AllocError>
-    ensures { IfOk result (λ mapping. mapping ≡ the_mapping_onto id_order width pattern.now quad.now) }
+    ensures { IfOk result (λ mapping. mapping
+        ≡ the_mapping_onto id_order width pattern.now quad.now) }
 {
     let empty = Mapping::empty(alloc, width)?;
     Ok(
@@ -35,7 +36,8 @@ pub fn solutions_among(
     pattern: &TriplePattern<Id>,
     quads: &[Quad<Id>],
 ) -> Result<Vec<Mapping>, AllocError>
-    ensures { IfOk result (λ found. found.items ≡ the_solutions_among id_order width pattern.now quads.now) }
+    ensures { IfOk result (λ found. found.items
+        ≡ the_solutions_among id_order width pattern.now quads.now) }
 {
     let mut found = Vec::new(alloc);
     for quad in quads {

@@ -13,7 +13,8 @@ fn is_bound_among(mappings: &[Mapping], variable: usize) -> bool
 }
 
 fn is_bound_on_both(left: &[Mapping], right: &[Mapping], variable: usize) -> bool
-    ensures { result ≡ (the_is_bound_among left.now variable && the_is_bound_among right.now variable) }
+    ensures { result ≡ (the_is_bound_among left.now variable
+        && the_is_bound_among right.now variable) }
 {
     is_bound_among(left, variable) && is_bound_among(right, variable)
 }

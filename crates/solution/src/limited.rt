@@ -28,7 +28,9 @@ fn push_merges<F: Filters>(
     a: &Mapping,
     others: &[Mapping],
 ) -> Result<(), AllocError>
-    ensures { OnOk result (found.new.items ≡ found.old.items ++ filter (passes_all (F.passes by.now) (map expression_of filters.now)) (filter_map (joined id_order a.now) others.now)) }
+    ensures { OnOk result (found.new.items ≡ found.old.items
+        ++ filter (passes_all (F.passes by.now) (map expression_of filters.now))
+        (filter_map (joined id_order a.now) others.now)) }
 {
     for b in others {
         if a.is_compatible(b) {
@@ -50,7 +52,10 @@ fn push_passing<F: Filters>(
     a: &Mapping,
     right: &Lookup,
 ) -> Result<(), AllocError>
-    ensures { OnOk result (found.new.items ≡ found.old.items ++ filter (passes_all (F.passes by.now) (map expression_of filters.now)) (filter_map (joined id_order a.now) (near right.now.variables.items right.now.mappings.items right.now.loose.items a.now))) }
+    ensures { OnOk result (found.new.items ≡ found.old.items
+        ++ filter (passes_all (F.passes by.now) (map expression_of filters.now))
+        (filter_map (joined id_order a.now)
+        (near right.now.variables.items right.now.mappings.items right.now.loose.items a.now))) }
 {
     push_merges(alloc, filters, by, found, a, right.near(a))?;
     push_merges(alloc, filters, by, found, a, right.loose())
@@ -66,7 +71,11 @@ pub fn joins_up_to<F: Filters>(
     right: &Lookup,
     limit: usize,
 ) -> Result<Option<Solutions>, AllocError>
-    ensures { IfOk result (λ found. found ≡ up_to limit (the_set_of (mapping_cmp id_order) (flat_map (λ a. filter (passes_all (F.passes by.now) (map expression_of filters.now)) (filter_map (joined id_order a) (near right.now.variables.items right.now.mappings.items right.now.loose.items a))) left.now))) }
+    ensures { IfOk result (λ found. found ≡ up_to limit
+        (the_set_of (mapping_cmp id_order)
+        (flat_map (λ a. filter (passes_all (F.passes by.now) (map expression_of filters.now))
+        (filter_map (joined id_order a) (near right.now.variables.items right.now.mappings.items
+        right.now.loose.items a))) left.now))) }
 {
     let mut found = Vec::new(alloc);
     let mut known = 0;

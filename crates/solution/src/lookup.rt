@@ -79,7 +79,8 @@ fn parted(
     mappings: Vec<Mapping>,
 ) -> Result<(Vec<Mapping>, Vec<Mapping>), AllocError>
     ensures bound { IfOk result (λ r. r.0.items ≡ filter (the_binds variables.now) mappings.items) }
-    ensures loose { IfOk result (λ r. r.1.items ≡ filter (λ m. not (the_binds variables.now m)) mappings.items) }
+    ensures loose { IfOk result (λ r. r.1.items ≡ filter (λ m. not (the_binds variables.now m))
+        mappings.items) }
 {
     let mut bound = Vec::new(alloc);
     let mut loose = Vec::new(alloc);
@@ -132,7 +133,8 @@ fn tied_in<'a>(variables: &[usize], sorted: &'a [Mapping], a: &Mapping) -> &'a [
 // These mappings, sorted by what they have for some variables.
 fn sorted_at(variables: &[usize], mut mappings: Vec<Mapping>) -> Result<Vec<Mapping>, AllocError>
     ensures sorted { IfOk result (λ sorted. IsSorted (the_order_at variables.now) sorted.items) }
-    ensures members { IfOk result (λ sorted. (test : List (Option Number) → Bool) → list_any test sorted.items ≡ list_any test mappings.items) }
+    ensures members { IfOk result (λ sorted. (test : List (Option Number) → Bool)
+        → list_any test sorted.items ≡ list_any test mappings.items) }
 {
     mappings.sort_by(|a, b| order_at(variables, a, b))?;
     Ok(mappings)
@@ -150,7 +152,8 @@ pub struct Lookup {
 impl Lookup {
     /// The mappings on the right, to be found by the variables that nearly all on both sides bind.
     pub fn new(alloc: Global, left: &[Mapping], right: Vec<Mapping>) -> Result<Lookup, AllocError>
-        ensures { IfOk result (λ lookup. HasAll lookup.variables.items lookup.mappings.items lookup.loose.items right.items) }
+        ensures { IfOk result (λ lookup. HasAll lookup.variables.items lookup.mappings.items
+            lookup.loose.items right.items) }
     {
         let variables = variables_for(alloc, left, &right)?;
         let (bound, loose) = parted(alloc, &variables, right)?;

@@ -16,7 +16,8 @@ use std::alloc::{AllocError, Global};
 
 // Adds the merges of a mapping with those of these that it is compatible with.
 fn push_merges(found: &mut Vec<Mapping>, a: &Mapping, others: &[Mapping]) -> Result<(), AllocError>
-    ensures { OnOk result (found.new.items ≡ found.old.items ++ filter_map (joined id_order a.now) others.now) }
+    ensures { OnOk result (found.new.items ≡ found.old.items
+        ++ filter_map (joined id_order a.now) others.now) }
 {
     for b in others {
         if a.is_compatible(b) {
@@ -28,7 +29,9 @@ fn push_merges(found: &mut Vec<Mapping>, a: &Mapping, others: &[Mapping]) -> Res
 
 // Adds the merges of a mapping with those near it that it is compatible with.
 fn push_joined(found: &mut Vec<Mapping>, a: &Mapping, right: &Lookup) -> Result<(), AllocError>
-    ensures { OnOk result (found.new.items ≡ found.old.items ++ filter_map (joined id_order a.now) (near right.now.variables.items right.now.mappings.items right.now.loose.items a.now)) }
+    ensures { OnOk result (found.new.items ≡ found.old.items
+        ++ filter_map (joined id_order a.now)
+        (near right.now.variables.items right.now.mappings.items right.now.loose.items a.now)) }
 {
     push_merges(found, a, right.near(a))?;
     push_merges(found, a, right.loose())
@@ -36,7 +39,10 @@ fn push_joined(found: &mut Vec<Mapping>, a: &Mapping, right: &Lookup) -> Result<
 
 /// The merges of all compatible pairs that are near, in any order and with repeats.
 pub fn joins(alloc: Global, left: &[Mapping], right: &Lookup) -> Result<Vec<Mapping>, AllocError>
-    ensures { IfOk result (λ found. found.items ≡ flat_map (λ a. filter_map (joined id_order a) (near right.now.variables.items right.now.mappings.items right.now.loose.items a)) left.now) }
+    ensures { IfOk result (λ found. found.items
+        ≡ flat_map (λ a. filter_map (joined id_order a)
+        (near right.now.variables.items right.now.mappings.items right.now.loose.items a))
+        left.now) }
 {
     let mut found = Vec::new(alloc);
     for a in left {
@@ -52,7 +58,8 @@ pub fn push_fitted(
     term: Id,
     mappings: Vec<Mapping>,
 ) -> Result<(), AllocError>
-    ensures { OnOk result (found.new.items ≡ found.old.items ++ filter_map (fitted id_order place term) mappings.items) }
+    ensures { OnOk result (found.new.items ≡ found.old.items
+        ++ filter_map (fitted id_order place term) mappings.items) }
 {
     for mapping in mappings {
         if let Some(fit) = mapping.fit(place, term) {
@@ -64,14 +71,16 @@ pub fn push_fitted(
 
 // Whether each of these is incompatible with a mapping, or shares no variable with it.
 fn are_apart(a: &Mapping, others: &[Mapping]) -> bool
-    ensures { result ≡ list_all (λ b. not (compatible id_order a.now b) || not (shares a.now b)) others.now }
+    ensures { result ≡ list_all (λ b. not (compatible id_order a.now b) || not (shares a.now b))
+        others.now }
 {
     others.iter().all(|b| !a.is_compatible(b) || !a.shares(b))
 }
 
 // Whether each that is near a mapping is incompatible with it, or shares no variable with it.
 fn is_apart(a: &Mapping, right: &Lookup) -> bool
-    ensures { result ≡ list_all (λ b. not (compatible id_order a.now b) || not (shares a.now b)) (near right.now.variables.items right.now.mappings.items right.now.loose.items a.now) }
+    ensures { result ≡ list_all (λ b. not (compatible id_order a.now b) || not (shares a.now b))
+        (near right.now.variables.items right.now.mappings.items right.now.loose.items a.now) }
 {
     are_apart(a, right.near(a)) && are_apart(a, right.loose())
 }
@@ -82,7 +91,10 @@ pub fn apart_from(
     mappings: Vec<Mapping>,
     right: &Lookup,
 ) -> Result<Vec<Mapping>, AllocError>
-    ensures { IfOk result (λ kept. kept.items ≡ filter (λ a. list_all (λ b. not (compatible id_order a b) || not (shares a b)) (near right.now.variables.items right.now.mappings.items right.now.loose.items a)) mappings.items) }
+    ensures { IfOk result (λ kept. kept.items
+        ≡ filter (λ a. list_all (λ b. not (compatible id_order a b) || not (shares a b))
+        (near right.now.variables.items right.now.mappings.items right.now.loose.items a))
+        mappings.items) }
 {
     let mut kept = Vec::new(alloc);
     for a in mappings {
@@ -100,7 +112,8 @@ pub fn passes_each<F: Filters>(
     by: &F,
     mapping: &Mapping,
 ) -> Result<bool, AllocError>
-    ensures { IfOk result (λ so. so ≡ passes_all (F.passes by.now) (map expression_of filters.now) mapping.now) }
+    ensures { IfOk result (λ so. so ≡ passes_all (F.passes by.now) (map expression_of filters.now)
+        mapping.now) }
 {
     for filter in filters {
         if !by.is_passed(alloc, filter, mapping)? {
@@ -118,7 +131,10 @@ fn fail<F: Filters>(
     a: &Mapping,
     others: &[Mapping],
 ) -> Result<bool, AllocError>
-    ensures { IfOk result (λ so. so ≡ list_all (λ b. not (compatible id_order a.now b && passes_all (F.passes by.now) (map expression_of filters.now) (merge a.now b))) others.now) }
+    ensures { IfOk result (λ so. so ≡ list_all
+        (λ b. not (compatible id_order a.now b
+        && passes_all (F.passes by.now) (map expression_of filters.now) (merge a.now b)))
+        others.now) }
 {
     for b in others {
         if a.is_compatible(b) && passes_each(alloc, filters, by, &a.merge(b)?)? {
@@ -136,7 +152,10 @@ fn fails_all<F: Filters>(
     a: &Mapping,
     right: &Lookup,
 ) -> Result<bool, AllocError>
-    ensures { IfOk result (λ so. so ≡ list_all (λ b. not (compatible id_order a.now b && passes_all (F.passes by.now) (map expression_of filters.now) (merge a.now b))) (near right.now.variables.items right.now.mappings.items right.now.loose.items a.now)) }
+    ensures { IfOk result (λ so. so ≡ list_all
+        (λ b. not (compatible id_order a.now b
+        && passes_all (F.passes by.now) (map expression_of filters.now) (merge a.now b)))
+        (near right.now.variables.items right.now.mappings.items right.now.loose.items a.now)) }
 {
     if fail(alloc, filters, by, a, right.near(a))? {
         fail(alloc, filters, by, a, right.loose())
@@ -152,7 +171,8 @@ pub fn passing<F: Filters>(
     by: &F,
     mappings: Vec<Mapping>,
 ) -> Result<Vec<Mapping>, AllocError>
-    ensures { IfOk result (λ kept. kept.items ≡ filter (passes_all (F.passes by.now) (map expression_of filters.now)) mappings.items) }
+    ensures { IfOk result (λ kept. kept.items
+        ≡ filter (passes_all (F.passes by.now) (map expression_of filters.now)) mappings.items) }
 {
     let mut kept = Vec::new(alloc);
     for mapping in mappings {
@@ -171,7 +191,11 @@ pub fn difference<F: Filters>(
     mappings: Vec<Mapping>,
     right: &Lookup,
 ) -> Result<Vec<Mapping>, AllocError>
-    ensures { IfOk result (λ kept. kept.items ≡ filter (λ a. list_all (λ b. not (compatible id_order a b && passes_all (F.passes by.now) (map expression_of filters.now) (merge a b))) (near right.now.variables.items right.now.mappings.items right.now.loose.items a)) mappings.items) }
+    ensures { IfOk result (λ kept. kept.items
+        ≡ filter (λ a. list_all (λ b. not
+        (compatible id_order a b && passes_all (F.passes by.now) (map expression_of filters.now)
+        (merge a b))) (near right.now.variables.items right.now.mappings.items right.now.loose.items
+        a)) mappings.items) }
 {
     let mut kept = Vec::new(alloc);
     for a in mappings {

@@ -78,7 +78,8 @@ impl Solutions {
         pattern: &TriplePattern<Id>,
         quads: &[Quad<Id>],
     ) -> Result<Solutions, AllocError>
-        ensures { IfOk result (λ found. found ≡ the_solutions_among id_order width pattern.now quads.now) }
+        ensures { IfOk result (λ found. found ≡ the_solutions_among id_order width pattern.now
+            quads.now) }
     {
         let mappings = solutions_among(alloc, width, pattern, quads)?;
         Ok(Solutions { mappings })
@@ -120,7 +121,8 @@ impl Solutions {
         term: Id,
         found: &mut Vec<Mapping>,
     ) -> Result<(), AllocError>
-        ensures { OnOk result (found.new.items ≡ found.old.items ++ filter_map (fitted id_order place term) self) }
+        ensures { OnOk result (found.new.items
+            ≡ found.old.items ++ filter_map (fitted id_order place term) self) }
     {
         push_fitted(found, place, term, self.mappings)
     }
@@ -146,7 +148,9 @@ impl Solutions {
         by: &F,
         limit: usize,
     ) -> Result<Option<Solutions>, AllocError>
-        ensures { IfOk result (λ found. found ≡ the_up_to limit (filter (passes_all (F.passes by.now) (map expression_of filters.now)) (operators.join id_order self.now right))) }
+        ensures { IfOk result (λ found. found ≡ the_up_to limit
+            (filter (passes_all (F.passes by.now) (map expression_of filters.now))
+            (operators.join id_order self.now right))) }
     {
         if is_unit(&self.mappings, &right.mappings) {
             let kept = right.filter(alloc, filters, by)?;
@@ -165,7 +169,9 @@ impl Solutions {
         by: &F,
         limit: usize,
     ) -> Result<Option<Solutions>, AllocError>
-        ensures { IfOk result (λ found. found ≡ the_up_to limit (operators.left_join id_order (passes_all (F.passes by.now) (map expression_of filters.now)) self right)) }
+        ensures { IfOk result (λ found. found ≡ the_up_to limit
+            (operators.left_join id_order (passes_all (F.passes by.now)
+            (map expression_of filters.now)) self right)) }
     {
         let right = Lookup::new(alloc, &self.mappings, right.mappings)?;
         let Some(merges) = joins_up_to(alloc, filters, by, &self.mappings, &right, limit)? else {
@@ -184,7 +190,8 @@ impl Solutions {
         filters: &[Expression<Id>],
         by: &F,
     ) -> Result<Solutions, AllocError>
-        ensures { IfOk result (λ found. found ≡ operators.left_join id_order (passes_all (F.passes by.now) (map expression_of filters.now)) self right) }
+        ensures { IfOk result (λ found. found ≡ operators.left_join id_order
+            (passes_all (F.passes by.now) (map expression_of filters.now)) self right) }
     {
         let right = Lookup::new(alloc, &self.mappings, right.mappings)?;
         let merges = Solutions::from_mappings(joins(alloc, &self.mappings, &right)?);
@@ -228,7 +235,8 @@ impl Solutions {
         filters: &[Expression<Id>],
         by: &F,
     ) -> Result<Solutions, AllocError>
-        ensures { IfOk result (λ found. found ≡ filter (passes_all (F.passes by.now) (map expression_of filters.now)) self) }
+        ensures { IfOk result (λ found. found ≡ filter
+            (passes_all (F.passes by.now) (map expression_of filters.now)) self) }
     {
         let mappings = passing(alloc, filters, by, self.mappings)?;
         Ok(Solutions { mappings })

@@ -54,7 +54,8 @@ fn behind(changed: u64, due: Due) -> Due
 
 /// How two stand, the second behind the first.
 pub(crate) fn joined(first: Standing, second: Standing) -> Standing
-    ensures due { (latest : ℕ) → due_at latest result.due ≡ (due_at latest first.due || due_at (max latest first.changed) second.due) }
+    ensures due { (latest : ℕ) → due_at latest result.due
+        ≡ (due_at latest first.due || due_at (max latest first.changed) second.due) }
     ensures changed { result.changed ≡ max first.changed second.changed }
 {
     Standing {

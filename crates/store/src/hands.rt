@@ -7,9 +7,9 @@ ghost use Rattle.datasets.specs.Dataset.{quad_order};
 ghost use Rattle.terms.specs.Term.{term_order};
 ghost use Rattle.dict.specs.Dictionary.{IsDictionary, is_written, is_known, term_of};
 
-use datasets::{Id, Quad};
+use datasets::Id;
 use dict::Dict;
-use quad_index::Arrangement;
+use quad_index::{Arrangement, QuadList};
 use reads::IndexedView;
 use std::alloc::{AllocError, Global};
 use std::thread::Threads;
@@ -36,7 +36,8 @@ pub trait Hands {
         more: &[Term],
     ) -> Result<(Dict, Vec<Id>), AllocError>
         requires { Ready }
-        ensures terms { IfOk result (λ r. r.0 ≡ set_of term_order (filter is_written (terms.now ++ more.now))) }
+        ensures terms { IfOk result (λ r. r.0 ≡ set_of term_order
+            (filter is_written (terms.now ++ more.now))) }
         ensures form { IfOk result (λ r. IsDictionary r.0) }
         ensures renamed { IfOk result (λ r. map (term_of r.0) r.1.items ≡ terms.now) }
         ensures known { IfOk result (λ r. list_all (is_known r.0) r.1.items ≡ true) };
@@ -45,12 +46,13 @@ pub trait Hands {
     fn indexed(
         &self,
         alloc: Global,
-        quads: Vec<Quad<Id>>,
+        quads: QuadList,
         names: Vec<Id>,
         orders: &[Arrangement],
     ) -> Result<IndexedView, AllocError>
         requires { Ready }
-        ensures quads { IfOk result (λ dataset. dataset.quads ≡ set_of (quad_order id_order) quads.items) }
+        ensures quads { IfOk result (λ dataset. dataset.quads
+            ≡ set_of (quad_order id_order) quads) }
         ensures names { IfOk result (λ dataset. dataset.names ≡ set_of id_order names.items) };
 }
 
@@ -73,7 +75,7 @@ impl Hands for Alone {
     fn indexed(
         &self,
         alloc: Global,
-        quads: Vec<Quad<Id>>,
+        quads: QuadList,
         names: Vec<Id>,
         orders: &[Arrangement],
     ) -> Result<IndexedView, AllocError> {
@@ -111,10 +113,10 @@ impl<'r, T: Threads + Sync> Hands for Together<'r, T> {
     fn indexed(
         &self,
         alloc: Global,
-        quads: Vec<Quad<Id>>,
+        quads: QuadList,
         names: Vec<Id>,
         orders: &[Arrangement],
     ) -> Result<IndexedView, AllocError> {
-        IndexedView::of_parts(alloc, quads, names, orders)
+        IndexedView::of_parts_by(self.rt, alloc, quads, names, orders)
     }
 }

@@ -9,6 +9,7 @@ ghost use Rattle.store.specs.Tables.{number_at, numbers_at};
 
 use datasets::Quad;
 use dict::{Dict, Id};
+use quad_index::QuadList;
 use std::alloc::{AllocError, Global};
 use terms::Term;
 
@@ -51,14 +52,13 @@ pub(crate) fn quad_numbers(
     alloc: Global,
     ids: &[Id],
     quads: &[Quad<u32>],
-) -> Result<Vec<Quad<Id>>, AllocError>
+) -> Result<QuadList, AllocError>
     requires { list_all (is_quad_within ids.now) quads.now ≡ true }
-    ensures { IfOk result (λ list. list.items ≡ map (numbers_at ids.now) quads.now) }
+    ensures { IfOk result (λ list. list ≡ map (numbers_at ids.now) quads.now) }
 {
-    let mut list = Vec::new(alloc);
-    list.reserve(quads.len())?;
+    let mut list = QuadList::with_room(alloc, quads.len())?;
     for quad in quads {
-        list.push(quad_number(ids, quad))?;
+        list.push(alloc, &quad_number(ids, quad))?;
     }
     Ok(list)
 }

@@ -1,5 +1,5 @@
 -- Terms keep their places where a list of terms goes on.
-use Rattle.std.specs.Prelude.{Result, Ok, Err, OnErr, Bool, ◌&&◌, nat_lt, Option, map, slice_index_or, slice_get}
+use Rattle.std.specs.Prelude.{Result, Ok, Err, OnErr, Bool, Option, map, slice_index_or, slice_get}
 use Rattle.std.proofs.Common.{◌≡◌, ℕ, zero, suc, ◌<◌, true, false, List, [], ◌∷◌, ◌++◌, length, Some, None, refl, sym, ap, subst, ◌∙◌, arith, if◌then◌else◌}
 use Rattle.std.specs.List.{list_all, AllByRecursion, IsDistinct}
 use Rattle.std.specs.Ordering.{eq_by_cmp, is_eq}
@@ -10,7 +10,7 @@ use Rattle.std.proofs.lemmas.Bool.{false≢true, ltb-true, lt-ltb, and_parts, an
 use Rattle.std.proofs.lemmas.List.{append-nil, append_assoc, map-append, get_or_append_left}
 use Rattle.std.proofs.lemmas.List.Folds.{list_all-append}
 use Rattle.datasets.specs.declared.quad.Quad.{Quad}
-use Rattle.datasets.specs.Dataset.{Dataset, IsDataset}
+use Rattle.datasets.specs.Dataset.{IsDataset}
 use Rattle.terms.specs.declared.term.Term.{Term}
 use Rattle.terms.specs.declared.term.Term.TheVariants as term
 use Rattle.terms.specs.Term.{term_order}

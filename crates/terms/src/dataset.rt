@@ -76,14 +76,15 @@ fn placed_quad(terms: &mut TermTable, quad: Quad<Term>) -> Result<Quad<u32>, All
 }
 
 /// Puts a quad and the name of its graph at the ends of two lists.
-fn push_both(
+pub(crate) fn push_both(
     quads: &mut Vec<Quad<u32>>,
     names: &mut Vec<u32>,
     quad: Quad<u32>,
 ) -> Result<(), AllocError>
     ensures quads { OnOk result (quads.new.items ≡ quads.old.items ++ quad ∷ []) }
     ensures names { OnOk result (names.new.items ≡ names.old.items ++ option_to_list quad.graph) }
-    ensures err { OnErr result ((quads.new.items ≡ quads.old.items) × (names.new.items ≡ names.old.items)) }
+    ensures err { OnErr result ((quads.new.items ≡ quads.old.items)
+        × (names.new.items ≡ names.old.items)) }
 {
     quads.reserve(1)?;
     if let Some(name) = quad.graph {
@@ -145,7 +146,8 @@ fn append_both(
 ) -> Result<(), AllocError>
     ensures quads { OnOk result (quads.new.items ≡ quads.old.items ++ other_quads.now) }
     ensures names { OnOk result (names.new.items ≡ names.old.items ++ other_names.now) }
-    ensures err { OnErr result ((quads.new.items ≡ quads.old.items) × (names.new.items ≡ names.old.items)) }
+    ensures err { OnErr result ((quads.new.items ≡ quads.old.items)
+        × (names.new.items ≡ names.old.items)) }
 {
     quads.reserve(other_quads.len())?;
     names.extend_from_slice(other_names)?;

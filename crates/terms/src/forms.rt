@@ -28,7 +28,8 @@ fn is_digit(b: u8) -> bool
 
 /// Where a tag is after one more byte, if it may go on with that one.
 fn next(place: Place, b: u8) -> Option<Place>
-    ensures { MatchOption result (next_place (place_of place) b ≡ None) (λ next. next_place (place_of place) b ≡ Some (place_of next)) }
+    ensures { MatchOption result (next_place (place_of place) b ≡ None)
+        (λ next. next_place (place_of place) b ≡ Some (place_of next)) }
 {
     match place {
         Place::Start | Place::First if is_small_letter(b) => Some(Place::First),

@@ -21,14 +21,18 @@ pub fn lists_unite()
 
 /// Quads name a graph exactly where one of them is in it.
 pub fn quads_name_their_graphs()
-    ensures { (name : Term) (quads : List (Quad Term)) → has term_order (names_of quads) name ≡ list_any (in_named name) quads }
+    ensures { (name : Term) (quads : List (Quad Term))
+        → has term_order (names_of quads) name ≡ list_any (in_named name) quads }
 {}
 
 /// A set has an element that passes a test exactly where the list that it is made of has one.
 pub fn sets_pass_alike()
-    ensures quads { (test : Quad Term → Bool) (quads : List (Quad Term)) → list_any test (set_of (quad_order term_order) quads) ≡ list_any test quads }
-    ensures names { (test : Term → Bool) (names : List Term) → list_any test (set_of term_order names) ≡ list_any test names }
-    ensures texts { (test : List ℕ → Bool) (texts : List (List ℕ)) → list_any test (set_of text_cmp texts) ≡ list_any test texts }
+    ensures quads { (test : Quad Term → Bool) (quads : List (Quad Term))
+        → list_any test (set_of (quad_order term_order) quads) ≡ list_any test quads }
+    ensures names { (test : Term → Bool) (names : List Term)
+        → list_any test (set_of term_order names) ≡ list_any test names }
+    ensures texts { (test : List ℕ → Bool) (texts : List (List ℕ))
+        → list_any test (set_of text_cmp texts) ≡ list_any test texts }
 {}
 
 /// Where a list of terms goes on, each term keeps its place.

@@ -6,16 +6,24 @@
 
 mod dataset;
 mod forms;
+mod gathered;
+mod gathering;
 mod hash;
+mod known_iris;
 pub mod laws;
 mod literal;
 mod order;
+mod said;
+mod said_iri;
 mod table;
 mod term;
 mod text;
 
 pub use dataset::{DataSet, Parts};
+pub use gathering::Gathering;
 pub use literal::{Blank, Literal};
+pub use said::Said;
+pub use said_iri::SaidIri;
 pub use table::TermTable;
 pub use term::Term;
 pub use text::{canonical, term_text};

@@ -83,7 +83,8 @@ impl Literal {
     /// stands with another datatype than rdf:langString, or it is missing with that one.
     #[tactic(auto, using(crate::proofs::FormLaws::literals))]
     pub fn new(lexical: String, datatype: Iri, tag: Option<String>) -> Option<Literal>
-        ensures { MatchOption result (IsLiteral (parts_value lexical datatype tag) → ⊥) (λ l. (l ≡ parts_value lexical datatype tag) × IsLiteral l) }
+        ensures { MatchOption result (IsLiteral (parts_value lexical datatype tag) → ⊥)
+            (λ l. (l ≡ parts_value lexical datatype tag) × IsLiteral l) }
     {
         if !is_tagged_alike(&datatype, &tag) {
             return None;
@@ -135,7 +136,8 @@ impl Literal {
 impl Blank {
     /// The label of a text without `_:`, if it is one: one or more ASCII letters, digits and `_`. An `Err` comes only where memory runs out.
     pub fn check(alloc: Global, text: &str) -> Result<Option<Blank>, AllocError>
-        ensures { IfOk result (λ found. MatchOption found (is_label text.now ≡ false) (λ blank. (blank ≡ text.now) × (is_label text.now ≡ true))) }
+        ensures { IfOk result (λ found. MatchOption found (is_label text.now ≡ false)
+            (λ blank. (blank ≡ text.now) × (is_label text.now ≡ true))) }
     {
         if !is_label(text.as_bytes()) {
             return Ok(None);

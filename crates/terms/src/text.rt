@@ -50,7 +50,8 @@ fn is_xsd_string(datatype: &Iri) -> bool
 }
 
 fn push_suffix(text: &mut Vec<u8>, literal: &Literal) -> Result<(), AllocError>
-    ensures { OnOk result (text.new.items ≡ text.old.items ++ suffix literal.now.datatype literal.now.tag) }
+    ensures { OnOk result (text.new.items ≡ text.old.items
+        ++ suffix literal.now.datatype literal.now.tag) }
 {
     match literal.tag() {
         Some(tag) => {

@@ -71,7 +71,9 @@ fn modify_with<'a>(
     insert: &[Block<'a>],
     pattern: Plan<Term>,
 ) -> Result<Operation<Term>, AllocError>
-    ensures { IfOk result (λ operation. operation ≡ modify_with scope.now.prefixes.now scope.now.variables.now scope.now.labels.now with.now delete.now insert.now (plan_of pattern)) }
+    ensures { IfOk result (λ operation. operation
+        ≡ modify_with scope.now.prefixes.now scope.now.variables.now scope.now.labels.now with.now
+        delete.now insert.now (plan_of pattern)) }
 {
     Ok(Operation::Modify(Modify {
         width: scope.variables.width(),
@@ -89,7 +91,8 @@ fn created<'a>(
     silent: bool,
     graph: &Name<'a>,
 ) -> Result<Operation<Term>, AllocError>
-    ensures { IfOk result (λ operation. operation ≡ made.Graphs silent (graphs.Create (name_term prefixes.now graph.now))) }
+    ensures { IfOk result (λ operation. operation
+        ≡ made.Graphs silent (graphs.Create (name_term prefixes.now graph.now))) }
 {
     Ok(Operation::Graphs {
         silent,
@@ -104,7 +107,8 @@ fn dropped<'a>(
     silent: bool,
     target: &Target<Name<'a>>,
 ) -> Result<Operation<Term>, AllocError>
-    ensures { IfOk result (λ operation. operation ≡ made.Graphs silent (graphs.Drop (target_of prefixes.now target.now))) }
+    ensures { IfOk result (λ operation. operation
+        ≡ made.Graphs silent (graphs.Drop (target_of prefixes.now target.now))) }
 {
     Ok(Operation::Graphs {
         silent,
@@ -119,7 +123,8 @@ fn cleared<'a>(
     silent: bool,
     target: &Target<Name<'a>>,
 ) -> Result<Operation<Term>, AllocError>
-    ensures { IfOk result (λ operation. operation ≡ made.Graphs silent (graphs.Clear (target_of prefixes.now target.now))) }
+    ensures { IfOk result (λ operation. operation
+        ≡ made.Graphs silent (graphs.Clear (target_of prefixes.now target.now))) }
 {
     Ok(Operation::Graphs {
         silent,
@@ -135,7 +140,8 @@ fn between<'a>(
     from: &Place<'a>,
     to: &Place<'a>,
 ) -> Result<GraphOperation<Term>, AllocError>
-    ensures { IfOk result (λ operation. operation ≡ graphs.Transfer how (graph_at prefixes.now from.now) (graph_at prefixes.now to.now)) }
+    ensures { IfOk result (λ operation. operation
+        ≡ graphs.Transfer how (graph_at prefixes.now from.now) (graph_at prefixes.now to.now)) }
 {
     Ok(GraphOperation::Transfer {
         how,
@@ -151,7 +157,9 @@ fn data_with<'a>(
     delete: &[Block<'a>],
     insert: &[Block<'a>],
 ) -> Result<Operation<Term>, AllocError>
-    ensures { IfOk result (λ operation. operation ≡ modify_with scope.now.prefixes.now scope.now.variables.now scope.now.labels.now None delete.now insert.now nothing) }
+    ensures { IfOk result (λ operation. operation
+        ≡ modify_with scope.now.prefixes.now scope.now.variables.now scope.now.labels.now None
+        delete.now insert.now nothing) }
 {
     let nothing = Plan::Basic(Items::new(alloc));
     modify_with(alloc, scope, &None, delete, insert, nothing)
@@ -163,7 +171,9 @@ fn delete_where<'a>(
     scope: &Scope<'_, 'a>,
     quads: &[Block<'a>],
 ) -> Result<Operation<Term>, AllocError>
-    ensures { IfOk result (λ operation. operation ≡ modify_with scope.now.prefixes.now scope.now.variables.now scope.now.labels.now None quads.now [] (quads_pattern scope.now.prefixes.now scope.now.variables.now quads.now)) }
+    ensures { IfOk result (λ operation. operation
+        ≡ modify_with scope.now.prefixes.now scope.now.variables.now scope.now.labels.now None
+        quads.now [] (quads_pattern scope.now.prefixes.now scope.now.variables.now quads.now)) }
 {
     let pattern = quads_pattern(alloc, scope, quads)?;
     modify_with(alloc, scope, &None, quads, &[], pattern)
@@ -174,7 +184,8 @@ fn operation_with<'a>(
     scope: &Scope<'_, 'a>,
     operation: &Written<'a>,
 ) -> Result<Operation<Term>, AllocError>
-    ensures { IfOk result (λ made. made ≡ operation_with scope.now.prefixes.now scope.now.variables.now scope.now.labels.now operation.now) }
+    ensures { IfOk result (λ made. made ≡ operation_with scope.now.prefixes.now
+        scope.now.variables.now scope.now.labels.now operation.now) }
 {
     match operation {
         Written::Create { silent, graph } => created(alloc, scope.prefixes, *silent, graph),
@@ -219,7 +230,8 @@ fn labels_of<'a>(
     prefixes: &mut Prefixes<'a>,
     operation: &Written<'a>,
 ) -> Result<Labels<'a>, AllocError>
-    ensures labels { IfOk result (λ labels. labels ≡ with_labels (labels_of (nodes_of_operation operation.now)) []) }
+    ensures labels { IfOk result (λ labels. labels
+        ≡ with_labels (labels_of (nodes_of_operation operation.now)) []) }
     ensures prefixes { prefixes.new ≡ prefixes.old }
 {
     let mut labels = Labels::new(alloc);

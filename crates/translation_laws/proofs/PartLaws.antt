@@ -118,9 +118,6 @@ TakenBy {A} nodes P = (ts : List Token) (x : A) (rest : List Token) → P ts x r
 
 -- ---- names, literals and nodes
 
-abbrev alone_in : Node → List Node
-alone_in n = n ∷ []
-
 name_taken : {ts rest : List Token} {n : Name} → ReadsName ts n rest → Takes ts (node.Name n ∷ []) rest
 name_taken names.iri = one_node (λ h. h)
 name_taken names.prefixed = one_node (λ h. h)

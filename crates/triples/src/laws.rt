@@ -25,7 +25,8 @@ pub fn triples_are_read()
 
 /// Triples begin with a subject, and what follows them doesn't.
 pub fn triples_begin()
-    ensures begin { (ts rest : List Token) (xs : List SameSubject) → ReadsTriples ts xs rest → begins_node ts ≡ true }
+    ensures begin { (ts rest : List Token) (xs : List SameSubject) → ReadsTriples ts xs rest
+        → begins_node ts ≡ true }
     ensures ends { (ts : List Token) → EndsTriples ts → begins_node ts ≡ false }
 {}
 
@@ -40,5 +41,6 @@ pub fn quads_are_read()
     ensures found { Found quads_at ReadsQuads }
     ensures takes { Takes ReadsQuads }
     ensures again { Again quads_at ReadsQuads }
-    ensures begin { (ts rest : List Token) (bs : List Block) (k : List ℕ) → ReadsQuads ts bs rest → keyword_at k ts ≡ None }
+    ensures begin { (ts rest : List Token) (bs : List Block) (k : List ℕ) → ReadsQuads ts bs rest
+        → keyword_at k ts ≡ None }
 {}

@@ -1,7 +1,8 @@
 -- What notes tell is what there is.
-use Rattle.std.specs.Prelude.{Bool, true, false, IfSome, drop, take, if◌then◌else◌}
-use Rattle.std.proofs.Common.{◌≡◌, ℕ, zero, suc, ◌<◌, List, [], ◌∷◌, length, get_or, Some, None, refl, sym, ap, subst, arith}
+use Rattle.std.specs.Prelude.{Bool, true, false, IfSome, drop, take, map, filter, is_none, if◌then◌else◌}
+use Rattle.std.proofs.Common.{◌≡◌, ℕ, zero, suc, ◌-◌, ◌<◌, ◌≤◌, List, [], ◌∷◌, ◌++◌, length, get_or, Option, Some, None, refl, sym, ap, ◌∙◌, subst, arith}
 use Rattle.std.proofs.lemmas.Bool.{false≢true}
+use Rattle.std.proofs.lemmas.List.{drop_at, take_rest}
 use Rattle.sets.specs.Sets.{has, set_of}
 use Rattle.sets.proofs.SetLaws.{sorted-set_of}
 use Rattle.std.specs.List.Sorted.{IsStrictlySortedBy}
@@ -13,9 +14,13 @@ use Rattle.datasets.specs.Id.{id_order, id_total}
 use Rattle.reads.specs.Reads.{View, Read, Answer, says}
 use Rattle.reads.specs.Runs.{Agrees}
 use Rattle.reads.specs.declared.note.Note.{Note}
+use Rattle.asking.specs.Goes.{AreAllowed, AreNoted}
 use Rattle.update.specs.Told.{first_told}
 use Rattle.update.specs.Whole.{WholeGraphs, is_known, told_in, KnowsWhole}
-use Rattle.update.specs.Known.{is_of_graphs, names_in, WhatIsKnown, told_of, Knows}
+use Rattle.update.specs.Asked.{scan_for, has_quads, AskedQuads}
+use Rattle.update.proofs.Members.{all-filter}
+use Rattle.update.specs.Known.{is_of_graphs, names_in, WhatIsKnown, told_of, Knows, scans_for_untold, TellOf}
+use Rattle.update.proofs.Told.{has_it}
 use Rattle.update.proofs.ToldScans.{first_is, or_is}
 
 -- the names of all graphs, where they were asked for
@@ -55,3 +60,57 @@ known_so k q d so h e = subst (λ o. IfSome o (λ b. b ≡ has (quad_order id_or
 
 pub rising_set : (graphs told : List Id) → graphs ≡ set_of id_order told → IsStrictlySortedBy id_order graphs
 rising_set graphs told e = subst (λ xs. IsStrictlySortedBy id_order xs) (sym e) (sorted-set_of id_total told)
+
+-- ---- the first of some quads
+
+module _ (k : WhatIsKnown) (q : Quad Id) (qs : List (Quad Id)) where
+  scans_with : (o : Option Bool) → o ≡ told_of k q → scans_for_untold k (q ∷ qs) ≡ map (λ x. scan_for x) (if is_none o then q ∷ filter (λ x. is_none (told_of k x)) qs else filter (λ x. is_none (told_of k x)) qs)
+  scans_with o e = ap (λ (z : Option Bool). map (λ x. scan_for x) (if is_none z then q ∷ filter (λ x. is_none (told_of k x)) qs else filter (λ x. is_none (told_of k x)) qs)) (sym e)
+
+  -- it was told before
+  pub first_known : (notes : List Note) (d : View) (so : Bool) → Some so ≡ told_of k q → TellOf k (q ∷ qs) notes d
+      → (so ≡ has (quad_order id_order) d.quads q) × TellOf k qs notes d
+  first_known notes d so e t =
+      (known_so k q d so t.knows e, record { knows = t.knows; scans = t.scans ∙ scans_with (Some so) e; agrees = t.agrees })
+
+  -- the first of the notes tells of it
+  pub first_noted : (n : Note) (notes : List Note) (d : View) → None ≡ told_of k q → TellOf k (q ∷ qs) (n ∷ notes) d
+      → (has_quads n.answer ≡ has (quad_order id_order) d.quads q) × TellOf k qs notes d
+  first_noted n notes d e t =
+      let all : n.read ∷ map (λ m. m.read) notes ≡ scan_for q ∷ scans_for_untold k qs = t.scans ∙ scans_with None e in
+      let first : n.read ≡ scan_for q = cc in
+      let others : map (λ m. m.read) notes ≡ scans_for_untold k qs = cc in
+      (ap has_quads (t.agrees.0 ∙ ap (λ r. says r d) first) ∙ has_it q d, record { knows = t.knows; scans = others; agrees = t.agrees.1 })
+
+  -- there is a note for it
+  pub first_lacking : (d : View) → None ≡ told_of k q → TellOf k (q ∷ qs) [] d → {A : Type 0} → A
+  first_lacking d e t = let all : [] ≡ scan_for q ∷ scans_for_untold k qs = t.scans ∙ scans_with None e in cc
+
+-- the first of some notes, and those behind it
+pub first_of : (notes : List Note) (n : Note) → n ≡ get_or notes 0 n → 1 ≤ length notes → notes ≡ n ∷ take (length notes - 1) (drop 1 notes)
+first_of [] n is some = absurd (omega (arith, some))
+first_of (m ∷ ms) n is some = λ i. sym is i ∷ sym (take_rest (m ∷ ms) 1) i
+
+-- ---- the notes of a lot of quads
+
+-- what asks for the quads of which it wasn't told is allowed where what asks for all of them is
+pub allowed_untold : (allowed : Read → Bool) (k : WhatIsKnown) (quads : List (Quad Id)) → AskedQuads allowed quads → AreAllowed allowed (scans_for_untold k quads)
+allowed_untold allowed k quads h = mapped (filter (λ q. is_none (told_of k q)) quads) (all-filter (λ q. allowed (scan_for q) ≡ true) (λ q. is_none (told_of k q)) quads h)
+  where
+    mapped : (qs : List (Quad Id)) → AskedQuads allowed qs → AreAllowed allowed (map (λ q. scan_for q) qs)
+    mapped [] hs = tt
+    mapped (q ∷ qs) hs = (hs.0, mapped qs hs.1)
+
+agrees_after : (ns ms : List Note) (d : View) → Agrees (ns ++ ms) d → Agrees ms d
+agrees_after [] ms d a = a
+agrees_after (n ∷ ns) ms d a = agrees_after ns ms d a.1
+
+pub lot_told : (k : WhatIsKnown) (quads : List (Quad Id)) (notes notes' tail : List Note) (n : ℕ) (d : View)
+    → AreNoted (scans_for_untold k quads) notes notes' → length notes ≡ n → tail ≡ drop n notes' → Knows k d → Agrees notes' d → TellOf k quads tail d
+lot_told k quads notes notes' tail n d noted e is knows a =
+    let last : tail ≡ noted.0 = is ∙ ap (drop n) noted.1 ∙ drop_at notes noted.0 n e in
+    record {
+      knows = knows;
+      scans = ap (map (λ m. m.read)) last ∙ noted.2;
+      agrees = subst (λ ms. Agrees ms d) (sym last) (agrees_after notes noted.0 d (subst (λ ms. Agrees ms d) noted.1 a));
+    }

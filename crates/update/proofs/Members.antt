@@ -1,7 +1,8 @@
 -- What holds of each member of a list.
-use Rattle.std.specs.Prelude.{filter, filter_map, if◌then◌else◌}
+use Rattle.std.specs.Prelude.{map, filter, filter_map, if◌then◌else◌}
 use Rattle.std.specs.List.{AllByRecursion, cons_option, flat_map}
 use Rattle.std.proofs.Common.{◌≡◌, ℕ, zero, suc, ◌<◌, Bool, true, false, List, [], ◌∷◌, ◌++◌, length, drop, get_or, sym, ap, ◌∙◌, append_assoc, drop-cons, add-one, ◌+◌, Option, Some, None, refl, arith}
+use Rattle.std.proofs.lemmas.List.Elements.{filter-append}
 use Rattle.std.specs.declared.cmp.Ordering.{Ordering}
 use Rattle.std.specs.declared.cmp.Ordering.TheVariants.{Less, Equal, Greater}
 use Rattle.sets.specs.Sets.{placed, with, set_of, union}
@@ -15,6 +16,14 @@ module _ {A : Type 0} (P : A → Type 0) where
   pub always : ((x : A) → P x) → (xs : List A) → AllByRecursion P xs
   always f [] = tt
   always f (x ∷ xs) = (f x, always f xs)
+
+  pub all_front : (xs ys : List A) → AllByRecursion P (xs ++ ys) → AllByRecursion P xs
+  all_front [] ys h = tt
+  all_front (x ∷ xs) ys h = (h.0, all_front xs ys h.1)
+
+  pub all_back : (xs ys : List A) → AllByRecursion P (xs ++ ys) → AllByRecursion P ys
+  all_back [] ys h = h
+  all_back (x ∷ xs) ys h = all_back xs ys h.1
 
   pub all-append : (xs ys : List A) → AllByRecursion P xs → AllByRecursion P ys → AllByRecursion P (xs ++ ys)
   all-append [] ys h k = k
@@ -69,6 +78,28 @@ filtered_more {A} p xs i d b now next all h e pushed before =
     one : {A : Type 0} (b : Bool) (ys : List A) (x : A) → (if b then x ∷ [] else []) ++ ys ≡ (if b then x ∷ ys else ys)
     one true ys x = refl
     one false ys x = refl
+
+-- a loop's step, where what a function makes of what passes a test is put at the end
+pub mapped_more : {A B : Type 0} (f : A → B) (p : A → Bool) (xs : List A) (i : ℕ) (d : A) (b : Bool) (now next all : List B) → i < length xs → b ≡ p (get_or xs i d)
+    → next ≡ now ++ (if b then f (get_or xs i d) ∷ [] else []) → now ++ map f (filter p (drop i xs)) ≡ all → next ++ map f (filter p (drop (i + 1) xs)) ≡ all
+mapped_more {A} f p xs i d b now next all h e pushed before =
+    let x = get_or xs i d in
+    let rest : List A = filter p (drop (i + 1) xs) in
+    let split : drop i xs ≡ x ∷ drop (i + 1) xs = rw add-one (drop-cons xs i d h) in
+    ap (λ z. z ++ map f rest) pushed
+    ∙ append_assoc now (if b then f x ∷ [] else []) (map f rest)
+    ∙ ap (λ z. now ++ z) (one f b rest x ∙ ap (λ c. map f (if c then x ∷ rest else rest)) e)
+    ∙ ap (λ z. now ++ map f (filter p z)) (sym split)
+    ∙ before
+  where
+    one : {A B : Type 0} (f : A → B) (b : Bool) (ys : List A) (x : A) → (if b then f x ∷ [] else []) ++ map f ys ≡ map f (if b then x ∷ ys else ys)
+    one f true ys x = refl
+    one f false ys x = refl
+
+-- a loop's step, where those of a lot that pass a test are put at the end
+pub filtered_lot : {A : Type 0} (p : A → Bool) (left lot later now next all : List A) → left ≡ lot ++ later → next ≡ now ++ filter p lot → now ++ filter p left ≡ all → next ++ filter p later ≡ all
+filtered_lot p left lot later now next all split pushed before =
+    ap (λ z. z ++ filter p later) pushed ∙ append_assoc now (filter p lot) (filter p later) ∙ ap (λ z. now ++ z) (sym (ap (filter p) split ∙ filter-append p lot later)) ∙ before
 
 -- a loop's step, where a list for each member is put at the end
 pub listed_more : {X A : Type 0} (f : X → List A) (xs : List X) (i : ℕ) (x : X) (now next all : List A) → i < length xs → x ≡ get_or xs i x

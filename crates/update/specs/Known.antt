@@ -1,5 +1,5 @@
 -- What notes tell of quads, and of the names of all graphs.
-use Rattle.std.specs.Prelude.{◌≡◌, Bool, true, false, List, [], Option}
+use Rattle.std.specs.Prelude.{◌≡◌, Bool, true, false, List, [], map, filter, Option, is_none}
 use Rattle.std.specs.Option.{option_or}
 use Rattle.sets.specs.Sets.{has}
 use Rattle.datasets.specs.declared.id.Id.{Id}
@@ -8,6 +8,9 @@ use Rattle.datasets.specs.declared.read.Read.TheVariants.{Scan, GraphIs, Graphs}
 use Rattle.datasets.specs.Dataset.{Quads, Is, Names}
 use Rattle.datasets.specs.Id.{id_order}
 use Rattle.reads.specs.Reads.{View, Read, Answer}
+use Rattle.reads.specs.Runs.{Agrees}
+use Rattle.reads.specs.declared.note.Note.{Note}
+use Rattle.update.specs.Asked.{scan_for}
 use Rattle.update.specs.Told.{ToldScan, AreTold, first_told}
 use Rattle.update.specs.Whole.{WholeGraphs, KnowsWhole, told_in}
 
@@ -39,3 +42,13 @@ pub record Knows (k : WhatIsKnown) (d : View) : Type 0 where
   pub scans : AreTold d k.scans
   pub whole : KnowsWhole k.whole d
   pub graphs : k.has_graphs ≡ true → (g : Id) → has id_order k.graphs g ≡ has id_order d.names g
+
+-- the scans for those of the quads of which it wasn't told whether they are there, in their order
+abbrev pub scans_for_untold : WhatIsKnown → List (Quad Id) → List Read
+scans_for_untold k quads = map (λ q. scan_for q) (filter (λ q. is_none (told_of k q)) quads)
+
+-- what is known and these notes tell of each of the quads: the notes are those of the scans for what wasn't told, and each tells what there is
+pub record TellOf (k : WhatIsKnown) (quads : List (Quad Id)) (notes : List Note) (d : View) : Type 0 where
+  pub knows : Knows k d
+  pub scans : map (λ n. n.read) notes ≡ scans_for_untold k quads
+  pub agrees : Agrees notes d

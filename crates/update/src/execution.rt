@@ -7,7 +7,8 @@ ghost use Rattle.meaning.specs.Run.{answer_of};
 ghost use Rattle.reads.specs.Reads.{View, IsDataset};
 ghost use Rattle.reads.specs.Runs.{Agrees};
 ghost use Rattle.delta.specs.Sound.{IsSoundFor};
-ghost use Rattle.asking.specs.Goes.{Goes, Asked, Stops, AllAllowed, stop_of};
+ghost use Rattle.reads.specs.Asking.{Asked};
+ghost use Rattle.asking.specs.Goes.{Goes, Stops, AllAllowed, stop_of};
 ghost use Rattle.update.specs.Asked.{IsShort, operations_of};
 ghost use Rattle.update.specs.Executed.{IsLeastFor};
 
@@ -63,9 +64,12 @@ fn performed<S: Source>(
     notes: &mut Vec<Note>,
 ) -> Result<Outcome, Stop>
     requires { length operations.now < 2 ^ 32 }
-    ensures goes { Goes S.asks (is_near_request id_order operations.now) source.old source.new notes.old.items notes.new.items (stop_of result) }
-    ensures least { IfOk result (λ outcome. IsLeastFor (answer_of (numbers dict.now) place (Ok operations.now)) notes.new.items outcome.delta) }
-    ensures reply { IfOk result (λ outcome. (d : View) → IsDataset d → Agrees notes.new.items d → outcome.reply ≡ (answer_of (numbers dict.now) place (Ok operations.now) d).1) }
+    ensures goes { Goes S.asks (is_near_request id_order operations.now) source.old source.new
+        notes.old.items notes.new.items (stop_of result) }
+    ensures least { IfOk result (λ outcome. IsLeastFor
+        (answer_of (numbers dict.now) place (Ok operations.now)) notes.new.items outcome.delta) }
+    ensures reply { IfOk result (λ outcome. (d : View) → IsDataset d → Agrees notes.new.items d
+        → outcome.reply ≡ (answer_of (numbers dict.now) place (Ok operations.now) d).1) }
 {
     match perform(alloc, dict, place, operations, source, notes)? {
         Ok(changes) => {
@@ -96,10 +100,13 @@ fn outcome_of<S: Source>(
     notes: &mut Vec<Note>,
 ) -> Result<Outcome, Stop>
     requires { IsShort request.now }
-    ensures goes { Goes S.asks (is_near_request id_order (operations_of request.now)) source.old source.new notes.old.items notes.new.items (stop_of result) }
+    ensures goes { Goes S.asks (is_near_request id_order (operations_of request.now)) source.old
+        source.new notes.old.items notes.new.items (stop_of result) }
     ensures refused { IsErr request.now → source.new ≡ source.old }
-    ensures least { IfOk result (λ outcome. IsLeastFor (answer_of (numbers dict.now) place request.now) notes.new.items outcome.delta) }
-    ensures reply { IfOk result (λ outcome. (d : View) → IsDataset d → Agrees notes.new.items d → outcome.reply ≡ (answer_of (numbers dict.now) place request.now d).1) }
+    ensures least { IfOk result (λ outcome. IsLeastFor
+        (answer_of (numbers dict.now) place request.now) notes.new.items outcome.delta) }
+    ensures reply { IfOk result (λ outcome. (d : View) → IsDataset d → Agrees notes.new.items d
+        → outcome.reply ≡ (answer_of (numbers dict.now) place request.now d).1) }
 {
     match request {
         Ok(operations) => performed(alloc, dict, place, operations.as_slice(), source, notes),
@@ -121,9 +128,11 @@ pub fn execute<'a, S: Source>(
     source: &mut S,
 ) -> Result<Execution<'a>, Stop>
     requires { IsShort request.now }
-    ensures request { IfOk result (λ e. (e.terms ≡ dict.now) × (e.place ≡ place) × (e.request ≡ request.now)) }
+    ensures request { IfOk result (λ e. (e.terms ≡ dict.now) × (e.place ≡ place)
+        × (e.request ≡ request.now)) }
     ensures asked { IfOk result (λ e. Asked S.asks source.old e.finished.transcript source.new) }
-    ensures stops { IfErr result (λ stop. Stops S.asks (is_near_request id_order (operations_of request.now)) source.old source.new stop) }
+    ensures stops { IfErr result (λ stop. Stops S.asks
+        (is_near_request id_order (operations_of request.now)) source.old source.new stop) }
     ensures refused { IsErr request.now → source.new ≡ source.old }
 {
     let mut notes = Vec::new(alloc);
@@ -145,9 +154,12 @@ impl<'a> Execution<'a> {
     /// The finished run of the request.
     pub fn finished(&self) -> &Finished
         ensures finished { result.now ≡ self.now.finished }
-        ensures sound { IsSoundFor (answer_of (numbers self.now.terms) self.now.place self.now.request) result.now }
-        ensures least { IsLeastFor (answer_of (numbers self.now.terms) self.now.place self.now.request) result.now.transcript result.now.delta }
-        ensures near { AllAllowed (is_near_request id_order (operations_of self.now.request)) result.now.transcript }
+        ensures sound { IsSoundFor (answer_of (numbers self.now.terms) self.now.place
+            self.now.request) result.now }
+        ensures least { IsLeastFor (answer_of (numbers self.now.terms) self.now.place
+            self.now.request) result.now.transcript result.now.delta }
+        ensures near { AllAllowed (is_near_request id_order (operations_of self.now.request))
+            result.now.transcript }
     {
         &self.finished
     }
@@ -155,9 +167,12 @@ impl<'a> Execution<'a> {
     /// The finished run, by itself.
     pub fn into_finished(self) -> Finished
         ensures finished { result ≡ self.entry.finished }
-        ensures sound { IsSoundFor (answer_of (numbers self.entry.terms) self.entry.place self.entry.request) result }
-        ensures least { IsLeastFor (answer_of (numbers self.entry.terms) self.entry.place self.entry.request) result.transcript result.delta }
-        ensures near { AllAllowed (is_near_request id_order (operations_of self.entry.request)) result.transcript }
+        ensures sound { IsSoundFor (answer_of (numbers self.entry.terms) self.entry.place
+            self.entry.request) result }
+        ensures least { IsLeastFor (answer_of (numbers self.entry.terms) self.entry.place
+            self.entry.request) result.transcript result.delta }
+        ensures near { AllAllowed (is_near_request id_order (operations_of self.entry.request))
+            result.transcript }
     {
         self.finished
     }

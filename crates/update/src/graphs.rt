@@ -30,9 +30,13 @@ fn created<S: Source>(
     source: &mut S,
     notes: &mut Vec<Note>,
 ) -> Result<Result<Delta, Cause>, Stop>
-    ensures goes { Goes S.asks (is_near_graphs id_order (graph_operation.Create name)) source.old source.new notes.old.items notes.new.items (stop_of result) }
-    ensures effect { IfOk result (λ outcome. (d : View) → Agrees notes.new.items d → changed (applied changes.now d) outcome ≡ graphs_after id_order (graph_operation.Create name) (applied changes.now d)) }
-    ensures within { IfOk result (λ outcome. IfOk outcome (λ own. IsWithin (is_near_graphs id_order (graph_operation.Create name)) own)) }
+    ensures goes { Goes S.asks (is_near_graphs id_order (graph_operation.Create name)) source.old
+        source.new notes.old.items notes.new.items (stop_of result) }
+    ensures effect { IfOk result (λ outcome. (d : View) → Agrees notes.new.items d
+        → changed (applied changes.now d) outcome
+        ≡ graphs_after id_order (graph_operation.Create name) (applied changes.now d)) }
+    ensures within { IfOk result (λ outcome. IfOk outcome
+        (λ own. IsWithin (is_near_graphs id_order (graph_operation.Create name)) own)) }
 {
     let exists = is_graph(alloc, name, changes, source, notes)?;
     if exists {
@@ -57,9 +61,13 @@ fn cleared<S: Source>(
     source: &mut S,
     notes: &mut Vec<Note>,
 ) -> Result<Result<Delta, Cause>, Stop>
-    ensures goes { Goes S.asks (is_near_target id_order target.now) source.old source.new notes.old.items notes.new.items (stop_of result) }
-    ensures effect { IfOk result (λ outcome. (d : View) → Agrees notes.new.items d → changed (applied changes.now d) outcome ≡ graphs_after id_order (graph_operation.Clear target.now) (applied changes.now d)) }
-    ensures within { IfOk result (λ outcome. IfOk outcome (λ own. IsWithin (is_near_target id_order target.now) own)) }
+    ensures goes { Goes S.asks (is_near_target id_order target.now) source.old source.new
+        notes.old.items notes.new.items (stop_of result) }
+    ensures effect { IfOk result (λ outcome. (d : View) → Agrees notes.new.items d
+        → changed (applied changes.now d) outcome
+        ≡ graphs_after id_order (graph_operation.Clear target.now) (applied changes.now d)) }
+    ensures within { IfOk result (λ outcome. IfOk outcome
+        (λ own. IsWithin (is_near_target id_order target.now) own)) }
 {
     let exists = is_there(alloc, target, changes, source, notes)?;
     if !exists {
@@ -84,9 +92,13 @@ fn dropped<S: Source>(
     source: &mut S,
     notes: &mut Vec<Note>,
 ) -> Result<Result<Delta, Cause>, Stop>
-    ensures goes { Goes S.asks (is_near_target id_order target.now) source.old source.new notes.old.items notes.new.items (stop_of result) }
-    ensures effect { IfOk result (λ outcome. (d : View) → Agrees notes.new.items d → changed (applied changes.now d) outcome ≡ graphs_after id_order (graph_operation.Drop target.now) (applied changes.now d)) }
-    ensures within { IfOk result (λ outcome. IfOk outcome (λ own. IsWithin (is_near_target id_order target.now) own)) }
+    ensures goes { Goes S.asks (is_near_target id_order target.now) source.old source.new
+        notes.old.items notes.new.items (stop_of result) }
+    ensures effect { IfOk result (λ outcome. (d : View) → Agrees notes.new.items d
+        → changed (applied changes.now d) outcome
+        ≡ graphs_after id_order (graph_operation.Drop target.now) (applied changes.now d)) }
+    ensures within { IfOk result (λ outcome. IfOk outcome
+        (λ own. IsWithin (is_near_target id_order target.now) own)) }
 {
     let exists = is_there(alloc, target, changes, source, notes)?;
     if !exists {
@@ -130,9 +142,14 @@ fn leaving<S: Source>(
     source: &mut S,
     notes: &mut Vec<Note>,
 ) -> Result<Vec<Quad<Id>>, Stop>
-    ensures goes { Goes S.asks (is_near_target id_order to.now) source.old source.new notes.old.items notes.new.items (stop_of result) }
-    ensures seen { IfOk result (λ quads. (d : View) → Agrees notes.new.items d → quads.items ≡ the_leaving how found.items (the_quads_of to.now (applied changes.now d).quads)) }
-    ensures within { (allowed : Reading → Bool) → ((r : Reading) → is_near_target id_order to.now r ≡ true → allowed r ≡ true) → AskedQuads allowed found.items → IfOk result (λ quads. AskedQuads allowed quads.items) }
+    ensures goes { Goes S.asks (is_near_target id_order to.now) source.old source.new
+        notes.old.items notes.new.items (stop_of result) }
+    ensures seen { IfOk result (λ quads. (d : View) → Agrees notes.new.items d
+        → quads.items ≡ the_leaving how found.items
+        (the_quads_of to.now (applied changes.now d).quads)) }
+    ensures within { (allowed : Reading → Bool) →
+        ((r : Reading) → is_near_target id_order to.now r ≡ true → allowed r ≡ true)
+        → AskedQuads allowed found.items → IfOk result (λ quads. AskedQuads allowed quads.items) }
 {
     match how {
         Transfer::Add => Ok(Vec::new(alloc)),
@@ -165,9 +182,13 @@ fn transferred<S: Source>(
     source: &mut S,
     notes: &mut Vec<Note>,
 ) -> Result<Result<Delta, Cause>, Stop>
-    ensures goes { Goes S.asks (is_near_graphs id_order (graph_operation.Transfer how from to)) source.old source.new notes.old.items notes.new.items (stop_of result) }
-    ensures effect { IfOk result (λ outcome. (d : View) → Agrees notes.new.items d → changed (applied changes.now d) outcome ≡ graphs_after id_order (graph_operation.Transfer how from to) (applied changes.now d)) }
-    ensures within { IfOk result (λ outcome. IfOk outcome (λ own. IsWithin (is_near_graphs id_order (graph_operation.Transfer how from to)) own)) }
+    ensures goes { Goes S.asks (is_near_graphs id_order (graph_operation.Transfer how from to))
+        source.old source.new notes.old.items notes.new.items (stop_of result) }
+    ensures effect { IfOk result (λ outcome. (d : View) → Agrees notes.new.items d
+        → changed (applied changes.now d) outcome
+        ≡ graphs_after id_order (graph_operation.Transfer how from to) (applied changes.now d)) }
+    ensures within { IfOk result (λ outcome. IfOk outcome
+        (λ own. IsWithin (is_near_graphs id_order (graph_operation.Transfer how from to)) own)) }
 {
     if is_same_graph(from, to) {
         return Ok(Ok(Delta::new(alloc)));
@@ -195,9 +216,13 @@ fn own_change<S: Source>(
     source: &mut S,
     notes: &mut Vec<Note>,
 ) -> Result<Result<Delta, Cause>, Stop>
-    ensures goes { Goes S.asks (is_near_graphs id_order operation.now) source.old source.new notes.old.items notes.new.items (stop_of result) }
-    ensures effect { IfOk result (λ outcome. (d : View) → Agrees notes.new.items d → changed (applied changes.now d) outcome ≡ graphs_after id_order operation.now (applied changes.now d)) }
-    ensures within { IfOk result (λ outcome. IfOk outcome (λ own. IsWithin (is_near_graphs id_order operation.now) own)) }
+    ensures goes { Goes S.asks (is_near_graphs id_order operation.now) source.old source.new
+        notes.old.items notes.new.items (stop_of result) }
+    ensures effect { IfOk result (λ outcome. (d : View) → Agrees notes.new.items d
+        → changed (applied changes.now d) outcome
+        ≡ graphs_after id_order operation.now (applied changes.now d)) }
+    ensures within { IfOk result (λ outcome. IfOk outcome
+        (λ own. IsWithin (is_near_graphs id_order operation.now) own)) }
 {
     match operation {
         GraphOperation::Create(name) => created(alloc, *name, changes, source, notes),
@@ -219,9 +244,14 @@ pub fn graphs<S: Source>(
     source: &mut S,
     notes: &mut Vec<Note>,
 ) -> Result<Result<Delta, Cause>, Stop>
-    ensures goes { Goes S.asks (is_near_graphs id_order operation.now) source.old source.new notes.old.items notes.new.items (stop_of result) }
-    ensures effect { IfOk result (λ outcome. (d : View) → Agrees notes.new.items d → changed d outcome ≡ graphs_after id_order operation.now (applied changes.now d)) }
-    ensures within { (allowed : Reading → Bool) → ((r : Reading) → is_near_graphs id_order operation.now r ≡ true → allowed r ≡ true) → IsWithin allowed changes.now → IfOk result (λ outcome. IfOk outcome (λ change. IsWithin allowed change)) }
+    ensures goes { Goes S.asks (is_near_graphs id_order operation.now) source.old source.new
+        notes.old.items notes.new.items (stop_of result) }
+    ensures effect { IfOk result (λ outcome. (d : View) → Agrees notes.new.items d
+        → changed d outcome ≡ graphs_after id_order operation.now (applied changes.now d)) }
+    ensures within { (allowed : Reading → Bool) →
+        ((r : Reading) → is_near_graphs id_order operation.now r ≡ true → allowed r ≡ true)
+        → IsWithin allowed changes.now → IfOk result
+        (λ outcome. IfOk outcome (λ change. IsWithin allowed change)) }
 {
     match own_change(alloc, operation, changes, source, notes)? {
         Ok(own) => {

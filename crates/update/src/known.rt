@@ -56,7 +56,8 @@ fn names_in(answer: &Answered) -> &[Id]
 
 // Whether the notes tell the names of all graphs, and these names.
 fn graphs_told(alloc: Global, notes: &[Note]) -> Result<(bool, Vec<Id>), AllocError>
-    ensures { IfOk result (λ told. (d : View) → Agrees notes.now d → told.0 ≡ true → told.1.items ≡ d.names) }
+    ensures { IfOk result (λ told. (d : View) → Agrees notes.now d → told.0 ≡ true
+        → told.1.items ≡ d.names) }
 {
     for note in notes {
         if is_of_graphs(note) {

@@ -21,8 +21,11 @@ pub fn least_of<S: Source>(
     source: &mut S,
     notes: &mut Vec<Note>,
 ) -> Result<Delta, Stop>
-    ensures goes { (allowed : Reading → Bool) → IsWithin allowed changes.now → Goes S.asks allowed source.old source.new notes.old.items notes.new.items (stop_of result) }
-    ensures least { IfOk result (λ change. (d : View) → IsDataset d → Agrees notes.new.items d → change ≡ difference d (applied changes.now d)) }
+    ensures goes { (allowed : Reading → Bool) → IsWithin allowed changes.now
+        → Goes S.asks allowed source.old source.new notes.old.items notes.new.items
+        (stop_of result) }
+    ensures least { IfOk result (λ change. (d : View) → IsDataset d → Agrees notes.new.items d
+        → change ≡ difference d (applied changes.now d)) }
 {
     let others = quads_outside(alloc, changes.absent(), changes.present())?;
     let other_names = names_outside(alloc, changes.gone(), changes.there())?;

@@ -37,8 +37,11 @@ fn solved<S: Source>(
     source: &mut S,
     notes: &mut Vec<Note>,
 ) -> Result<Option<Solutions>, Stop>
-    ensures goes { Goes S.asks (is_near id_order (operation.Modify modify.now)) source.old source.new notes.old.items notes.new.items (stop_of result) }
-    ensures solved { IfOk result (λ found. (d : View) → Agrees notes.new.items d → found ≡ up_to 1000000 (solutions id_order (numbers dict.now).passes modify.now.width modify.now.pattern (applied changes.now d) modify.now.active)) }
+    ensures goes { Goes S.asks (is_near id_order (operation.Modify modify.now)) source.old
+        source.new notes.old.items notes.new.items (stop_of result) }
+    ensures solved { IfOk result (λ found. (d : View) → Agrees notes.new.items d
+        → found ≡ up_to 1000000 (solutions id_order (numbers dict.now).passes modify.now.width
+        modify.now.pattern (applied changes.now d) modify.now.active)) }
     ensures few { IfOk result (λ found. IfSome found (λ few. length few ≤ 1000000)) }
 {
     let query = Query {
@@ -81,8 +84,11 @@ fn solutions_of<S: Source>(
     source: &mut S,
     notes: &mut Vec<Note>,
 ) -> Result<Option<Solutions>, Stop>
-    ensures goes { Goes S.asks (is_near id_order (operation.Modify modify.now)) source.old source.new notes.old.items notes.new.items (stop_of result) }
-    ensures solved { IfOk result (λ found. (d : View) → Agrees notes.new.items d → found ≡ up_to 1000000 (solutions id_order (numbers dict.now).passes modify.now.width modify.now.pattern (applied changes.now d) modify.now.active)) }
+    ensures goes { Goes S.asks (is_near id_order (operation.Modify modify.now)) source.old
+        source.new notes.old.items notes.new.items (stop_of result) }
+    ensures solved { IfOk result (λ found. (d : View) → Agrees notes.new.items d
+        → found ≡ up_to 1000000 (solutions id_order (numbers dict.now).passes modify.now.width
+        modify.now.pattern (applied changes.now d) modify.now.active)) }
     ensures few { IfOk result (λ found. IfSome found (λ few. length few ≤ 1000000)) }
 {
     let found = solved(alloc, dict, modify, changes, source, notes)?;
@@ -108,9 +114,15 @@ pub fn modify<S: Source>(
     source: &mut S,
     notes: &mut Vec<Note>,
 ) -> Result<Result<Delta, Cause>, Stop>
-    ensures goes { Goes S.asks (is_near id_order (operation.Modify modify.now)) source.old source.new notes.old.items notes.new.items (stop_of result) }
-    ensures effect { IfOk result (λ outcome. (d : View) → Agrees notes.new.items d → changed d outcome ≡ effect_of (numbers dict.now) request op (operation.Modify modify.now) (applied changes.now d)) }
-    ensures within { (allowed : Reading → Bool) → ((r : Reading) → is_near id_order (operation.Modify modify.now) r ≡ true → allowed r ≡ true) → IsWithin allowed changes.now → IfOk result (λ outcome. IfOk outcome (λ change. IsWithin allowed change)) }
+    ensures goes { Goes S.asks (is_near id_order (operation.Modify modify.now)) source.old
+        source.new notes.old.items notes.new.items (stop_of result) }
+    ensures effect { IfOk result (λ outcome. (d : View) → Agrees notes.new.items d
+        → changed d outcome ≡ effect_of (numbers dict.now) request op (operation.Modify modify.now)
+        (applied changes.now d)) }
+    ensures within { (allowed : Reading → Bool) →
+        ((r : Reading) → is_near id_order (operation.Modify modify.now) r ≡ true → allowed r ≡ true)
+        → IsWithin allowed changes.now → IfOk result
+        (λ outcome. IfOk outcome (λ change. IsWithin allowed change)) }
 {
     let Some(found) = solutions_of(alloc, dict, modify, changes, source, notes)? else {
         return Ok(Err(Cause::TooManySolutions));

@@ -36,8 +36,10 @@ fn excused(
     changes: &Delta,
     cause: Cause,
 ) -> Result<Result<Delta, Cause>, AllocError>
-    ensures effect { IfOk result (λ kept. (d : View) → changed d kept ≡ silently id_order silent (applied changes.now d) (Err cause)) }
-    ensures within { (allowed : Reading → Bool) → IsWithin allowed changes.now → IfOk result (λ kept. IfOk kept (λ change. IsWithin allowed change)) }
+    ensures effect { IfOk result (λ kept. (d : View)
+        → changed d kept ≡ silently id_order silent (applied changes.now d) (Err cause)) }
+    ensures within { (allowed : Reading → Bool) → IsWithin allowed changes.now
+        → IfOk result (λ kept. IfOk kept (λ change. IsWithin allowed change)) }
 {
     if !silent {
         return Ok(Err(cause));
@@ -53,8 +55,11 @@ fn heard(
     changes: &Delta,
     outcome: Result<Delta, Cause>,
 ) -> Result<Result<Delta, Cause>, AllocError>
-    ensures effect { IfOk result (λ kept. (d : View) → changed d kept ≡ silently id_order silent (applied changes.now d) (changed d outcome)) }
-    ensures within { (allowed : Reading → Bool) → IsWithin allowed changes.now → IfOk outcome (λ change. IsWithin allowed change) → IfOk result (λ kept. IfOk kept (λ change. IsWithin allowed change)) }
+    ensures effect { IfOk result (λ kept. (d : View)
+        → changed d kept ≡ silently id_order silent (applied changes.now d) (changed d outcome)) }
+    ensures within { (allowed : Reading → Bool) → IsWithin allowed changes.now
+        → IfOk outcome (λ change. IsWithin allowed change)
+        → IfOk result (λ kept. IfOk kept (λ change. IsWithin allowed change)) }
 {
     match outcome {
         Ok(change) => Ok(Ok(change)),
@@ -73,9 +78,15 @@ fn perform_one<S: Source>(
     source: &mut S,
     notes: &mut Vec<Note>,
 ) -> Result<Result<Delta, Cause>, Stop>
-    ensures goes { Goes S.asks (is_near id_order operation.now) source.old source.new notes.old.items notes.new.items (stop_of result) }
-    ensures effect { IfOk result (λ outcome. (d : View) → Agrees notes.new.items d → changed d outcome ≡ effect_of (numbers dict.now) place op operation.now (applied changes.now d)) }
-    ensures within { (allowed : Reading → Bool) → ((r : Reading) → is_near id_order operation.now r ≡ true → allowed r ≡ true) → IsWithin allowed changes.now → IfOk result (λ outcome. IfOk outcome (λ change. IsWithin allowed change)) }
+    ensures goes { Goes S.asks (is_near id_order operation.now) source.old source.new
+        notes.old.items notes.new.items (stop_of result) }
+    ensures effect { IfOk result (λ outcome. (d : View) → Agrees notes.new.items d
+        → changed d outcome ≡ effect_of (numbers dict.now) place op operation.now
+        (applied changes.now d)) }
+    ensures within { (allowed : Reading → Bool) →
+        ((r : Reading) → is_near id_order operation.now r ≡ true → allowed r ≡ true)
+        → IsWithin allowed changes.now → IfOk result
+        (λ outcome. IfOk outcome (λ change. IsWithin allowed change)) }
 {
     match operation {
         Operation::Modify(modification) => {
@@ -99,9 +110,12 @@ pub fn perform<S: Source>(
     notes: &mut Vec<Note>,
 ) -> Result<Result<Delta, Failed>, Stop>
     requires { length operations.now < 2 ^ 32 }
-    ensures goes { Goes S.asks (is_near_request id_order operations.now) source.old source.new notes.old.items notes.new.items (stop_of result) }
-    ensures effect { IfOk result (λ outcome. (d : View) → IsDataset d → Agrees notes.new.items d → performed_so d outcome ≡ performed (numbers dict.now) place 0 operations.now d) }
-    ensures within { IfOk result (λ outcome. IfOk outcome (λ change. IsWithin (is_near_request id_order operations.now) change)) }
+    ensures goes { Goes S.asks (is_near_request id_order operations.now) source.old source.new
+        notes.old.items notes.new.items (stop_of result) }
+    ensures effect { IfOk result (λ outcome. (d : View) → IsDataset d → Agrees notes.new.items d
+        → performed_so d outcome ≡ performed (numbers dict.now) place 0 operations.now d) }
+    ensures within { IfOk result (λ outcome. IfOk outcome
+        (λ change. IsWithin (is_near_request id_order operations.now) change)) }
 {
     let mut changes = Delta::new(alloc);
     let mut op: u32 = 0;

@@ -1,22 +1,27 @@
 //! Whether quads and graph names are there.
-ghost use Rattle.std.specs.Prelude.{◌≡◌, ◌++◌, ◌∷◌, [], Bool, true, false, if◌then◌else◌, IfOk, OnOk, filter};
+ghost use Rattle.std.specs.Prelude.{◌≡◌, ◌++◌, ◌∷◌, [], Bool, true, false, List, if◌then◌else◌, IfOk, OnOk, filter};
 ghost use Rattle.sets.specs.Sets.{has};
 ghost use Rattle.datasets.specs.Id.{id_order};
+ghost use Rattle.datasets.specs.declared.id.Id.{Id as Number};
+ghost use Rattle.datasets.specs.declared.quad.Quad.{Quad as TheQuad};
 ghost use Rattle.datasets.specs.Dataset.{quad_order};
 ghost use Rattle.datasets.specs.declared.read.Read.TheVariants as read;
 ghost use Rattle.reads.specs.Reads.{View, Read as Reading};
 ghost use Rattle.reads.specs.Runs.{Agrees};
 ghost use Rattle.reads.specs.Same.{bool_eq};
-ghost use Rattle.asking.specs.Goes.{Goes, stop_of};
+ghost use Rattle.asking.specs.Goes.{AreNoted, Goes, stop_of};
 ghost use Rattle.update.specs.Asked.{scan_for as the_scan_for, has_quads as the_has_quads, has_name as the_has_name, AskedQuads, AskedNames};
-ghost use Rattle.update.specs.Known.{Knows};
+ghost use Rattle.update.specs.Known.{scans_for_untold as the_scans_for_untold, Knows, TellOf};
 
 use crate::known::Known;
-use asking::ask;
+use asking::{ask, ask_all};
 use datasets::{GraphPlace, Id, Quad, QuadPattern, Read};
 use reads::same::same_bool;
 use reads::{Answered, Note, Source, Stop};
 use std::alloc::{AllocError, Global};
+
+// How many quads are asked for at once. The reads of so many take little memory beside the notes of all.
+const AT_ONCE: usize = 256;
 
 /// The scan for one quad.
 pub fn scan_for(quad: Quad<Id>) -> Read<Id>
@@ -50,20 +55,6 @@ fn has_name(answer: &Answered) -> bool
     }
 }
 
-/// Whether a quad is there, in each dataset that agrees with the notes.
-pub fn is_present<S: Source>(
-    alloc: Global,
-    quad: Quad<Id>,
-    source: &mut S,
-    notes: &mut Vec<Note>,
-) -> Result<bool, Stop>
-    ensures goes { (allowed : Reading → Bool) → allowed (the_scan_for quad) ≡ true → Goes S.asks allowed source.old source.new notes.old.items notes.new.items (stop_of result) }
-    ensures told { IfOk result (λ so. (d : View) → Agrees notes.new.items d → so ≡ has (quad_order id_order) d.quads quad) }
-{
-    let answer = ask(alloc, scan_for(quad), source, notes)?;
-    Ok(has_quads(&answer))
-}
-
 /// Whether a graph name is there, in each dataset that agrees with the notes.
 pub fn is_named<S: Source>(
     alloc: Global,
@@ -71,28 +62,14 @@ pub fn is_named<S: Source>(
     source: &mut S,
     notes: &mut Vec<Note>,
 ) -> Result<bool, Stop>
-    ensures goes { (allowed : Reading → Bool) → allowed (read.GraphIs name) ≡ true → Goes S.asks allowed source.old source.new notes.old.items notes.new.items (stop_of result) }
-    ensures told { IfOk result (λ so. (d : View) → Agrees notes.new.items d → so ≡ has id_order d.names name) }
+    ensures goes { (allowed : Reading → Bool) → allowed (read.GraphIs name) ≡ true
+        → Goes S.asks allowed source.old source.new notes.old.items notes.new.items
+        (stop_of result) }
+    ensures told { IfOk result (λ so. (d : View) → Agrees notes.new.items d
+        → so ≡ has id_order d.names name) }
 {
     let answer = ask(alloc, Read::GraphIs(name), source, notes)?;
     Ok(has_name(&answer))
-}
-
-// Whether a quad is there, in each dataset that agrees with the notes and with what is known. It is asked for only where it isn't known.
-fn is_known_or_present<S: Source>(
-    alloc: Global,
-    known: &Known,
-    quad: Quad<Id>,
-    source: &mut S,
-    notes: &mut Vec<Note>,
-) -> Result<bool, Stop>
-    ensures goes { (allowed : Reading → Bool) → allowed (the_scan_for quad) ≡ true → Goes S.asks allowed source.old source.new notes.old.items notes.new.items (stop_of result) }
-    ensures told { IfOk result (λ so. (d : View) → Knows known.now d → Agrees notes.new.items d → so ≡ has (quad_order id_order) d.quads quad) }
-{
-    match known.tells(&quad) {
-        Some(so) => Ok(so),
-        None => is_present(alloc, quad, source, notes),
-    }
 }
 
 // Whether a graph name is there, in each dataset that agrees with the notes and with what is known. It is asked for only where it isn't
@@ -104,8 +81,11 @@ fn is_known_or_named<S: Source>(
     source: &mut S,
     notes: &mut Vec<Note>,
 ) -> Result<bool, Stop>
-    ensures goes { (allowed : Reading → Bool) → allowed (read.GraphIs name) ≡ true → Goes S.asks allowed source.old source.new notes.old.items notes.new.items (stop_of result) }
-    ensures told { IfOk result (λ so. (d : View) → Knows known.now d → Agrees notes.new.items d → so ≡ has id_order d.names name) }
+    ensures goes { (allowed : Reading → Bool) → allowed (read.GraphIs name) ≡ true
+        → Goes S.asks allowed source.old source.new notes.old.items notes.new.items
+        (stop_of result) }
+    ensures told { IfOk result (λ so. (d : View) → Knows known.now d → Agrees notes.new.items d
+        → so ≡ has id_order d.names name) }
 {
     if known.has_graphs() {
         return Ok(known.is_graph(&name));
@@ -123,8 +103,78 @@ fn push_if<T: Copy>(found: &mut Vec<T>, so: bool, item: T) -> Result<(), AllocEr
     Ok(())
 }
 
+// The scans for those of the quads of which it isn't known whether they are there.
+fn scans_for_untold(
+    alloc: Global,
+    known: &Known,
+    quads: &[Quad<Id>],
+) -> Result<Vec<Read<Id>>, AllocError>
+    ensures { IfOk result (λ reads. reads.items ≡ the_scans_for_untold known.now quads.now) }
+{
+    let mut reads = Vec::new(alloc);
+    for quad in quads {
+        push_if(&mut reads, known.tells(quad).is_none(), scan_for(*quad))?;
+    }
+    Ok(reads)
+}
+
+// Asks at once for those of the quads of which it isn't known whether they are there.
+fn ask_for_untold<S: Source>(
+    alloc: Global,
+    known: &Known,
+    quads: &[Quad<Id>],
+    source: &mut S,
+    notes: &mut Vec<Note>,
+) -> Result<(), Stop>
+    ensures goes { (allowed : Reading → Bool) → AskedQuads allowed quads.now
+        → Goes S.asks allowed source.old source.new notes.old.items notes.new.items
+        (stop_of result) }
+    ensures noted { OnOk result (AreNoted (the_scans_for_untold known.now quads.now) notes.old.items
+        notes.new.items) }
+{
+    let reads = scans_for_untold(alloc, known, quads)?;
+    ask_all(&reads, source, notes)
+}
+
+// Whether the first of some quads is there, and the notes that tell of the others.
+fn told_first<'n>(known: &Known, quad: &Quad<Id>, notes: &'n [Note]) -> (bool, &'n [Note])
+    ensures { (d : View) (quads : List (TheQuad Number))
+        → TellOf known.now (quad.now ∷ quads) notes.now d
+        → (result.0 ≡ has (quad_order id_order) d.quads quad.now)
+        × TellOf known.now quads result.1.now d }
+{
+    match known.tells(quad) {
+        Some(so) => (so, notes),
+        None => match notes {
+            [first, others @ ..] => (has_quads(&first.answer), others),
+            [] => (false, notes),
+        },
+    }
+}
+
+// Puts those of the quads that are there, or those that are not, at the end of what was found.
+fn push_those(
+    known: &Known,
+    are_there: bool,
+    quads: &[Quad<Id>],
+    notes: &[Note],
+    found: &mut Vec<Quad<Id>>,
+) -> Result<(), AllocError>
+    ensures { OnOk result ((d : View) → TellOf known.now quads.now notes.now d
+        → found.new.items ≡ found.old.items
+        ++ filter (λ q. bool_eq are_there (has (quad_order id_order) d.quads q)) quads.now) }
+{
+    let mut left = notes;
+    for quad in quads {
+        let (is_there, others) = told_first(known, quad, left);
+        push_if(found, same_bool(are_there, is_there), *quad)?;
+        left = others;
+    }
+    Ok(())
+}
+
 /// Of the quads those that are there, or those that are not, in each dataset that agrees with the notes. Each that isn't known from
-/// them is asked for.
+/// them is asked for, many at once.
 pub fn quads_that<S: Source>(
     alloc: Global,
     known: &Known,
@@ -134,13 +184,21 @@ pub fn quads_that<S: Source>(
     notes: &mut Vec<Note>,
 ) -> Result<Vec<Quad<Id>>, Stop>
     requires { (d : View) → Agrees notes.old.items d → Knows known.now d }
-    ensures goes { (allowed : Reading → Bool) → AskedQuads allowed quads.now → Goes S.asks allowed source.old source.new notes.old.items notes.new.items (stop_of result) }
-    ensures told { IfOk result (λ found. (d : View) → Agrees notes.new.items d → found.items ≡ filter (λ q. bool_eq are_there (has (quad_order id_order) d.quads q)) quads.now) }
+    ensures goes { (allowed : Reading → Bool) → AskedQuads allowed quads.now
+        → Goes S.asks allowed source.old source.new notes.old.items notes.new.items
+        (stop_of result) }
+    ensures told { IfOk result (λ found. (d : View) → Agrees notes.new.items d
+        → found.items ≡ filter (λ q. bool_eq are_there (has (quad_order id_order) d.quads q))
+        quads.now) }
 {
     let mut found = Vec::new(alloc);
-    for quad in quads {
-        let is_there = is_known_or_present(alloc, known, *quad, source, notes)?;
-        push_if(&mut found, same_bool(are_there, is_there), *quad)?;
+    let mut left = quads;
+    while !left.is_empty() {
+        let (part, later) = left.split_at(left.len().min(AT_ONCE));
+        let before = notes.len();
+        ask_for_untold(alloc, known, part, source, notes)?;
+        push_those(known, are_there, part, &notes[before..], &mut found)?;
+        left = later;
     }
     Ok(found)
 }
@@ -156,8 +214,11 @@ pub fn names_that<S: Source>(
     notes: &mut Vec<Note>,
 ) -> Result<Vec<Id>, Stop>
     requires { (d : View) → Agrees notes.old.items d → Knows known.now d }
-    ensures goes { (allowed : Reading → Bool) → AskedNames allowed names.now → Goes S.asks allowed source.old source.new notes.old.items notes.new.items (stop_of result) }
-    ensures told { IfOk result (λ found. (d : View) → Agrees notes.new.items d → found.items ≡ filter (λ g. bool_eq are_there (has id_order d.names g)) names.now) }
+    ensures goes { (allowed : Reading → Bool) → AskedNames allowed names.now
+        → Goes S.asks allowed source.old source.new notes.old.items notes.new.items
+        (stop_of result) }
+    ensures told { IfOk result (λ found. (d : View) → Agrees notes.new.items d
+        → found.items ≡ filter (λ g. bool_eq are_there (has id_order d.names g)) names.now) }
 {
     let mut found = Vec::new(alloc);
     for name in names {

@@ -89,9 +89,12 @@ pub fn quads_of<S: Source>(
     source: &mut S,
     notes: &mut Vec<Note>,
 ) -> Result<Vec<Quad<Id>>, Stop>
-    ensures goes { Goes S.asks (is_near_target id_order target.now) source.old source.new notes.old.items notes.new.items (stop_of result) }
-    ensures seen { IfOk result (λ quads. (d : View) → Agrees notes.new.items d → quads.items ≡ the_quads_of target.now (applied changes.now d).quads) }
-    ensures within { IfOk result (λ quads. AskedQuads (is_near_target id_order target.now) quads.items) }
+    ensures goes { Goes S.asks (is_near_target id_order target.now) source.old source.new
+        notes.old.items notes.new.items (stop_of result) }
+    ensures seen { IfOk result (λ quads. (d : View) → Agrees notes.new.items d
+        → quads.items ≡ the_quads_of target.now (applied changes.now d).quads) }
+    ensures within { IfOk result (λ quads. AskedQuads (is_near_target id_order target.now)
+        quads.items) }
 {
     let pattern = whole(place_of(target));
     let quads = scan(alloc, &pattern, changes, source, notes)?;
@@ -107,9 +110,12 @@ pub fn names_of<S: Source>(
     source: &mut S,
     notes: &mut Vec<Note>,
 ) -> Result<Vec<Id>, Stop>
-    ensures goes { Goes S.asks (is_near_target id_order target.now) source.old source.new notes.old.items notes.new.items (stop_of result) }
-    ensures seen { IfOk result (λ names. (d : View) → Agrees notes.new.items d → names.items ≡ the_names_of target.now (applied changes.now d).names) }
-    ensures within { IfOk result (λ names. AskedNames (is_near_target id_order target.now) names.items) }
+    ensures goes { Goes S.asks (is_near_target id_order target.now) source.old source.new
+        notes.old.items notes.new.items (stop_of result) }
+    ensures seen { IfOk result (λ names. (d : View) → Agrees notes.new.items d
+        → names.items ≡ the_names_of target.now (applied changes.now d).names) }
+    ensures within { IfOk result (λ names. AskedNames (is_near_target id_order target.now)
+        names.items) }
 {
     match target {
         Target::Graph(name) => {
@@ -131,8 +137,10 @@ pub fn is_there<S: Source>(
     source: &mut S,
     notes: &mut Vec<Note>,
 ) -> Result<bool, Stop>
-    ensures goes { Goes S.asks (is_near_target id_order target.now) source.old source.new notes.old.items notes.new.items (stop_of result) }
-    ensures seen { IfOk result (λ so. (d : View) → Agrees notes.new.items d → so ≡ is_target_there (applied changes.now d) target.now) }
+    ensures goes { Goes S.asks (is_near_target id_order target.now) source.old source.new
+        notes.old.items notes.new.items (stop_of result) }
+    ensures seen { IfOk result (λ so. (d : View) → Agrees notes.new.items d
+        → so ≡ is_target_there (applied changes.now d) target.now) }
 {
     match target {
         Target::Graph(name) => is_graph(alloc, *name, changes, source, notes),

@@ -20,7 +20,8 @@ struct Origin {
 
 // The term in a place of a template, if it is bound.
 fn term_at(_dict: &Dict, origin: Origin, mapping: &Mapping, slot: Slot<Id>) -> Option<Id>
-    ensures { result ≡ the_term_at (numbers _dict.now) (λ l. id.Made origin.request origin.op l origin.rank) mapping.now slot }
+    ensures { result ≡ the_term_at (numbers _dict.now)
+        (λ l. id.Made origin.request origin.op l origin.rank) mapping.now slot }
 {
     match slot {
         Slot::Term(term) => Some(term),
@@ -41,7 +42,8 @@ fn graph_at(
     mapping: &Mapping,
     graph: Option<Slot<Id>>,
 ) -> Option<Option<Id>>
-    ensures { result ≡ the_graph_at (numbers dict.now) (λ l. id.Made origin.request origin.op l origin.rank) mapping.now graph }
+    ensures { result ≡ the_graph_at (numbers dict.now)
+        (λ l. id.Made origin.request origin.op l origin.rank) mapping.now graph }
 {
     match graph {
         None => Some(None),
@@ -97,7 +99,8 @@ fn instance_of(
     mapping: &Mapping,
     template: &QuadTemplate<Id>,
 ) -> Option<Quad<Id>>
-    ensures { result ≡ the_instance_of (numbers dict.now) (λ l. id.Made origin.request origin.op l origin.rank) mapping.now template.now }
+    ensures { result ≡ the_instance_of (numbers dict.now)
+        (λ l. id.Made origin.request origin.op l origin.rank) mapping.now template.now }
 {
     legal_quad(
         dict,
@@ -116,7 +119,9 @@ fn push_instances(
     mapping: &Mapping,
     templates: &[QuadTemplate<Id>],
 ) -> Result<(), AllocError>
-    ensures { OnOk result (quads.new.items ≡ quads.old.items ++ filter_map (the_instance_of (numbers dict.now) (λ l. id.Made origin.request origin.op l origin.rank) mapping.now) templates.now) }
+    ensures { OnOk result (quads.new.items ≡ quads.old.items
+        ++ filter_map (the_instance_of (numbers dict.now)
+        (λ l. id.Made origin.request origin.op l origin.rank) mapping.now) templates.now) }
 {
     for template in templates {
         if let Some(quad) = instance_of(dict, origin, mapping, template) {
@@ -136,7 +141,8 @@ pub fn instances(
     found: &[Mapping],
 ) -> Result<Vec<Quad<Id>>, AllocError>
     requires { length found.now ≤ 1000000 }
-    ensures { IfOk result (λ quads. quads.items ≡ the_instances (numbers dict.now) request op templates.now found.now) }
+    ensures { IfOk result (λ quads. quads.items
+        ≡ the_instances (numbers dict.now) request op templates.now found.now) }
 {
     let mut quads = Vec::new(alloc);
     let mut rank: u32 = 0;

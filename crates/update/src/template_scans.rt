@@ -64,7 +64,9 @@ fn ask_template<S: Source>(
     source: &mut S,
     notes: &mut Vec<Note>,
 ) -> Result<(), Stop>
-    ensures { (allowed : Reading → Bool) → allowed (the_template_scan template.now) ≡ true → Goes S.asks allowed source.old source.new notes.old.items notes.new.items (stop_of result) }
+    ensures { (allowed : Reading → Bool) → allowed (the_template_scan template.now) ≡ true
+        → Goes S.asks allowed source.old source.new notes.old.items notes.new.items
+        (stop_of result) }
 {
     let read = template_scan(template);
     if !is_narrow(template) || is_noted(notes.as_slice(), &read) {
@@ -82,7 +84,9 @@ pub fn ask_templates<S: Source>(
     source: &mut S,
     notes: &mut Vec<Note>,
 ) -> Result<(), Stop>
-    ensures { (allowed : Reading → Bool) → AskedTemplates allowed templates.now → Goes S.asks allowed source.old source.new notes.old.items notes.new.items (stop_of result) }
+    ensures { (allowed : Reading → Bool) → AskedTemplates allowed templates.now
+        → Goes S.asks allowed source.old source.new notes.old.items notes.new.items
+        (stop_of result) }
 {
     if !are_many {
         return Ok(());

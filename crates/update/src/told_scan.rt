@@ -93,7 +93,8 @@ fn is_of_one(pattern: &QuadPattern<Id>) -> bool {
 
 // The scan that a note tells of. One for a single quad is left out.
 fn told_scan(alloc: Global, note: &Note) -> Result<Option<ToldScan>, AllocError>
-    ensures { IfOk result (λ told. IfSome told (λ scan. (d : View) → note.now.answer ≡ says note.now.read d → IsTold d scan)) }
+    ensures { IfOk result (λ told. IfSome told
+        (λ scan. (d : View) → note.now.answer ≡ says note.now.read d → IsTold d scan)) }
 {
     let Read::Scan(pattern) = &note.read else {
         return Ok(None);
@@ -110,7 +111,8 @@ fn told_scan(alloc: Global, note: &Note) -> Result<Option<ToldScan>, AllocError>
 
 // One more at the end, if the note tells of one.
 fn push_told(alloc: Global, scans: &mut Vec<ToldScan>, note: &Note) -> Result<(), AllocError>
-    ensures { OnOk result ((d : View) → note.now.answer ≡ says note.now.read d → AreTold d scans.old.items → AreTold d scans.new.items) }
+    ensures { OnOk result ((d : View) → note.now.answer ≡ says note.now.read d
+        → AreTold d scans.old.items → AreTold d scans.new.items) }
 {
     if let Some(scan) = told_scan(alloc, note)? {
         scans.push(scan)?;
@@ -124,7 +126,8 @@ const MOST_SCANS: usize = 64;
 
 /// The first scans that the notes tell of, and the place of the first note that was not looked at.
 pub fn first_scans(alloc: Global, notes: &[Note]) -> Result<(Vec<ToldScan>, usize), AllocError>
-    ensures told { IfOk result (λ first. (d : View) → Agrees notes.now d → AreTold d first.0.items) }
+    ensures told { IfOk result (λ first. (d : View) → Agrees notes.now d
+        → AreTold d first.0.items) }
     ensures place { IfOk result (λ first. first.1 ≤ length notes.now) }
 {
     let mut scans = Vec::new(alloc);

@@ -130,7 +130,8 @@ fn has_default(places: &[GraphPlace<Id>]) -> bool
 
 // The quads that the notes tell of whole graph places.
 fn all_told(alloc: Global, notes: &[Note]) -> Result<Vec<Quad<Id>>, AllocError>
-    ensures { IfOk result (λ quads. quads.items ≡ flat_map (λ note. the_quads_told note.read note.answer) notes.now) }
+    ensures { IfOk result (λ quads. quads.items
+        ≡ flat_map (λ note. the_quads_told note.read note.answer) notes.now) }
 {
     let mut quads = Vec::new(alloc);
     for note in notes {

@@ -17,7 +17,10 @@ pub fn changed_part(
     delta: &Delta,
     part: Option<View>,
 ) -> Result<Option<View>, AllocError>
-    ensures { IfOk result (λ next. (d : Dataset) → IsRising id_order d → says scanned.now.read (part_or scanned.now.dataset part) ≡ says scanned.now.read d → says scanned.now.read (part_or scanned.now.dataset next) ≡ says scanned.now.read (applied delta.now d)) }
+    ensures { IfOk result (λ next. (d : Dataset) → IsRising id_order d
+        → says scanned.now.read (part_or scanned.now.dataset part) ≡ says scanned.now.read d
+        → says scanned.now.read (part_or scanned.now.dataset next)
+        ≡ says scanned.now.read (applied delta.now d)) }
 {
     let read = scanned.read();
     if !delta.covers(read) {
@@ -34,7 +37,8 @@ pub(crate) fn part_of(
     scanned: &Scanned<'_>,
     part: Option<View>,
 ) -> Result<View, AllocError>
-    ensures { IfOk result (λ found. says scanned.now.read found ≡ says scanned.now.read (part_or scanned.now.dataset part)) }
+    ensures { IfOk result (λ found. says scanned.now.read found
+        ≡ says scanned.now.read (part_or scanned.now.dataset part)) }
 {
     match part {
         Some(part) => Ok(part),
@@ -48,7 +52,8 @@ pub fn answer_of(
     scanned: &Scanned<'_>,
     part: Option<View>,
 ) -> Result<Answered, AllocError>
-    ensures { IfOk result (λ answer. answer ≡ says scanned.now.read (part_or scanned.now.dataset part)) }
+    ensures { IfOk result (λ answer. answer ≡ says scanned.now.read
+        (part_or scanned.now.dataset part)) }
 {
     match part {
         Some(part) => part.answer(alloc, scanned.read()),
@@ -63,7 +68,9 @@ pub fn push_covering(
     delta: &Delta,
     read: &Read<Id>,
 ) -> Result<(), AllocError>
-    ensures { OnOk result ((d : Dataset) → IsRising id_order d → says read.now (changed_by changes.new.items d) ≡ says read.now (applied delta.now (changed_by changes.old.items d))) }
+    ensures { OnOk result ((d : Dataset) → IsRising id_order d
+        → says read.now (changed_by changes.new.items d)
+        ≡ says read.now (applied delta.now (changed_by changes.old.items d))) }
 {
     if !delta.covers(read) {
         return Ok(());

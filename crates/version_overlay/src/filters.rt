@@ -17,16 +17,20 @@ use std::alloc::AllocError;
 /// Lets through what a change speaks of. What was let through still is, also where memory runs out.
 #[tactic(auto, unfolding(reads::specs::Reads::covers))]
 pub fn put_all(seen: &mut SeenQuads, delta: &Delta) -> Result<(), AllocError>
-    ensures added { OnOk result ((p : PatternOf Number) → covers delta.now (Scan p) ≡ true → may_match seen.new p ≡ true) }
-    ensures kept { (p : PatternOf Number) → may_match seen.old p ≡ true → may_match seen.new p ≡ true }
+    ensures added { OnOk result ((p : PatternOf Number) → covers delta.now (Scan p) ≡ true
+        → may_match seen.new p ≡ true) }
+    ensures kept { (p : PatternOf Number) → may_match seen.old p ≡ true
+        → may_match seen.new p ≡ true }
 {
     put_quads(seen, delta.present())?;
     put_quads(seen, delta.absent())
 }
 
 fn put_quads(seen: &mut SeenQuads, quads: &[Quad<Id>]) -> Result<(), AllocError>
-    ensures added { OnOk result ((p : PatternOf Number) → list_any (matches id_order p) quads.now ≡ true → may_match seen.new p ≡ true) }
-    ensures kept { (p : PatternOf Number) → may_match seen.old p ≡ true → may_match seen.new p ≡ true }
+    ensures added { OnOk result ((p : PatternOf Number)
+        → list_any (matches id_order p) quads.now ≡ true → may_match seen.new p ≡ true) }
+    ensures kept { (p : PatternOf Number) → may_match seen.old p ≡ true
+        → may_match seen.new p ≡ true }
 {
     for quad in quads {
         seen.put(quad)?;

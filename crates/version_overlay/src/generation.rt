@@ -42,9 +42,12 @@ impl Generation {
     /// The request speaks of all that its delta covers, and of nothing else. What was there stays, also where memory runs out.
     pub fn put(&mut self, alloc: Global, delta: &Delta, request: usize) -> Result<(), AllocError>
         ensures highest { self.new.highest ≡ max self.old.highest request }
-        ensures added { OnOk result ((read : Asked) → covers delta.now read ≡ true → has_spoken self.new read request ≡ true) }
-        ensures kept { (read : Asked) (j : ℕ) → has_spoken self.old read j ≡ true → has_spoken self.new read j ≡ true }
-        ensures only { (read : Asked) (j : ℕ) → (covers delta.now read && (request == j)) ≡ false → has_spoken self.old read j ≡ false → has_spoken self.new read j ≡ false }
+        ensures added { OnOk result ((read : Asked) → covers delta.now read ≡ true
+            → has_spoken self.new read request ≡ true) }
+        ensures kept { (read : Asked) (j : ℕ) → has_spoken self.old read j ≡ true
+            → has_spoken self.new read j ≡ true }
+        ensures only { (read : Asked) (j : ℕ) → (covers delta.now read && (request == j)) ≡ false
+            → has_spoken self.old read j ≡ false → has_spoken self.new read j ≡ false }
     {
         self.highest = self.highest.max(request);
         put_quads_of(alloc, &mut self.quads, delta, request)?;
@@ -57,7 +60,8 @@ impl Generation {
 
     /// The requests that may have spoken of what the read asks for, in any order and with repeats: none of them is missing.
     pub fn requests(&self, alloc: Global, read: &Read<Id>) -> Result<Vec<usize>, AllocError>
-        ensures { IfOk result (λ found. (j : ℕ) → has_spoken self.now read.now j ≡ true → list_any (λ r. r == j) found.items ≡ true) }
+        ensures { IfOk result (λ found. (j : ℕ) → has_spoken self.now read.now j ≡ true
+            → list_any (λ r. r == j) found.items ≡ true) }
     {
         match read {
             Read::Scan(pattern) => self.quads.requests(alloc, pattern),
@@ -74,9 +78,14 @@ fn put_quads_of(
     delta: &Delta,
     request: usize,
 ) -> Result<(), AllocError>
-    ensures added { OnOk result ((p : Named Number → Bool) → (list_any p delta.now.present || list_any p delta.now.absent) ≡ true → list_any (λ h. p h.quad && (h.request == request)) hints.new ≡ true) }
+    ensures added { OnOk result ((p : Named Number → Bool)
+        → (list_any p delta.now.present || list_any p delta.now.absent) ≡ true
+        → list_any (λ h. p h.quad && (h.request == request)) hints.new ≡ true) }
     ensures kept { (p : Hint → Bool) → list_any p hints.old ≡ true → list_any p hints.new ≡ true }
-    ensures only { (p : Named Number → Bool) (j : ℕ) → ((list_any p delta.now.present || list_any p delta.now.absent) && (request == j)) ≡ false → list_any (λ h. p h.quad && (h.request == j)) hints.old ≡ false → list_any (λ h. p h.quad && (h.request == j)) hints.new ≡ false }
+    ensures only { (p : Named Number → Bool) (j : ℕ)
+        → ((list_any p delta.now.present || list_any p delta.now.absent) && (request == j)) ≡ false
+        → list_any (λ h. p h.quad && (h.request == j)) hints.old ≡ false
+        → list_any (λ h. p h.quad && (h.request == j)) hints.new ≡ false }
 {
     put_quads(alloc, hints, delta.present(), request)?;
     put_quads(alloc, hints, delta.absent(), request)
@@ -89,9 +98,13 @@ fn put_quads(
     quads: &[Quad<Id>],
     request: usize,
 ) -> Result<(), AllocError>
-    ensures added { OnOk result ((p : Named Number → Bool) → list_any p quads.now ≡ true → list_any (λ h. p h.quad && (h.request == request)) hints.new ≡ true) }
+    ensures added { OnOk result ((p : Named Number → Bool) → list_any p quads.now ≡ true
+        → list_any (λ h. p h.quad && (h.request == request)) hints.new ≡ true) }
     ensures kept { (p : Hint → Bool) → list_any p hints.old ≡ true → list_any p hints.new ≡ true }
-    ensures only { (p : Named Number → Bool) (j : ℕ) → (list_any p quads.now && (request == j)) ≡ false → list_any (λ h. p h.quad && (h.request == j)) hints.old ≡ false → list_any (λ h. p h.quad && (h.request == j)) hints.new ≡ false }
+    ensures only { (p : Named Number → Bool) (j : ℕ)
+        → (list_any p quads.now && (request == j)) ≡ false
+        → list_any (λ h. p h.quad && (h.request == j)) hints.old ≡ false
+        → list_any (λ h. p h.quad && (h.request == j)) hints.new ≡ false }
 {
     hints.put_all(alloc, quads, request)
 }
@@ -103,9 +116,16 @@ fn put_names_of(
     delta: &Delta,
     request: usize,
 ) -> Result<(), AllocError>
-    ensures added { OnOk result ((name : Number) → (has id_order delta.now.there name || has id_order delta.now.gone name) ≡ true → list_any (λ r. r == request) (requests_of requests.new name) ≡ true) }
-    ensures kept { (name : Number) (p : ℕ → Bool) → list_any p (requests_of requests.old name) ≡ true → list_any p (requests_of requests.new name) ≡ true }
-    ensures only { (name : Number) (p : ℕ → Bool) → ((has id_order delta.now.there name || has id_order delta.now.gone name) && p request) ≡ false → list_any p (requests_of requests.old name) ≡ false → list_any p (requests_of requests.new name) ≡ false }
+    ensures added { OnOk result ((name : Number)
+        → (has id_order delta.now.there name || has id_order delta.now.gone name) ≡ true
+        → list_any (λ r. r == request) (requests_of requests.new name) ≡ true) }
+    ensures kept { (name : Number) (p : ℕ → Bool)
+        → list_any p (requests_of requests.old name) ≡ true
+        → list_any p (requests_of requests.new name) ≡ true }
+    ensures only { (name : Number) (p : ℕ → Bool)
+        → ((has id_order delta.now.there name || has id_order delta.now.gone name) && p request)
+        ≡ false → list_any p (requests_of requests.old name) ≡ false
+        → list_any p (requests_of requests.new name) ≡ false }
 {
     put_names(alloc, requests, delta.there(), request)?;
     put_names(alloc, requests, delta.gone(), request)
@@ -118,9 +138,15 @@ fn put_names(
     names: &[Id],
     request: usize,
 ) -> Result<(), AllocError>
-    ensures added { OnOk result ((name : Number) → has id_order names.now name ≡ true → list_any (λ r. r == request) (requests_of requests.new name) ≡ true) }
-    ensures kept { (name : Number) (p : ℕ → Bool) → list_any p (requests_of requests.old name) ≡ true → list_any p (requests_of requests.new name) ≡ true }
-    ensures only { (name : Number) (p : ℕ → Bool) → (has id_order names.now name && p request) ≡ false → list_any p (requests_of requests.old name) ≡ false → list_any p (requests_of requests.new name) ≡ false }
+    ensures added { OnOk result ((name : Number) → has id_order names.now name ≡ true
+        → list_any (λ r. r == request) (requests_of requests.new name) ≡ true) }
+    ensures kept { (name : Number) (p : ℕ → Bool)
+        → list_any p (requests_of requests.old name) ≡ true
+        → list_any p (requests_of requests.new name) ≡ true }
+    ensures only { (name : Number) (p : ℕ → Bool)
+        → (has id_order names.now name && p request) ≡ false
+        → list_any p (requests_of requests.old name) ≡ false
+        → list_any p (requests_of requests.new name) ≡ false }
 {
     for name in names {
         put_name(alloc, requests, *name, request)?;
@@ -134,9 +160,13 @@ fn put_name(
     name: Id,
     request: usize,
 ) -> Result<(), AllocError>
-    ensures added { OnOk result (list_any (λ r. r == request) (requests_of requests.new name) ≡ true) }
-    ensures kept { (q : Number) (p : ℕ → Bool) → list_any p (requests_of requests.old q) ≡ true → list_any p (requests_of requests.new q) ≡ true }
-    ensures only { (q : Number) (p : ℕ → Bool) → (eq_by_cmp id_order q name && p request) ≡ false → list_any p (requests_of requests.old q) ≡ false → list_any p (requests_of requests.new q) ≡ false }
+    ensures added { OnOk result (list_any (λ r. r == request) (requests_of requests.new name)
+        ≡ true) }
+    ensures kept { (q : Number) (p : ℕ → Bool) → list_any p (requests_of requests.old q) ≡ true
+        → list_any p (requests_of requests.new q) ≡ true }
+    ensures only { (q : Number) (p : ℕ → Bool) → (eq_by_cmp id_order q name && p request) ≡ false
+        → list_any p (requests_of requests.old q) ≡ false
+        → list_any p (requests_of requests.new q) ≡ false }
 {
     requests
         .entry(name)?

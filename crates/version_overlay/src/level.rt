@@ -2,7 +2,7 @@
 ghost use Rattle.std.specs.Prelude.{◌≡◌, true, false, [], IfOk, filter};
 ghost use Rattle.std.specs.List.{list_any};
 ghost use Rattle.std.specs.List.Sorted.{IsStrictlySortedBy};
-ghost use Rattle.sets.specs.Sets.{has, without};
+ghost use Rattle.sets.specs.Sets.{has};
 ghost use Rattle.datasets.specs.declared.id.Id.{Id as Number};
 ghost use Rattle.datasets.specs.declared.quad.Quad.{Quad as Named};
 ghost use Rattle.datasets.specs.Id.{id_order};
@@ -15,7 +15,7 @@ use crate::along::{changed_part, part_of};
 use datasets::{Id, Quad, QuadPattern, Read};
 use delta::Delta;
 use quad_index::{Arrangement, Index};
-use reads::lists::quads_union;
+use reads::lists::{quads_union, quads_without};
 use reads::{Scanned, View};
 use sets::is_member;
 use std::alloc::{AllocError, Global};
@@ -71,7 +71,10 @@ impl Level {
         scanned: &Scanned<'_>,
         part: Option<View>,
     ) -> Result<Option<View>, AllocError>
-        ensures { IfOk result (λ next. (d : Dataset) → IsRising id_order d → says scanned.now.read (part_or scanned.now.dataset part) ≡ says scanned.now.read d → says scanned.now.read (part_or scanned.now.dataset next) ≡ says scanned.now.read (applied self.now d)) }
+        ensures { IfOk result (λ next. (d : Dataset) → IsRising id_order d
+            → says scanned.now.read (part_or scanned.now.dataset part) ≡ says scanned.now.read d
+            → says scanned.now.read (part_or scanned.now.dataset next)
+            ≡ says scanned.now.read (applied self.now d)) }
     {
         match scanned.read() {
             Read::Scan(pattern) => self.scan_after(alloc, scanned, pattern, part),
@@ -89,7 +92,10 @@ impl Level {
         part: Option<View>,
     ) -> Result<Option<View>, AllocError>
         requires { scanned.now.read ≡ Read.Scan pattern.now }
-        ensures { IfOk result (λ next. (d : Dataset) → IsRising id_order d → says scanned.now.read (part_or scanned.now.dataset part) ≡ says scanned.now.read d → says scanned.now.read (part_or scanned.now.dataset next) ≡ says scanned.now.read (applied self.now d)) }
+        ensures { IfOk result (λ next. (d : Dataset) → IsRising id_order d
+            → says scanned.now.read (part_or scanned.now.dataset part) ≡ says scanned.now.read d
+            → says scanned.now.read (part_or scanned.now.dataset next)
+            ≡ says scanned.now.read (applied self.now d)) }
     {
         let coming = self.present.scan(alloc, pattern)?;
         let going = self.change.absent();
@@ -112,7 +118,10 @@ fn is_any_gone(
 ) -> Result<bool, AllocError>
     requires scan { scanned.now.read ≡ Read.Scan pattern.now }
     requires set { IsStrictlySortedBy (quad_order id_order) going.now }
-    ensures { IfOk result (λ so. so ≡ false → (q : Named Number) → has (quad_order id_order) (filter (matches id_order pattern.now) (part_or scanned.now.dataset part.now).quads) q ≡ true → has (quad_order id_order) going.now q ≡ false) }
+    ensures { IfOk result (λ so. so ≡ false → (q : Named Number)
+        → has (quad_order id_order) (filter (matches id_order pattern.now)
+        (part_or scanned.now.dataset part.now).quads) q ≡ true
+        → has (quad_order id_order) going.now q ≡ false) }
 {
     match part {
         Some(view) => {
@@ -132,7 +141,9 @@ fn is_any_told_gone(
 ) -> Result<bool, AllocError>
     requires scan { scanned.now.read ≡ Read.Scan pattern.now }
     requires set { IsStrictlySortedBy (quad_order id_order) going.now }
-    ensures { IfOk result (λ so. so ≡ false → (q : Named Number) → has (quad_order id_order) (filter (matches id_order pattern.now) scanned.now.dataset.quads) q ≡ true → has (quad_order id_order) going.now q ≡ false) }
+    ensures { IfOk result (λ so. so ≡ false → (q : Named Number)
+        → has (quad_order id_order) (filter (matches id_order pattern.now)
+        scanned.now.dataset.quads) q ≡ true → has (quad_order id_order) going.now q ≡ false) }
 {
     let _ = pattern;
     scanned.rises();
@@ -147,7 +158,8 @@ fn is_any_told_gone(
 fn have_common(first: &[Quad<Id>], second: &[Quad<Id>]) -> bool
     requires first { IsStrictlySortedBy (quad_order id_order) first.now }
     requires second { IsStrictlySortedBy (quad_order id_order) second.now }
-    ensures { result ≡ false → (q : Named Number) → has (quad_order id_order) first.now q ≡ true → has (quad_order id_order) second.now q ≡ false }
+    ensures { result ≡ false → (q : Named Number) → has (quad_order id_order) first.now q ≡ true
+        → has (quad_order id_order) second.now q ≡ false }
 {
     if first.len() <= second.len() {
         is_any_in(first, second)
@@ -162,13 +174,4 @@ fn is_any_in(quads: &[Quad<Id>], set: &[Quad<Id>]) -> bool
     ensures { result ≡ list_any (λ q. has (quad_order id_order) set.now q) quads.now }
 {
     quads.iter().any(|quad| is_member(set, quad))
-}
-
-// The quads that are none of a set's.
-fn quads_without(mut quads: Vec<Quad<Id>>, others: &[Quad<Id>]) -> Vec<Quad<Id>>
-    requires { IsStrictlySortedBy (quad_order id_order) others.now }
-    ensures { result.items ≡ without (quad_order id_order) quads.items others.now }
-{
-    quads.retain(|quad| !is_member(others, quad));
-    quads
 }

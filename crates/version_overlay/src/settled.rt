@@ -54,7 +54,8 @@ impl Settled {
     /// One more change, after the others. After want of memory they make of a dataset what they made. One that speaks of nothing adds
     /// nothing, but for the first, which makes sets of what it is applied to.
     pub fn push(&mut self, alloc: Global, delta: &Delta) -> Result<(), AllocError>
-        ensures ok { OnOk result ((d : Dataset) → changed_by self.new d ≡ applied delta.now (changed_by self.old d)) }
+        ensures ok { OnOk result ((d : Dataset) → changed_by self.new d
+            ≡ applied delta.now (changed_by self.old d)) }
         ensures err { OnErr result ((d : Dataset) → changed_by self.new d ≡ changed_by self.old d) }
     {
         if !self.levels.is_empty() && says_nothing(delta) {
@@ -71,7 +72,8 @@ impl Settled {
 
     // Whether the changes may have changed what the read says.
     fn may_say_else(&self, read: &Read<Id>) -> bool
-        ensures { result ≡ false → (d : Dataset) → IsRising id_order d → says read.now (changed_by self.now d) ≡ says read.now d }
+        ensures { result ≡ false → (d : Dataset) → IsRising id_order d
+            → says read.now (changed_by self.now d) ≡ says read.now d }
     {
         match read {
             Read::Scan(pattern) => self.seen.may_match(pattern),
@@ -82,7 +84,8 @@ impl Settled {
 
     /// The part of the dataset after the changes that a read asks for, from what it says of the dataset: none where they don't speak of it.
     pub fn part(&self, alloc: Global, scanned: &Scanned<'_>) -> Result<Option<View>, AllocError>
-        ensures { IfOk result (λ part. says scanned.now.read (part_or scanned.now.dataset part) ≡ says scanned.now.read (changed_by self.now scanned.now.dataset)) }
+        ensures { IfOk result (λ part. says scanned.now.read (part_or scanned.now.dataset part)
+            ≡ says scanned.now.read (changed_by self.now scanned.now.dataset)) }
     {
         scanned.rises();
         if !self.may_say_else(scanned.read()) {
@@ -97,7 +100,8 @@ impl Settled {
 
     /// Those that a read asks for, one after another: what it says after them is what it says after all. They are shared, and not copied.
     pub fn changes(&self, alloc: Global, read: &Read<Id>) -> Result<Vec<Delta>, AllocError>
-        ensures { IfOk result (λ found. (d : Dataset) → IsRising id_order d → says read.now (changed_by found.items d) ≡ says read.now (changed_by self.now d)) }
+        ensures { IfOk result (λ found. (d : Dataset) → IsRising id_order d
+            → says read.now (changed_by found.items d) ≡ says read.now (changed_by self.now d)) }
     {
         let mut found = Vec::new(alloc);
         for each in &self.levels {
@@ -129,7 +133,8 @@ fn says_nothing(delta: &Delta) -> bool
 
 // The first change and then the later ones, as one.
 fn joined(alloc: Global, first: &Level, later: &[Level]) -> Result<Delta, AllocError>
-    ensures { IfOk result (λ change. (d : Dataset) → applied change d ≡ changed_by later.now (applied first.now d)) }
+    ensures { IfOk result (λ change. (d : Dataset)
+        → applied change d ≡ changed_by later.now (applied first.now d)) }
 {
     let mut change = first.change().copied(alloc)?;
     for level in later {

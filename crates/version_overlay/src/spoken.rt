@@ -43,8 +43,10 @@ impl Spoken {
 
     /// The request speaks of all that its delta covers. What was there stays, also where memory runs out.
     pub fn put(&mut self, alloc: Global, delta: &Delta, request: usize) -> Result<(), AllocError>
-        ensures added { OnOk result ((read : Asked) → covers delta.now read ≡ true → speaks self.new read request ≡ true) }
-        ensures kept { (read : Asked) (j : ℕ) → speaks self.old read j ≡ true → speaks self.new read j ≡ true }
+        ensures added { OnOk result ((read : Asked) → covers delta.now read ≡ true
+            → speaks self.new read request ≡ true) }
+        ensures kept { (read : Asked) (j : ℕ) → speaks self.old read j ≡ true
+            → speaks self.new read j ≡ true }
     {
         put_all(&mut self.seen, delta)?;
         self.current.put(alloc, delta, request)
@@ -52,7 +54,8 @@ impl Spoken {
 
     /// The requests that may have spoken of what the read asks for, in any order and with repeats: none of them is missing.
     pub fn requests(&self, alloc: Global, read: &Read<Id>) -> Result<Vec<usize>, AllocError>
-        ensures { IfOk result (λ found. (j : ℕ) → speaks self.now read.now j ≡ true → list_any (λ r. r == j) found.items ≡ true) }
+        ensures { IfOk result (λ found. (j : ℕ) → speaks self.now read.now j ≡ true
+            → list_any (λ r. r == j) found.items ≡ true) }
     {
         if let Read::Scan(pattern) = read {
             if !self.seen.may_match(pattern) {
@@ -66,7 +69,8 @@ impl Spoken {
 
     /// Forgets of requests below `low` what it can. What the others spoke of stays.
     pub fn forget_below(&mut self, alloc: Global, low: usize)
-        ensures { (read : Asked) (j : ℕ) → low ≤ j → speaks self.old read j ≡ true → speaks self.new read j ≡ true }
+        ensures { (read : Asked) (j : ℕ) → low ≤ j → speaks self.old read j ≡ true
+            → speaks self.new read j ≡ true }
     {
         self.drop_older_below(alloc, low);
         self.drop_older_below(alloc, low);
@@ -74,7 +78,8 @@ impl Spoken {
 
     // Drops the older generation if all its requests are below `low`. The current one takes its place.
     fn drop_older_below(&mut self, alloc: Global, low: usize)
-        ensures { (read : Asked) (j : ℕ) → low ≤ j → speaks self.old read j ≡ true → speaks self.new read j ≡ true }
+        ensures { (read : Asked) (j : ℕ) → low ≤ j → speaks self.old read j ≡ true
+            → speaks self.new read j ≡ true }
     {
         if self.older.highest < low {
             let next = Generation::new(alloc, self.orders);

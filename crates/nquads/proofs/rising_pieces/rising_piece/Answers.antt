@@ -1,6 +1,5 @@
 use Rattle.std.proofs.Common.{[]}
-use Rattle.nquads.proofs.RisingLaws.{rising_none}
 use Rattle.nquads.proofs.rising_pieces.rising_piece.Goals as goal
 
 pub returns : goal.returns
-returns c = c.in_ok-rises.ensures c.if-not-rises.false [] (rising_none _ c.new.ensures.items)
+returns c = c.in_ok-rises.ensures c.if-not-rises.false [] c.begun-made.ensures

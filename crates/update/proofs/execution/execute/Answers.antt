@@ -1,6 +1,6 @@
 use Rattle.std.proofs.Common.{List, sym, subst}
 use Rattle.reads.specs.declared.note.Note.{Note}
-use Rattle.asking.specs.Goes.{Asked}
+use Rattle.reads.specs.Asking.{Asked}
 use Rattle.asking.proofs.Notes.{all_near, all_asked, stops_as, stops_short}
 use Rattle.update.specs.Executed.{IsExecuted}
 use Rattle.update.proofs.Executions.{executed}

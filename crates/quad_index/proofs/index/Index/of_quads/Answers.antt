@@ -11,6 +11,6 @@ use Rattle.quad_index.proofs.index.Index.of_quads.Goals as goal
 pub invariant_of-result : goal.invariant_of-result
 invariant_of-result c = record {
   first = ap (λ (o : Order). o.arrangement) c.in_ok-spog.ensures;
-  set = subst (λ (quads : List (Quad Id)). IsStrictlySortedBy (quad_order id_order) quads) (sym (ap (λ (o : Order). o.quads) c.in_ok-spog.ensures)) (sorted-set_of (quad_total id_total) c.args.quads.items);
+  set = subst (λ (quads : List (Quad Id)). IsStrictlySortedBy (quad_order id_order) quads) (sym (ap (λ (o : Order). o.quads) c.in_ok-spog.ensures)) (sorted-set_of (quad_total id_total) c.args.quads);
   alike = c.in_ok-others.ensures.alike;
 }

@@ -46,7 +46,7 @@ returns-clause-base g c =
     let qs = quads_are dict terms ids c.in_ok-terms.ensures.renamed c.in_ok-terms.ensures.known placed c.parts-parts.ensures.within.0 in
     let ns = names_are dict terms ids c.in_ok-terms.ensures.renamed c.in_ok-terms.ensures.known places c.parts-parts.ensures.within.1 in
     base_of c.args.dataset.now dict c.in_ok-indexed.indexed c.in_ok-tag.tag
-    (map (quad_at terms) placed) (map (term_at terms) places) c.in_ok-quads.quads.items c.in_ok-names.names.items
+    (map (quad_at terms) placed) (map (term_at terms) places) c.in_ok-quads.quads c.in_ok-names.names.items
     c.in_ok-terms.ensures.form (c.is_renaming.ensures dict c.in_ok-terms.ensures.form)
     c.parts-parts.ensures.dataset (ap (λ (d : Dataset Term). d.quads) c.parts-parts.ensures.parts) (ap (λ (d : Dataset Term). d.names) c.parts-parts.ensures.parts)
     (ap (λ (xs : List (Quad Id)). map (renamed_quad (term_of dict)) xs) quads_made ∙ qs.0)
@@ -67,7 +67,7 @@ invariant_of-result g c =
     let qs = quads_are dict terms ids c.in_ok-terms.ensures.renamed c.in_ok-terms.ensures.known placed c.parts-parts.ensures.within.0 in
     let ns = names_are dict terms ids c.in_ok-terms.ensures.renamed c.in_ok-terms.ensures.known places c.parts-parts.ensures.within.1 in
     (base_of c.args.dataset.now dict c.in_ok-indexed.indexed c.in_ok-tag.tag
-    (map (quad_at terms) placed) (map (term_at terms) places) c.in_ok-quads.quads.items c.in_ok-names.names.items
+    (map (quad_at terms) placed) (map (term_at terms) places) c.in_ok-quads.quads c.in_ok-names.names.items
     c.in_ok-terms.ensures.form (c.is_renaming.ensures dict c.in_ok-terms.ensures.form)
     c.parts-parts.ensures.dataset (ap (λ (d : Dataset Term). d.quads) c.parts-parts.ensures.parts) (ap (λ (d : Dataset Term). d.names) c.parts-parts.ensures.parts)
     (ap (λ (xs : List (Quad Id)). map (renamed_quad (term_of dict)) xs) quads_made ∙ qs.0)

@@ -4,7 +4,7 @@ use Rattle.std.proofs.Common.{ap, sym, subst, ◌∙◌}
 use Rattle.terms.specs.Term.{term_order}
 use Rattle.terms.specs.Hashed.{equal_terms}
 use Rattle.terms.specs.Placed.{term_at, GoesOn}
-use Rattle.terms.proofs.PlacedLaws.{inserted, stored, within}
+use Rattle.terms.proofs.PlacedLaws.{inserted, stored}
 use Rattle.terms.proofs.table.TermTable.place_of.Goals as goal
 
 pub returns-in_err-place-2-clause-kept : goal.returns-in_err-place-2-clause-kept

@@ -1,0 +1,15 @@
+use Rattle.std.proofs.Common.{Some, ap, ◌∙◌, ◌++◌}
+use Rattle.std.specs.Prelude.{option_to_list}
+use Rattle.std.proofs.lemmas.List.Elements.{All-pop}
+use Rattle.shared.specs.Duty.{IsPassFor}
+use Rattle.machine_tests.proofs.sharing.last.Goals as goal
+
+pub returns-clause-pass : goal.returns-clause-pass
+returns-clause-pass c =
+    (All-pop (IsPassFor (record { table = c.args.shared.now; subject = c.args.topic.now })) _ c.pop.new.self.items (Some c.unwrap.result)
+    (c.pop.ensures.items ∙ ap (λ o. c.pop.new.self.items ++ option_to_list o) c.unwrap.ensures) c.requires.each).1
+
+pub returns-clause-rest : goal.returns-clause-rest
+returns-clause-rest c =
+    (All-pop (IsPassFor (record { table = c.args.shared.now; subject = c.args.topic.now })) _ c.pop.new.self.items (Some c.unwrap.result)
+    (c.pop.ensures.items ∙ ap (λ o. c.pop.new.self.items ++ option_to_list o) c.unwrap.ensures) c.requires.each).0

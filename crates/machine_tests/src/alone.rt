@@ -1,0 +1,122 @@
+//! Calls that never wait, of one worker alone.
+ghost use Rattle.std.specs.Prelude.{◌≡◌, ◌<◌, ◌^◌, Some, slice_get, IfOk, IfSome};
+ghost use Rattle.update.specs.Asked.{IsShort};
+ghost use Rattle.shared.specs.Calls.{IsSoundAt};
+ghost use Rattle.shared.specs.Duty.{IsPassFor};
+
+use crate::numbers::request_at;
+use crate::topic::Topic;
+use block_machine::Reply;
+use datasets::Read;
+use delta::Finished;
+use dict::Id;
+use meaning::Request;
+use reads::{Answered, Source, Stop};
+use shared::{Pass, Refused, SharedBlock};
+use std::alloc::Global;
+use std::marker::Model;
+use update::execute;
+
+// What answers the reads of incarnation 0 of a request by calls that never wait.
+#[derive(Drop)]
+struct Asking<'s, 'a> {
+    alloc: Global,
+    shared: &'s SharedBlock<'a>,
+    pass: Pass<'a>,
+    place: usize,
+}
+
+impl<'s, 'a> Model for Asking<'s, 'a> {
+    ghost use Rattle.std.specs.Coded.{codes};
+    ghost use Rattle.algebra.specs.Codes.{plan_code};
+    ghost use Rattle.datasets.specs.declared.id.Id.{Id as Number};
+    ghost use Rattle.std.specs.Prelude.{◌≡◌};
+    ghost use Rattle.shared.specs.Calls.{Viewed};
+
+    ghost Value = { Viewed };
+
+    ghost coded = { Prim.hlevel (codes, plan_code {K = Number} (Prim.hlevel codes)) };
+
+    ghost view = { λ a. a.pass };
+
+    ghost invariant = { λ a. a.pass.table ≡ a.shared.now };
+}
+
+impl<'s, 'a> Source for Asking<'s, 'a> {
+    ghost use Rattle.machine_tests.specs.Seeing.{Sees};
+
+    ghost asks = { λ before read told after. Sees before after };
+
+    fn ask(&mut self, read: &Read<Id>) -> Result<Answered, Stop> {
+        match self
+            .shared
+            .try_read(self.alloc, &mut self.pass, self.place, 0, read)
+        {
+            Ok(Reply::Answered(answer)) => Ok(answer),
+            Ok(_) | Err(Refused::Busy) => Err(Stop::Stale),
+            Err(Refused::OutOfMemory) => Err(Stop::Memory),
+        }
+    }
+}
+
+impl<'s, 'a> Asking<'s, 'a> {
+    // The pass again.
+    fn into_pass(self) -> Pass<'a>
+        ensures { result ≡ self.entry }
+    {
+        self.pass
+    }
+}
+
+// The pass that answered the reads of a run of the request, and the run, if it came to its end.
+fn executed<'a>(
+    alloc: Global,
+    shared: &SharedBlock<'a>,
+    topic: &Topic<'a>,
+    pass: Pass<'a>,
+    place: usize,
+    request: &Request<Id>,
+) -> (Pass<'a>, Option<Finished>)
+    requires pass { IsPassFor (record { table = shared.now; subject = topic.now }) pass }
+    requires place { place < 2 ^ 32 }
+    requires is { slice_get topic.now.block place ≡ Some request.now }
+    requires short { IsShort request.now }
+    ensures pass { IsPassFor (record { table = shared.now; subject = topic.now }) result.0 }
+    ensures sound { IfSome result.1 (λ run. IsSoundAt topic.now place run) }
+{
+    let mut asking = Asking {
+        alloc,
+        shared,
+        pass,
+        place,
+    };
+    let execution = execute(alloc, topic.terms, place as u32, request, &mut asking);
+    let pass = asking.into_pass();
+    match execution {
+        Ok(execution) => (pass, Some(execution.into_finished())),
+        Err(_) => (pass, None),
+    }
+}
+
+/// Runs incarnation 0 of the request and publishes it.
+pub fn publish<'a>(
+    alloc: Global,
+    shared: &SharedBlock<'a>,
+    topic: &Topic<'a>,
+    pass: Pass<'a>,
+    place: usize,
+) -> Result<(Pass<'a>, Reply), Refused>
+    requires { IsPassFor (record { table = shared.now; subject = topic.now }) pass }
+    ensures { IfOk result (λ r. IsPassFor (record { table = shared.now; subject = topic.now })
+        r.0) }
+{
+    let Some(request) = request_at(topic.block, place) else {
+        return Ok((pass, Reply::Stale));
+    };
+    let (mut pass, run) = executed(alloc, shared, topic, pass, place, request);
+    let Some(run) = run else {
+        return Ok((pass, Reply::Stale));
+    };
+    let reply = shared.try_publish(alloc, &mut pass, place, 0, &run)?;
+    Ok((pass, reply))
+}

@@ -1,0 +1,111 @@
+//! Many events of a worker while it holds a shared book once.
+ghost use Rattle.reads.specs.Reads.{IsDataset};
+ghost use Rattle.shared.specs.Duty.{IsPassFor};
+
+use crate::alone::publish;
+use crate::lines::{Step, Told, told_by};
+use crate::numbers::numbered;
+use crate::sharing::{BLOCK, are_told, last, opened};
+use crate::topic::Topic;
+use block_machine::Reply;
+use book::count;
+use datasets::{GraphPlace, QuadPattern, Read};
+use reads::{IndexedView, Scanned, View};
+use shared::{Pass, SharedBlock};
+use std::alloc::{AllocError, Global};
+use std::sync::Wait;
+use std::test::Fail;
+
+// Takes the first request, publishes its run and settles it.
+fn settles<'a, R: Wait>(
+    rt: &R,
+    alloc: Global,
+    shared: &SharedBlock<'a>,
+    topic: &Topic<'a>,
+    mut pass: Pass<'a>,
+    replies: &mut Vec<Reply>,
+) -> Result<bool, AllocError>
+    requires { IsPassFor (record { table = shared.now; subject = topic.now }) pass }
+{
+    let take = [(Step::Take(0), Told::Taken(0))];
+    if !are_told(alloc, shared, topic, &mut pass, &take) {
+        return Ok(false);
+    }
+    match publish(alloc, shared, topic, pass, 0) {
+        Ok((mut pass, Reply::Published)) => {
+            shared.settle(rt, alloc, &mut pass, 0, 0, 1, topic.block.len(), replies)
+        }
+        _ => Ok(false),
+    }
+}
+
+// Takes the second request and reads all quads and all names for it.
+fn reads_all<'a, R: Wait>(
+    rt: &R,
+    alloc: Global,
+    shared: &SharedBlock<'a>,
+    topic: &Topic<'a>,
+    mut pass: Pass<'a>,
+    replies: &mut Vec<Reply>,
+) -> Result<bool, AllocError>
+    requires { IsPassFor (record { table = shared.now; subject = topic.now }) pass }
+{
+    let take = [(Step::Take(1), Told::Taken(0))];
+    if !are_told(alloc, shared, topic, &mut pass, &take) {
+        return Ok(false);
+    }
+    let all = QuadPattern {
+        subject: None,
+        predicate: None,
+        object: None,
+        graph: GraphPlace::Any,
+    };
+    let reads = [Read::Scan(all), Read::Graphs];
+    let quads = Scanned::new(alloc, topic.base, &reads[0])?;
+    let names = Scanned::new(alloc, topic.base, &reads[1])?;
+    shared.read_all(rt, alloc, &mut pass, 1, 0, &reads, &[quads, names], replies)
+}
+
+// What two workers are told so, each with how many quads or names it was answered.
+fn told<R: Wait>(rt: &R, alloc: Global, topic: &Topic<'_>) -> Result<Vec<(Told, u64)>, AllocError>
+    requires { IsDataset topic.now.base }
+{
+    let (shared, mut passes) = opened(alloc, topic, 2)?;
+    let first = last(&shared, topic, &mut passes);
+    let second = last(&shared, topic, &mut passes);
+    let mut replies = Vec::new(alloc);
+    settles(rt, alloc, &shared, topic, first, &mut replies)?;
+    reads_all(rt, alloc, &shared, topic, second, &mut replies)?;
+    let mut told = Vec::new(alloc);
+    for reply in &replies {
+        let answered = match reply {
+            Reply::Answered(answer) => count(answer),
+            _ => 0,
+        };
+        told.push((told_by(reply), answered))?;
+    }
+    Ok(told)
+}
+
+#[test]
+fn many_events_in_one_hold(rt: HostRuntime) -> Result<(), Fail> {
+    let alloc = rt.alloc();
+    let numbered = numbered(alloc, "", BLOCK)?;
+    let base = IndexedView::new(alloc, View::new(alloc), &[])?;
+    let topic = Topic {
+        terms: numbered.base.terms(),
+        base: &base,
+        block: &numbered.block,
+    };
+    let expected = [
+        (Told::Begun, 0),
+        (Told::Passed, 0),
+        (Told::Committed, 0),
+        (Told::NotYet, 0),
+        (Told::Answered, 1),
+        (Told::Answered, 0),
+    ];
+    let told = told(&rt, alloc, &topic)?;
+    assert!(rt; told.as_slice() == expected.as_slice());
+    Ok(())
+}

@@ -1,0 +1,135 @@
+//! The steps of workers at a book.
+ghost use Rattle.std.specs.Prelude.{◌≡◌, ◌<◌, Some, slice_get, IfSome};
+ghost use Rattle.update.specs.Asked.{IsShort};
+ghost use Rattle.book.specs.Run.{IsSoundEvent};
+
+use crate::lines::Step;
+use crate::numbers::request_at;
+use block_machine::{Event, Reply};
+use book::Book;
+use datasets::Read;
+use delta::Finished;
+use dict::Id;
+use meaning::Request;
+use reads::{Answered, Source, Stop};
+use std::alloc::{AllocError, Global};
+use std::marker::Model;
+use update::execute;
+
+// Which incarnation of which request is run by whom.
+#[derive(Clone, Copy)]
+struct Turn {
+    worker: u32,
+    place: usize,
+    incarnation: u64,
+}
+
+// What answers the reads of a turn: a book, by its steps.
+#[derive(Drop)]
+struct Asking<'a> {
+    alloc: Global,
+    book: Book<'a>,
+    turn: Turn,
+}
+
+impl<'a> Model for Asking<'a> {
+    ghost use Rattle.std.specs.Coded.{codes};
+    ghost use Rattle.algebra.specs.Codes.{plan_code};
+    ghost use Rattle.datasets.specs.declared.id.Id.{Id as Number};
+    ghost use Rattle.book.specs.Run.{Run};
+
+    ghost Value = { Run };
+
+    ghost coded = { Prim.hlevel (codes, plan_code {K = Number} (Prim.hlevel codes)) };
+
+    ghost view = { λ a. a.book };
+}
+
+impl<'a> Source for Asking<'a> {
+    ghost use Rattle.machine_tests.specs.Seeing.{Follows};
+
+    ghost asks = { λ before read told after. Follows before after };
+
+    fn ask(&mut self, read: &Read<Id>) -> Result<Answered, Stop> {
+        let turn = self.turn;
+        let event = Event::Read(turn.place, turn.incarnation, *read);
+        match self.book.step_owned(self.alloc, turn.worker, event)? {
+            Reply::Answered(answer) => Ok(answer),
+            Reply::Blocked(place) => Err(Stop::Blocked(place)),
+            _ => Err(Stop::Stale),
+        }
+    }
+}
+
+impl<'a> Asking<'a> {
+    // The book again.
+    fn into_book(self) -> Book<'a>
+        ensures { result ≡ self.entry }
+    {
+        self.book
+    }
+}
+
+// The book that answered the reads of a run of the request of a turn, and the run, if it came to its end.
+fn executed<'a>(
+    alloc: Global,
+    book: Book<'a>,
+    turn: Turn,
+    request: &Request<Id>,
+) -> (Book<'a>, Option<Finished>)
+    requires place { turn.place < 1000 }
+    requires is { slice_get book.block turn.place ≡ Some request.now }
+    requires short { IsShort request.now }
+    ensures { IfSome result.1 (λ run. IsSoundEvent result.0
+        (Event.Publish turn.place turn.incarnation (Some run))) }
+{
+    let terms = book.terms();
+    let mut asking = Asking { alloc, book, turn };
+    let execution = execute(alloc, terms, turn.place as u32, request, &mut asking);
+    let book = asking.into_book();
+    match execution {
+        Ok(execution) => (book, Some(execution.into_finished())),
+        Err(_) => (book, None),
+    }
+}
+
+// Runs the request of a turn and publishes the run.
+fn publish<'a>(alloc: Global, book: Book<'a>, turn: Turn) -> Result<(Book<'a>, Reply), AllocError> {
+    let Some(request) = request_at(book.block(), turn.place) else {
+        return Ok((book, Reply::Stale));
+    };
+    let (mut book, run) = executed(alloc, book, turn, request);
+    let Some(run) = run else {
+        return Ok((book, Reply::Stale));
+    };
+    let event = Event::Publish(turn.place, turn.incarnation, Some(run));
+    let reply = book.step_owned(alloc, turn.worker, event)?;
+    Ok((book, reply))
+}
+
+/// A worker's step.
+pub fn play<'a>(
+    alloc: Global,
+    mut book: Book<'a>,
+    worker: u32,
+    step: Step,
+) -> Result<(Book<'a>, Reply), AllocError> {
+    let told = match step {
+        Step::Publish(place, incarnation) => {
+            let turn = Turn {
+                worker,
+                place,
+                incarnation,
+            };
+            return publish(alloc, book, turn);
+        }
+        Step::Read(_, _) => return Ok((book, Reply::Stale)),
+        Step::Take(i) => book.step(alloc, worker, &Event::Take(i)),
+        Step::PublishNothing(i, n) => { book.step(alloc, worker, &Event::Publish(i, n, None)) }
+        Step::Begin(i, n) => book.step(alloc, worker, &Event::Begin(i, n)),
+        Step::Check(i, n) => book.step(alloc, worker, &Event::Check(i, n)),
+        Step::Commit(i) => book.step(alloc, worker, &Event::Commit(i)),
+        Step::GiveUp(i, n) => book.step(alloc, worker, &Event::GiveUp(i, n)),
+    };
+    Ok((book, told?))
+}

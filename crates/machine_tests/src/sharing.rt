@@ -1,0 +1,151 @@
+//! A shared book and one worker alone, by calls that never wait.
+ghost use Rattle.std.specs.Prelude.{◌≡◌, ◌+◌, ◌<◌, ◌≤◌, vec_len, All, IfOk};
+ghost use Rattle.reads.specs.Reads.{IsDataset};
+ghost use Rattle.shared.specs.Duty.{IsPassFor};
+
+use crate::alone::publish;
+use crate::lines::{Step, Told, told_by};
+use crate::numbers::numbered;
+use crate::topic::Topic;
+use block_machine::Reply;
+use reads::{IndexedView, View};
+use shared::{Pass, SharedBlock};
+use std::alloc::{AllocError, Global};
+use std::sync::Wait;
+use std::test::Fail;
+
+/// A shared book with this many passes.
+pub fn opened<'a>(
+    alloc: Global,
+    topic: &Topic<'a>,
+    seats: u32,
+) -> Result<(SharedBlock<'a>, Vec<Pass<'a>>), AllocError>
+    requires dataset { IsDataset topic.now.base }
+    requires seats { (0 < seats) × (seats ≤ 64) }
+    ensures count { IfOk result (λ r. vec_len r.1 ≡ seats) }
+    ensures each { IfOk result (λ r. All (IsPassFor (record { table = r.0; subject = topic.now }))
+        r.1.items) }
+{
+    SharedBlock::new(alloc, topic.terms, topic.base, topic.block, seats)
+}
+
+/// The last of the passes.
+pub fn last<'a>(shared: &SharedBlock<'a>, topic: &Topic<'a>, passes: &mut Vec<Pass<'a>>) -> Pass<'a>
+    requires some { 0 < vec_len passes.old }
+    requires each { All (IsPassFor (record { table = shared.now; subject = topic.now }))
+        passes.old.items }
+    ensures pass { IsPassFor (record { table = shared.now; subject = topic.now }) result }
+    ensures rest { All (IsPassFor (record { table = shared.now; subject = topic.now }))
+        passes.new.items }
+    ensures count { vec_len passes.new + 1 ≡ vec_len passes.old }
+{
+    passes.pop().unwrap()
+}
+
+// What a call that never waits is told, or nothing where it made no event.
+fn tried<'a>(
+    alloc: Global,
+    shared: &SharedBlock<'a>,
+    topic: &Topic<'a>,
+    pass: &mut Pass<'a>,
+    step: Step,
+) -> Option<Told>
+    requires { IsPassFor (record { table = shared.now; subject = topic.now }) pass.old }
+    ensures { IsPassFor (record { table = shared.now; subject = topic.now }) pass.new }
+{
+    let _terms = topic.terms;
+    let made = match step {
+        Step::Take(i) => shared.try_take(alloc, pass, i),
+        Step::Begin(i, n) => shared.try_begin(alloc, pass, i, n),
+        Step::Check(i, n) => shared.try_check(alloc, pass, i, n),
+        Step::Commit(i) => shared.try_commit(alloc, pass, i),
+        Step::GiveUp(i, n) => shared.try_give_up(alloc, pass, i, n),
+        Step::Read(_, _) | Step::Publish(_, _) | Step::PublishNothing(_, _) => Ok(Reply::Stale),
+    };
+    match made {
+        Ok(reply) => Some(told_by(&reply)),
+        Err(_) => None,
+    }
+}
+
+/// Whether each of these calls that never wait is told so.
+pub fn are_told<'a>(
+    alloc: Global,
+    shared: &SharedBlock<'a>,
+    topic: &Topic<'a>,
+    pass: &mut Pass<'a>,
+    calls: &[(Step, Told)],
+) -> bool
+    requires { IsPassFor (record { table = shared.now; subject = topic.now }) pass.old }
+    ensures { IsPassFor (record { table = shared.now; subject = topic.now }) pass.new }
+{
+    for (step, told) in calls {
+        if tried(alloc, shared, topic, pass, *step) != Some(*told) {
+            return false;
+        }
+    }
+    true
+}
+
+// What follows when a worker has published its run of the first request: it commits it, takes the second and gives it up.
+const AFTER: [(Step, Told); 5] = [
+    (Step::Begin(0, 0), Told::Begun),
+    (Step::Check(0, 0), Told::Passed),
+    (Step::Commit(0), Told::Committed),
+    (Step::Take(1), Told::Taken(0)),
+    (Step::GiveUp(1, 0), Told::Given),
+];
+
+// The calls that never wait, by one worker: the first request to its commit, and the second is taken and given up.
+fn goes_through<'a>(
+    alloc: Global,
+    shared: &SharedBlock<'a>,
+    topic: &Topic<'a>,
+    mut pass: Pass<'a>,
+) -> bool
+    requires { IsPassFor (record { table = shared.now; subject = topic.now }) pass }
+{
+    let take = [(Step::Take(0), Told::Taken(0))];
+    if !are_told(alloc, shared, topic, &mut pass, &take) {
+        return false;
+    }
+    match publish(alloc, shared, topic, pass, 0) {
+        Ok((mut pass, Reply::Published)) => are_told(alloc, shared, topic, &mut pass, &AFTER),
+        _ => false,
+    }
+}
+
+// How many requests are committed as a first pass sees it, where a second one has committed the first request.
+fn front_of_others<'a, R: Wait>(
+    rt: &R,
+    alloc: Global,
+    topic: &Topic<'a>,
+) -> Result<Option<usize>, AllocError>
+    requires { IsDataset topic.now.base }
+{
+    let (shared, mut passes) = opened(alloc, topic, 2)?;
+    let second = last(&shared, topic, &mut passes);
+    let mut first = last(&shared, topic, &mut passes);
+    if !goes_through(alloc, &shared, topic, second) {
+        return Ok(None);
+    }
+    Ok(Some(shared.front(rt, &mut first)))
+}
+
+/// A block of two requests.
+pub const BLOCK: &str =
+    "INSERT DATA { <x:a> <x:p> <x:b> }\n----\nINSERT DATA { <x:a> <x:p> <x:b> , <x:c> }";
+
+#[test]
+fn calls_that_never_wait(rt: HostRuntime) -> Result<(), Fail> {
+    let alloc = rt.alloc();
+    let numbered = numbered(alloc, "", BLOCK)?;
+    let base = IndexedView::new(alloc, View::new(alloc), &[])?;
+    let topic = Topic {
+        terms: numbered.base.terms(),
+        base: &base,
+        block: &numbered.block,
+    };
+    assert_eq!(rt; front_of_others(&rt, alloc, &topic)?, Some(1));
+    Ok(())
+}

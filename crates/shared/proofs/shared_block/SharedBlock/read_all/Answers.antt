@@ -1,0 +1,24 @@
+use Rattle.std.proofs.Common.{arith, rules, ap, sym, length, ◌<◌, [], ◌∙◌, append-nil}
+use Rattle.std.proofs.lemmas.List.{length-map}
+use Rattle.std.proofs.lemmas.Result.{err_from_is_err_and}
+use Rattle.shared.specs.declared.kept.Kept.{Kept}
+use Rattle.shared.specs.InTurn.{reading}
+use Rattle.shared.proofs.InTurn.{in_turn_refused, adds, read_below}
+use Rattle.shared.proofs.shared_block.SharedBlock.read_all.Goals as goal
+
+pub returns-in_err-reserve : goal.returns-in_err-reserve
+returns-in_err-reserve g c =
+    let some : 0 < length c.args.reads.now = search rules in
+    let told = err_from_is_err_and c.from_residual.result c.from_residual.ensures.1 in
+    record {
+      replies = [];
+      added = c.in_err-reserve.ensures.items ∙ sym (append-nil c.args.replies.now.items);
+      in_turn = in_turn_refused c.args.pass.now (reading c.args.i c.args.n c.args.reads.now) c.from_residual.result told.0 (read_below c.args.reads.now 0 some c.args.i c.args.n) told.1;
+    }
+
+pub returns : goal.returns
+returns g c =
+    let some : 0 < length c.args.reads.now = search rules in
+    adds c.args.pass.now c.hold-held.new.pass c.give.new.pass c.hold-held.result.book.value.book c.deref_mut.result.now.book c.deref.result.now.book c.make_reads-made.new.book _ _ _ _ _
+    c.hold-held.ensures.1 (read_below c.args.reads.now 0 some c.args.i c.args.n) (ap (λ (k : Kept). k.book) c.deref_mut.ensures.value) (ap (λ (k : Kept). k.book) c.deref.ensures) c.in_ok-reserve.ensures.items
+    c.journal-before.ensures.lawful c.make_reads-made.ensures c.give.ensures

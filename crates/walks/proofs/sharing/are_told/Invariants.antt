@@ -1,5 +1,0 @@
-use Rattle.shared.specs.Duty.{IsPassFor}
-use Rattle.walks.proofs.sharing.are_told.Given as goal
-
-abbrev pub invariant-loop-step : goal.invariant-loop-step
-invariant-loop-step l = IsPassFor (record { table = l.fn.shared; subject = l.fn.topic }) l.pass
