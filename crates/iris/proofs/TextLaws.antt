@@ -1,5 +1,5 @@
 -- What a failed reading of bytes as a text says of them, and a successful one.
-use Rattle.std.proofs.Common.{◌≡◌, ℕ, Bool, true, false, List, refl, IsUtf8}
+use Rattle.std.proofs.Common.{◌≡◌, ℕ, true, false, List, refl, IsUtf8}
 use Rattle.std.specs.Str.{is_utf8}
 use Rattle.std.proofs.lemmas.Str.{IsUtf8-from_is_utf8, is_utf8-from_IsUtf8}
 

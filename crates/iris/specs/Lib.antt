@@ -2,3 +2,4 @@ pub mod Runs
 pub mod Iri
 pub mod Bracketed
 pub mod Forms
+pub mod IriCow

@@ -24,7 +24,8 @@ impl Model for Iri {
     ghost invariant = { λ i. IsIri (arc_str_bytes i.text) };
 }
 
-fn is_scheme_byte(b: u8) -> bool
+/// Whether a scheme may hold this byte after its first (RFC 3986, 3.1).
+pub(crate) fn is_scheme_byte(b: u8) -> bool
     ensures { result ≡ is_scheme_byte b }
 {
     b.is_ascii_alphanumeric() || matches!(b, b'+' | b'-' | b'.')
@@ -82,8 +83,16 @@ impl Iri {
         if !is_iri(text.as_bytes()) {
             return Ok(None);
         }
+        Ok(Some(Iri::from_checked(alloc, text)?))
+    }
+
+    /// The IRI of a text that is one.
+    pub(crate) fn from_checked(alloc: Global, text: &str) -> Result<Iri, AllocError>
+        requires { IsIri text.now }
+        ensures { IfOk result (λ iri. iri ≡ text.now) }
+    {
         let text = ArcStr::from_str(alloc, text)?;
-        Ok(Some(Iri { text }))
+        Ok(Iri { text })
     }
 
     /// The same IRI again, in the same memory. An `Err` comes only where more copies would be held at once than can be counted.

@@ -5,8 +5,10 @@
 #![tactic(auto)]
 
 mod iri;
+mod iri_cow;
 pub mod laws;
 mod utf8;
 
 pub use iri::{Iri, is_iri, is_iri_byte};
+pub use iri_cow::IriCow;
 pub use utf8::is_utf8;

@@ -16,7 +16,7 @@ use crate::stop::Stop;
 use iris::Iri;
 use iris::laws::run_by_length;
 use std::alloc::{AllocError, Global};
-use terms::{Blank, Literal, Said, Term};
+use terms::{Blank, Literal, Term, TermCow};
 
 fn is_label_byte(b: u8) -> bool
     ensures { result ≡ is_label_byte b }
@@ -194,25 +194,25 @@ pub fn begins_with(text: &str, byte: u8) -> bool
 
 /// The subject at the front of a text, and what follows it.
 #[tactic(auto, unfolding(crate::specs::ReadTerms::subject_at))]
-pub fn subject_at(alloc: Global, text: &str) -> Result<(Said<'_>, &str), Stop>
+pub fn subject_at(alloc: Global, text: &str) -> Result<(TermCow<'_>, &str), Stop>
     ensures { Gives (λ x. (x.0, x.1.now)) result (subject_at text.now) }
 {
     if begins_with(text, b'<') {
         let (iri, rest) = iri_at(alloc, text)?;
-        return Ok((Said::iri(iri), rest));
+        return Ok((TermCow::iri(iri), rest));
     }
     let (blank, rest) = blank_at(alloc, text)?;
-    Ok((Said::term(alloc, Term::Blank(blank))?, rest))
+    Ok((TermCow::owned(alloc, Term::Blank(blank))?, rest))
 }
 
 /// The object at the front of a text, and what follows it.
 #[tactic(auto, unfolding(crate::specs::ReadTerms::object_at))]
-pub fn said_object_at(alloc: Global, text: &str) -> Result<(Said<'_>, &str), Stop>
+pub fn object_cow_at(alloc: Global, text: &str) -> Result<(TermCow<'_>, &str), Stop>
     ensures { Gives (λ x. (x.0, x.1.now)) result (object_at text.now) }
 {
     if begins_with(text, b'"') {
         let (literal, rest) = literal_at(alloc, text)?;
-        return Ok((Said::term(alloc, literal)?, rest));
+        return Ok((TermCow::owned(alloc, literal)?, rest));
     }
     subject_at(alloc, text)
 }
@@ -222,6 +222,6 @@ pub fn said_object_at(alloc: Global, text: &str) -> Result<(Said<'_>, &str), Sto
 pub fn object_at(alloc: Global, text: &str) -> Result<(Term, &str), Stop>
     ensures { Gives (λ x. (x.0, x.1.now)) result (object_at text.now) }
 {
-    let (said, rest) = said_object_at(alloc, text)?;
-    Ok((said.into_term(alloc)?, rest))
+    let (object, rest) = object_cow_at(alloc, text)?;
+    Ok((object.into_term(alloc)?, rest))
 }

@@ -7,13 +7,13 @@ ghost use Rattle.nquads.specs.Line.{is_blank, graph_mark};
 ghost use Rattle.nquads.specs.Reading.{Gives, ends, graph_at, statement_at, is_empty, declared_at, line_of};
 
 use crate::escapes::after;
-use crate::forms::{begins_with, said_object_at, subject_at};
+use crate::forms::{begins_with, object_cow_at, subject_at};
 use crate::quoted::iri_at;
 use crate::stop::{Line, Stop};
 use datasets::Quad;
 use iris::laws::run_by_length;
 use std::alloc::Global;
-use terms::Said;
+use terms::TermCow;
 
 fn is_blank(b: u8) -> bool
     ensures { result ≡ is_blank b }
@@ -51,14 +51,14 @@ fn ends(text: &str) -> bool
 
 /// The graph of a statement, if it names one, and what follows it and its blanks.
 #[tactic(auto, unfolding(crate::specs::Reading::graph_at))]
-fn graph_at(alloc: Global, text: &str) -> Result<(Option<Said<'_>>, &str), Stop>
+fn graph_at(alloc: Global, text: &str) -> Result<(Option<TermCow<'_>>, &str), Stop>
     ensures { Gives (λ x. (x.0, x.1.now)) result (graph_at text.now) }
 {
     if !begins_with(text, b'<') {
         return Ok((None, text));
     }
     let (name, rest) = iri_at(alloc, text)?;
-    Ok((Some(Said::iri(name)), skip_blanks(rest)))
+    Ok((Some(TermCow::iri(name)), skip_blanks(rest)))
 }
 
 #[tactic(auto, unfolding(crate::specs::Reading::statement_at))]
@@ -67,12 +67,12 @@ fn statement_at(alloc: Global, line: &str) -> Result<Line<'_>, Stop>
 {
     let (subject, rest) = subject_at(alloc, skip_blanks(line))?;
     let (predicate, rest) = iri_at(alloc, skip_blanks(rest))?;
-    let (object, rest) = said_object_at(alloc, skip_blanks(rest))?;
+    let (object, rest) = object_cow_at(alloc, skip_blanks(rest))?;
     let (graph, rest) = graph_at(alloc, skip_blanks(rest))?;
     match after(rest, b'.') {
         Some(rest) if ends(rest) => Ok(Line::Statement(Quad {
             subject,
-            predicate: Said::iri(predicate),
+            predicate: TermCow::iri(predicate),
             object,
             graph,
         })),
@@ -98,7 +98,7 @@ fn declared_at(alloc: Global, text: &str) -> Result<Line<'_>, Stop>
     if !is_empty(skip_blanks(rest)) {
         return Err(Stop::Bad);
     }
-    Ok(Line::Graph(Said::iri(name)))
+    Ok(Line::Graph(TermCow::iri(name)))
 }
 
 /// What follows the mark of a graph line, if a line begins with it.

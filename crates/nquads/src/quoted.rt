@@ -10,10 +10,9 @@ ghost use Rattle.nquads.specs.Reading.{Gives};
 
 use crate::escapes::{Quote, after, escape_at};
 use crate::stop::Stop;
-use iris::Iri;
+use iris::{Iri, IriCow};
 use iris::laws::{run_by_length, runs_are_longest};
 use std::alloc::Global;
-use terms::SaidIri;
 
 fn is_plain(b: u8) -> bool
     ensures { result ≡ is_plain b }
@@ -108,11 +107,11 @@ pub fn quoted_at(alloc: Global, quote: Quote, text: &str) -> Result<(String, &st
 
 /// The IRI of a text of bytes that an IRI may hold, if it is one.
 #[tactic(auto, using(crate::proofs::CutLaws::text_laws), unfolding(iris::specs::Bracketed::iri_of))]
-fn iri_of(text: &str) -> Result<SaidIri<'_>, Stop>
+fn iri_of(text: &str) -> Result<IriCow<'_>, Stop>
     requires { list_all is_iri_byte text.now ≡ true }
     ensures { Gives (λ iri. iri) result (iri_of text.now) }
 {
-    match SaidIri::check(text) {
+    match IriCow::check(text) {
         Some(iri) => Ok(iri),
         None => Err(Stop::Bad),
     }
@@ -120,18 +119,18 @@ fn iri_of(text: &str) -> Result<SaidIri<'_>, Stop>
 
 /// The IRI of any text, if it is one, in memory of its own.
 #[tactic(auto, using(crate::proofs::CutLaws::text_laws), unfolding(iris::specs::Bracketed::iri_of))]
-fn own_iri_of<'a>(alloc: Global, text: &str) -> Result<SaidIri<'a>, Stop>
+fn owned_iri_of<'a>(alloc: Global, text: &str) -> Result<IriCow<'a>, Stop>
     ensures { Gives (λ iri. iri) result (iri_of text.now) }
 {
     match Iri::check(alloc, text)? {
-        Some(iri) => Ok(SaidIri::own(iri)),
+        Some(iri) => Ok(IriCow::owned(iri)),
         None => Err(Stop::Bad),
     }
 }
 
 /// The IRI in angle brackets at the front of a text, and what follows it.
 #[tactic(auto, using(crate::proofs::QuotedLaws::plain_iri), unfolding(crate::specs::Undone::iri_at))]
-pub fn iri_at(alloc: Global, text: &str) -> Result<(SaidIri<'_>, &str), Stop>
+pub fn iri_at(alloc: Global, text: &str) -> Result<(IriCow<'_>, &str), Stop>
     ensures { Gives (λ x. (x.0, x.1.now)) result (iri_at text.now) }
 {
     runs_are_longest();
@@ -143,5 +142,5 @@ pub fn iri_at(alloc: Global, text: &str) -> Result<(SaidIri<'_>, &str), Stop>
         return Ok((iri_of(run)?, rest));
     }
     let (value, rest) = quoted_at(alloc, Quote::Iri, text)?;
-    Ok((own_iri_of(alloc, value.as_str())?, rest))
+    Ok((owned_iri_of(alloc, value.as_str())?, rest))
 }

@@ -12,12 +12,13 @@ use crate::laws::lines_are_read;
 use crate::line::line_of;
 use crate::lines::first_line;
 use crate::stop::{Line, Stop};
+use dataset_builder::DatasetBuilder;
 use std::alloc::{AllocError, Global};
 use terms::laws::lists_grow_as_datasets;
-use terms::{DataSet, Gathering};
+use terms::DataSet;
 
 /// Puts what a line says into the dataset.
-fn keep<'a>(dataset: &mut Gathering<'a>, said: Line<'a>) -> Result<(), AllocError>
+fn keep<'a>(dataset: &mut DatasetBuilder<'a>, said: Line<'a>) -> Result<(), AllocError>
     ensures ok { OnOk result (dataset.new ≡ keep dataset.old said.entry) }
 {
     match said {
@@ -42,7 +43,7 @@ pub fn said(alloc: Global, line: &[u8], number: usize) -> Result<Line<'_>, BaseF
 pub fn read_lines(alloc: Global, bytes: &[u8]) -> Result<DataSet, BaseFault>
     ensures { Reads result (read_from no_quads 0 (lines bytes.now)) }
 {
-    let mut dataset = Gathering::new(alloc);
+    let mut dataset = DatasetBuilder::new(alloc);
     let mut number = 0;
     let mut rest = Some(bytes);
     while let Some(text) = rest {

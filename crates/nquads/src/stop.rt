@@ -4,15 +4,15 @@ ghost use Rattle.nquads.specs.declared.stop.Stop.TheVariants.{Memory};
 
 use datasets::Quad;
 use std::alloc::{AllocError, AllocFailed};
-use terms::Said;
+use terms::TermCow;
 
 /// What a line says.
 #[derive(Drop)]
 pub enum Line<'a> {
     Nothing,
     /// A named graph is declared, by its name.
-    Graph(Said<'a>),
-    Statement(Quad<Said<'a>>),
+    Graph(TermCow<'a>),
+    Statement(Quad<TermCow<'a>>),
 }
 
 /// Why a line was not read.

@@ -7,7 +7,4 @@ pub mod Hashed
 pub mod Placed
 pub mod DataSet
 pub mod Canonical
-pub mod SaidIri
-pub mod Said
-pub mod Gathered
-pub mod Gathering
+pub mod TermCow

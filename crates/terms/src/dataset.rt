@@ -75,8 +75,9 @@ fn placed_quad(terms: &mut TermTable, quad: Quad<Term>) -> Result<Quad<u32>, All
     })
 }
 
-/// Puts a quad and the name of its graph at the ends of two lists.
-pub(crate) fn push_both(
+/// Puts a quad and the name of its graph at the ends of two lists. An `Err`, which comes only where memory runs out, leaves both as they
+/// were.
+pub fn push_both(
     quads: &mut Vec<Quad<u32>>,
     names: &mut Vec<u32>,
     quad: Quad<u32>,

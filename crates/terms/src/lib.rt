@@ -6,24 +6,18 @@
 
 mod dataset;
 mod forms;
-mod gathered;
-mod gathering;
 mod hash;
-mod known_iris;
 pub mod laws;
 mod literal;
 mod order;
-mod said;
-mod said_iri;
 mod table;
 mod term;
+mod term_cow;
 mod text;
 
-pub use dataset::{DataSet, Parts};
-pub use gathering::Gathering;
+pub use dataset::{DataSet, Parts, push_both};
 pub use literal::{Blank, Literal};
-pub use said::Said;
-pub use said_iri::SaidIri;
 pub use table::TermTable;
 pub use term::Term;
+pub use term_cow::{TermCow, TermForm};
 pub use text::{canonical, term_text};
