@@ -70,6 +70,18 @@ def with_those_below(crates):
     return sorted(found, key=lambda it: (len(it.below()), it.name))
 
 
+def is_stopped(crate):
+    """Whether the gate stops at the crate's text before it proves anything, as at a module that has a library's name. It says why."""
+    try:
+        rtlib.stop_on_links(crate.folder)
+        rtlib.stop_on_unread(crate.folder, [crate])
+        rtlib.stop_on_text(crate, "verdict")
+        rt.stop_on_words(crate)
+    except SystemExit:
+        return True
+    return False
+
+
 class Work:
     """Tasks on crates, done side by side: as many as there are processors and memory for, the longest chain first. Says which ended, and how many are left."""
 

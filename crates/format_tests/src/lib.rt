@@ -3,6 +3,8 @@
 #![tactic(auto)]
 
 #[cfg(test)]
+mod built;
+#[cfg(test)]
 mod datasets_of_terms;
 #[cfg(test)]
 mod journals;

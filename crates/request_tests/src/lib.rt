@@ -5,7 +5,7 @@
 #[cfg(test)]
 mod filters;
 #[cfg(test)]
-mod groups;
+mod group_patterns;
 #[cfg(test)]
 mod numbers;
 #[cfg(test)]
