@@ -1,6 +1,6 @@
-//! Worked examples of what runs requests: quads in sorted orders and hints beside plain filters; requests over a base, blocks run one request
-//! after another, blocks run through a book event by event, in orders that workers side by side may take, journals of books replayed, blocks
-//! run through a shared book by one worker alone, and by a pool. It has tests alone.
+//! Worked examples of what runs requests: requests over a base, blocks run one request after another, blocks run through a book event by
+//! event, in orders that workers side by side may take, journals of books replayed, blocks run through a shared book by one worker alone, and
+//! by a pool. It has tests alone.
 #![tactic(auto)]
 
 #[cfg(test)]
@@ -12,8 +12,6 @@ mod books;
 #[cfg(test)]
 mod heard;
 #[cfg(test)]
-mod hints;
-#[cfg(test)]
 mod holds;
 #[cfg(test)]
 mod lines;
@@ -24,15 +22,11 @@ mod numbers;
 #[cfg(test)]
 mod pools;
 #[cfg(test)]
-mod quads;
-#[cfg(test)]
 mod replays;
 #[cfg(test)]
 mod requests;
 #[cfg(test)]
 mod run;
-#[cfg(test)]
-mod scans;
 #[cfg(test)]
 mod sharing;
 #[cfg(test)]

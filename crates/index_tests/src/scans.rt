@@ -110,10 +110,18 @@ fn a_made_node_is_found(rt: HostRuntime) -> Result<(), AllocError> {
     Ok(())
 }
 
-#[test]
-fn quads_come_in_any_order_and_twice(rt: HostRuntime) -> Result<(), AllocError> {
-    let alloc = rt.alloc();
-    let made = Quad {
+// The quads as they lie in little room.
+fn listed(alloc: Global, quads: &[Quad<Id>]) -> Result<QuadList, AllocError> {
+    let mut list = QuadList::with_room(alloc, quads.len())?;
+    for quad in quads {
+        list.push(alloc, quad)?;
+    }
+    Ok(list)
+}
+
+// A quad with a made node.
+fn quad_with_made() -> Quad<Id> {
+    Quad {
         subject: Id::Made {
             request: 1,
             op: 2,
@@ -121,19 +129,42 @@ fn quads_come_in_any_order_and_twice(rt: HostRuntime) -> Result<(), AllocError> 
             rank: 4,
         },
         ..quad_of(9)
-    };
-    for last in [quad_of(3), made] {
-        let mut quads = quads_with(Vec::new(alloc))?;
-        quads.push(last)?;
-        quads.push(last)?;
+    }
+}
+
+// 500 quads, and this one twice.
+fn with_repeated(alloc: Global, last: Quad<Id>) -> Result<Vec<Quad<Id>>, AllocError> {
+    let mut quads = quads_with(Vec::new(alloc))?;
+    quads.push(last)?;
+    quads.push(last)?;
+    Ok(quads)
+}
+
+#[test]
+fn quads_come_in_any_order_and_twice(rt: HostRuntime) -> Result<(), AllocError> {
+    let alloc = rt.alloc();
+    for last in [quad_of(3), quad_with_made()] {
+        let quads = with_repeated(alloc, last)?;
         let set = set_of(Vec::from_slice(alloc, quads.as_slice())?);
-        let mut list = QuadList::with_room(alloc, quads.len())?;
-        for quad in &quads {
-            list.push(alloc, quad)?;
-        }
-        let index = Index::of_quads(alloc, list, &BESIDE_SPOG)?;
+        let index = Index::of_quads(alloc, listed(alloc, quads.as_slice())?, &BESIDE_SPOG)?;
         let scans = scans_of(alloc, &index, &set, &last)?;
         assert!(rt; scans.are_right && scans.are_short);
+        assert!(rt; index.quads(alloc)?.as_slice() == set.as_slice());
+    }
+    Ok(())
+}
+
+#[test]
+fn quads_are_put_in_order_by_threads(rt: HostRuntime) -> Result<(), AllocError> {
+    let alloc = rt.alloc();
+    for last in [quad_of(3), quad_with_made()] {
+        let quads = with_repeated(alloc, last)?;
+        let set = set_of(Vec::from_slice(alloc, quads.as_slice())?);
+        let list = listed(alloc, quads.as_slice())?;
+        let index = Index::of_quads_by(&rt, alloc, list, &BESIDE_SPOG)?;
+        let scans = scans_of(alloc, &index, &set, &last)?;
+        assert!(rt; scans.are_right && scans.are_short);
+        assert!(rt; index.quads(alloc)?.as_slice() == set.as_slice());
     }
     Ok(())
 }

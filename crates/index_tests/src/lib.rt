@@ -1,0 +1,9 @@
+//! Worked examples of quads in sorted orders and of hints, beside plain filters. It has tests alone.
+#![tactic(auto)]
+
+#[cfg(test)]
+mod hints;
+#[cfg(test)]
+mod quads;
+#[cfg(test)]
+mod scans;
