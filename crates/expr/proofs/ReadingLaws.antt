@@ -1,8 +1,8 @@
 -- What terms are read as.
 use Rattle.std.proofs.Common.{◌≡◌, Bool, true, false, List, ℕ, refl, sym, ap, ◌∙◌}
 use Rattle.std.specs.Prelude.{if◌then◌else◌}
-use Rattle.terms.specs.Literal.{xsd_string}
-use Rattle.values.specs.Readings.{Reading, Text, Other, is_text, xsd_integer, xsd_boolean, integer_read, boolean_read, typed_read}
+use Rattle.terms.specs.Vocabulary.{xsd_string, xsd_integer, xsd_boolean}
+use Rattle.values.specs.Readings.{Reading, Text, Other, is_text, integer_read, boolean_read, typed_read}
 
 abbrev pub typed_by : (string integer boolean : Bool) → List ℕ → Reading
 typed_by string integer boolean lexical =

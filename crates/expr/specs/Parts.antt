@@ -4,7 +4,7 @@ use Rattle.std.specs.Option.{option_copied}
 use Rattle.terms.specs.Literal.{LiteralValue}
 use Rattle.terms.specs.declared.term.Term.{Term}
 use Rattle.terms.specs.declared.term.Term.TheVariants as term
-use Rattle.values.specs.Readings.{xsd_integer}
+use Rattle.terms.specs.Vocabulary.{xsd_integer}
 use Rattle.values.specs.Values.{integer}
 use Rattle.expr.specs.declared.parts.LiteralParts.{LiteralParts}
 use Rattle.expr.specs.declared.parts.Parts.{Parts}

@@ -13,6 +13,7 @@ use crate::reading::{Reading, read};
 use crate::texts::characters;
 use algebra::OneOperator;
 use std::alloc::{AllocError, Global};
+use terms::vocabulary::{XSD_BOOLEAN, XSD_INTEGER, XSD_STRING};
 use terms::{Literal, Term};
 
 fn is_iri(value: &Outcome<'_>) -> Option<bool>
@@ -110,10 +111,10 @@ fn datatype<'a>(value: Outcome<'a>) -> Outcome<'a>
 {
     match value {
         Outcome::Known(term) => term_datatype(term),
-        Outcome::Truth(_) => Outcome::Iri("http://www.w3.org/2001/XMLSchema#boolean"),
-        Outcome::Integer(_) => Outcome::Iri("http://www.w3.org/2001/XMLSchema#integer"),
-        Outcome::Text(_) => Outcome::Iri("http://www.w3.org/2001/XMLSchema#string"),
-        Outcome::OwnText(_) => Outcome::Iri("http://www.w3.org/2001/XMLSchema#string"),
+        Outcome::Truth(_) => Outcome::Iri(XSD_BOOLEAN),
+        Outcome::Integer(_) => Outcome::Iri(XSD_INTEGER),
+        Outcome::Text(_) => Outcome::Iri(XSD_STRING),
+        Outcome::OwnText(_) => Outcome::Iri(XSD_STRING),
         Outcome::Iri(_) => Outcome::Error,
         Outcome::Error => Outcome::Error,
         Outcome::Made { .. } => Outcome::Error,

@@ -10,6 +10,7 @@ ghost use Rattle.expr.specs.Parts.{literal_of, whole, integer_literal, truth_tex
 use crate::outcome::Outcome;
 use std::alloc::{AllocError, Global};
 use std::cmp::Ordering;
+use terms::vocabulary::{XSD_BOOLEAN, XSD_INTEGER, XSD_STRING};
 use terms::{Literal, Term};
 
 /// The parts of a literal, wherever they lie.
@@ -72,7 +73,7 @@ fn plain(text: &str) -> Parts<'_>
 {
     Parts::Literal(LiteralParts {
         lexical: text,
-        datatype: "http://www.w3.org/2001/XMLSchema#string",
+        datatype: XSD_STRING,
         tag: None,
     })
 }
@@ -89,7 +90,7 @@ fn truth<'a>(so: bool) -> Parts<'a>
 {
     Parts::Literal(LiteralParts {
         lexical: truth_text(so),
-        datatype: "http://www.w3.org/2001/XMLSchema#boolean",
+        datatype: XSD_BOOLEAN,
         tag: None,
     })
 }
@@ -99,7 +100,7 @@ fn integer_parts(digits: &str) -> LiteralParts<'_>
 {
     LiteralParts {
         lexical: digits,
-        datatype: "http://www.w3.org/2001/XMLSchema#integer",
+        datatype: XSD_INTEGER,
         tag: None,
     }
 }

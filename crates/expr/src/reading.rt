@@ -7,6 +7,7 @@ ghost use Rattle.expr.specs.Outcomes.{seen, reading_of};
 ghost use Rattle.expr.specs.Numerals.{without_sign, is_numeral};
 
 use crate::outcome::Outcome;
+use terms::vocabulary::{XSD_BOOLEAN, XSD_INTEGER, XSD_STRING};
 use terms::{Literal, Term};
 
 /// What a value is read as (SPARQL 1.1 Query, 17.1 and 17.2).
@@ -89,13 +90,13 @@ fn boolean_read<'a>(text: &str) -> Reading<'a>
 fn typed_read<'a>(lexical: &'a str, datatype: &str) -> Reading<'a>
     ensures { reading_of result ≡ typed_read lexical.entry.now datatype.now }
 {
-    if is_text(datatype, "http://www.w3.org/2001/XMLSchema#string") {
+    if is_text(datatype, XSD_STRING) {
         return Reading::Text(lexical);
     }
-    if is_text(datatype, "http://www.w3.org/2001/XMLSchema#integer") {
+    if is_text(datatype, XSD_INTEGER) {
         return integer_read(lexical);
     }
-    if is_text(datatype, "http://www.w3.org/2001/XMLSchema#boolean") {
+    if is_text(datatype, XSD_BOOLEAN) {
         return boolean_read(lexical);
     }
     Reading::Other

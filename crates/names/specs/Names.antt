@@ -4,7 +4,8 @@ use Rattle.std.specs.Prelude.{ℕ, Bool, true, false, List, ◌++◌, Option, So
 use Rattle.std.specs.Option.{option_map}
 use Rattle.std.specs.BTreeMap.{insert_entry, is_at}
 use Rattle.std.specs.Map.{lookup}
-use Rattle.terms.specs.Literal.{LiteralValue, xsd_string, lang_string}
+use Rattle.terms.specs.Literal.{LiteralValue}
+use Rattle.terms.specs.Vocabulary.{rdf_type, xsd_string, xsd_integer, xsd_boolean, lang_string}
 use Rattle.terms.specs.Term.{text_cmp}
 use Rattle.terms.specs.declared.term.Term.{Term}
 use Rattle.terms.specs.declared.term.Term.TheVariants as term
@@ -26,15 +27,6 @@ declare prefix iri ds = insert_entry text_cmp ds prefix iri
 -- the IRI of a prefix, if it is declared
 abbrev pub namespace_of : Prefixes → List ℕ → Option (List ℕ)
 namespace_of ds prefix = lookup (is_at (text_cmp prefix)) ds
-
-abbrev pub rdf_type : List ℕ
-rdf_type = codes "http://www.w3.org/1999/02/22-rdf-syntax-ns#type"
-
-abbrev pub xsd_integer : List ℕ
-xsd_integer = codes "http://www.w3.org/2001/XMLSchema#integer"
-
-abbrev pub xsd_boolean : List ℕ
-xsd_boolean = codes "http://www.w3.org/2001/XMLSchema#boolean"
 
 -- the IRI of a name, if its prefix is declared
 abbrev pub iri_of : Prefixes → Name → Option (List ℕ)

@@ -4,11 +4,11 @@ ghost use Rattle.std.specs.Option.{ForSome, option_map};
 ghost use Rattle.iris.specs.Iri.{IsIri};
 ghost use Rattle.iris.specs.Forms.{is_tag};
 ghost use Rattle.terms.specs.Parts.{tag_bytes};
-ghost use Rattle.terms.specs.Literal.{lang_string};
+ghost use Rattle.terms.specs.Vocabulary.{lang_string, rdf_type};
 ghost use Rattle.terms.specs.declared.term.Term.TheVariants as term;
 ghost use Rattle.syntax_trees.specs.declared.tree.Name.TheVariants as name;
 ghost use Rattle.syntax_trees.specs.declared.tree.Node.TheVariants as node;
-ghost use Rattle.names.specs.Names.{declare, namespace_of, rdf_type, iri_of, is_lang_iri, literal_from as the_literal_from, typed_literal, truth as the_truth, literal_of, no_term, name_term, term_of};
+ghost use Rattle.names.specs.Names.{declare, namespace_of, iri_of, is_lang_iri, literal_from as the_literal_from, typed_literal, truth as the_truth, literal_of, no_term, name_term, term_of};
 
 use crate::key::Key;
 use crate::whole::{WholeIris, iri_from};
@@ -19,17 +19,8 @@ use std::alloc::{AllocError, Global};
 use std::collections::BTreeMap;
 use std::marker::Model;
 use syntax_trees::{Literal as Written, Name, Node};
+use terms::vocabulary::{RDF_LANG_STRING, RDF_TYPE, XSD_BOOLEAN, XSD_INTEGER, XSD_STRING};
 use terms::{Literal, Term};
-
-const RDF_TYPE: &[u8] = b"http://www.w3.org/1999/02/22-rdf-syntax-ns#type";
-
-const XSD_STRING: &[u8] = b"http://www.w3.org/2001/XMLSchema#string";
-
-const XSD_INTEGER: &[u8] = b"http://www.w3.org/2001/XMLSchema#integer";
-
-const XSD_BOOLEAN: &[u8] = b"http://www.w3.org/2001/XMLSchema#boolean";
-
-const LANG_STRING: &[u8] = b"http://www.w3.org/1999/02/22-rdf-syntax-ns#langString";
 
 /// The declared prefixes with their IRIs. Contracts see a list in the order of the prefixes. Beside them it keeps IRIs that were made, whole
 /// ones and those of names, so that a name that stands often is one text in memory.
@@ -153,9 +144,13 @@ impl<'a> Prefixes<'a> {
         ensures { result ≡ is_lang_iri (iri_of self.now name.now) }
     {
         match name {
-            Name::Iri(iri) => iri.as_bytes() == LANG_STRING,
+            Name::Iri(iri) => iri.as_bytes() == RDF_LANG_STRING.as_bytes(),
             Name::Prefixed { prefix, local } => match self.namespace_of(prefix) {
-                Some(namespace) => is_joined(namespace.as_bytes(), local.as_bytes(), LANG_STRING),
+                Some(namespace) => is_joined(
+                    namespace.as_bytes(),
+                    local.as_bytes(),
+                    RDF_LANG_STRING.as_bytes(),
+                ),
                 None => false,
             },
         }
@@ -200,11 +195,11 @@ impl<'a> Prefixes<'a> {
         ensures { self.new ≡ self.old }
     {
         match literal {
-            Written::Plain(_) => self.whole.keep(alloc, XSD_STRING),
-            Written::Tagged(_, _) => self.whole.keep(alloc, LANG_STRING),
+            Written::Plain(_) => self.whole.keep(alloc, XSD_STRING.as_bytes()),
+            Written::Tagged(_, _) => self.whole.keep(alloc, RDF_LANG_STRING.as_bytes()),
             Written::Typed(_, datatype) => self.keep_name(alloc, datatype),
-            Written::Integer(_) => self.whole.keep(alloc, XSD_INTEGER),
-            Written::Boolean(_) => self.whole.keep(alloc, XSD_BOOLEAN),
+            Written::Integer(_) => self.whole.keep(alloc, XSD_INTEGER.as_bytes()),
+            Written::Boolean(_) => self.whole.keep(alloc, XSD_BOOLEAN.as_bytes()),
         }
     }
 
@@ -213,7 +208,7 @@ impl<'a> Prefixes<'a> {
     {
         match node {
             Node::Name(name) => self.keep_name(alloc, name),
-            Node::Type => self.whole.keep(alloc, RDF_TYPE),
+            Node::Type => self.whole.keep(alloc, RDF_TYPE.as_bytes()),
             Node::Literal(literal) => self.keep_datatype(alloc, literal),
             Node::Variable(_) | Node::Blank(_) => Ok(()),
         }
@@ -290,7 +285,7 @@ impl<'a> Prefixes<'a> {
             (Some tag.now)) }
     {
         let tag = tag.lower(alloc)?;
-        self.literal_with(alloc, lexical, LANG_STRING, Some(tag))
+        self.literal_with(alloc, lexical, RDF_LANG_STRING.as_bytes(), Some(tag))
     }
 
     /// The literal of a string and its written datatype.
@@ -318,14 +313,29 @@ impl<'a> Prefixes<'a> {
         ensures { IfOk result (λ found. found ≡ literal_of self.now literal.now) }
     {
         match literal {
-            Written::Plain(text) => self.literal_with(alloc, text.value(alloc)?, XSD_STRING, None),
+            Written::Plain(text) => self.literal_with(
+                alloc,
+                text.value(alloc)?,
+                XSD_STRING.as_bytes(),
+                None,
+            ),
             Written::Tagged(text, tag) => self.tagged(alloc, text.value(alloc)?, tag),
             Written::Typed(text, datatype) => self.typed(alloc, text.value(alloc)?, datatype),
             Written::Integer(digits) => {
-                self.literal_with(alloc, digits_text(alloc, digits)?, XSD_INTEGER, None)
+                self.literal_with(
+                    alloc,
+                    digits_text(alloc, digits)?,
+                    XSD_INTEGER.as_bytes(),
+                    None,
+                )
             }
             Written::Boolean(truth) => {
-                self.literal_with(alloc, truth_text(alloc, *truth)?, XSD_BOOLEAN, None)
+                self.literal_with(
+                    alloc,
+                    truth_text(alloc, *truth)?,
+                    XSD_BOOLEAN.as_bytes(),
+                    None,
+                )
             }
         }
     }
@@ -354,7 +364,7 @@ impl<'a> Prefixes<'a> {
     fn type_term(&self, alloc: Global) -> Result<Term, AllocError>
         ensures { IfOk result (λ t. t ≡ term.Iri rdf_type) }
     {
-        match self.whole.iri(alloc, RDF_TYPE)? {
+        match self.whole.iri(alloc, RDF_TYPE.as_bytes())? {
             Some(iri) => Ok(Term::Iri(iri)),
             None => Ok(no_term()),
         }

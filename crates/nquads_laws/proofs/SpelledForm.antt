@@ -14,7 +14,7 @@ use Rattle.iris.specs.Iri.{IsIri}
 use Rattle.iris.specs.Forms.{is_tag, is_label_byte, is_label}
 use Rattle.datasets.specs.declared.quad.Quad.{Quad}
 use Rattle.datasets.specs.Dataset.{Dataset, IsDataset, quad_order, names_of}
-use Rattle.terms.specs.Literal.{xsd_string, lang_string}
+use Rattle.terms.specs.Vocabulary.{xsd_string, lang_string}
 use Rattle.terms.specs.declared.term.Term.{Term}
 use Rattle.terms.specs.declared.term.Term.TheVariants.{Iri, Literal, Blank, Made}
 use Rattle.terms.specs.Term.{term_order}

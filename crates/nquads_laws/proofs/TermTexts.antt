@@ -10,7 +10,8 @@ use Rattle.std.proofs.lemmas.Bool.{and_parts, and_from, false≢true}
 use Rattle.std.proofs.lemmas.Bool.Decides.{nat_tests}
 use Rattle.iris.specs.Iri.{is_iri_byte, is_digit, IsIri}
 use Rattle.iris.specs.Forms.{is_tag, is_label_byte, is_label}
-use Rattle.terms.specs.Literal.{LiteralValue, IsLiteral, xsd_string, lang_string}
+use Rattle.terms.specs.Literal.{LiteralValue, IsLiteral}
+use Rattle.terms.specs.Vocabulary.{xsd_string, lang_string}
 use Rattle.terms.specs.declared.term.Term.{Term}
 use Rattle.terms.specs.declared.term.Term.TheVariants.{Iri, Literal, Blank, Made}
 use Rattle.terms.specs.Canonical.{escape, iri_text, suffix, literal_text, made_label, term_text}

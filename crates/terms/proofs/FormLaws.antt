@@ -8,7 +8,8 @@ use Rattle.std.specs.Option.{option_map_or}
 use Rattle.std.specs.Cmp.Lexicographic.{pointwise, same_text, other_text}
 use Rattle.iris.specs.Iri.{is_digit, IsIri}
 use Rattle.iris.specs.Forms.{InTag, start, first, dash, later, is_small_letter, is_tag_from, is_tag}
-use Rattle.terms.specs.Literal.{LiteralValue, IsLiteral, lang_string}
+use Rattle.terms.specs.Literal.{LiteralValue, IsLiteral}
+use Rattle.terms.specs.Vocabulary.{lang_string}
 use Rattle.terms.specs.Parts.{parts_value, tag_bytes, is_tagged_alike}
 use Rattle.terms.specs.Tag.{next_place, is_last}
 

@@ -3,7 +3,8 @@ use Rattle.std.specs.Prelude.{ℕ, ◌==◌, List, [], ◌∷◌, ◌++◌, Opti
 use Rattle.std.specs.List.{flat_map}
 use Rattle.std.specs.Cmp.Lexicographic.{pointwise}
 use Rattle.std.specs.Fmt.{decimal}
-use Rattle.terms.specs.Literal.{LiteralValue, xsd_string}
+use Rattle.terms.specs.Literal.{LiteralValue}
+use Rattle.terms.specs.Vocabulary.{xsd_string}
 use Rattle.terms.specs.declared.term.Term.{Term}
 use Rattle.terms.specs.declared.term.Term.TheVariants.{Iri, Literal, Blank, Made}
 

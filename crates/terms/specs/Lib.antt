@@ -1,3 +1,4 @@
+pub mod Vocabulary
 pub mod Literal
 pub mod Parts
 pub mod Tag

@@ -1,8 +1,9 @@
 -- Literals (RDF 1.1 Concepts, 3.3).
-use Rattle.std.specs.Prelude.{ℕ, ◌≡◌, true, List, Option, IsUtf8, codes, ◌↔◌, IsSome}
+use Rattle.std.specs.Prelude.{ℕ, ◌≡◌, true, List, Option, IsUtf8, ◌↔◌, IsSome}
 use Rattle.std.specs.Option.{ForSome}
 use Rattle.iris.specs.Iri.{IsIri}
 use Rattle.iris.specs.Forms.{is_tag}
+use Rattle.terms.specs.Vocabulary.{lang_string}
 
 -- What a contract sees of a literal: the bytes of its lexical form, of its datatype's IRI, and of its
 -- language tag.
@@ -10,12 +11,6 @@ pub record LiteralValue : Type 0 where
   pub lexical : List ℕ
   pub datatype : List ℕ
   pub tag : Option (List ℕ)
-
-abbrev pub xsd_string : List ℕ
-xsd_string = codes "http://www.w3.org/2001/XMLSchema#string"
-
-abbrev pub lang_string : List ℕ
-lang_string = codes "http://www.w3.org/1999/02/22-rdf-syntax-ns#langString"
 
 -- a literal has a tag exactly if its datatype is rdf:langString
 pub record IsLiteral (l : LiteralValue) : Type 0 where

@@ -14,6 +14,7 @@ mod table;
 mod term;
 mod term_cow;
 mod text;
+pub mod vocabulary;
 
 pub use dataset::{DataSet, Parts, push_both};
 pub use literal::{Blank, Literal};

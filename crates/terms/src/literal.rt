@@ -4,10 +4,12 @@ ghost use Rattle.std.specs.Option.{option_copied};
 ghost use Rattle.std.specs.Cmp.Lexicographic.{pointwise};
 ghost use Rattle.iris.specs.Iri.{IsIri};
 ghost use Rattle.iris.specs.Forms.{is_label};
-ghost use Rattle.terms.specs.Literal.{lang_string, IsLiteral};
+ghost use Rattle.terms.specs.Literal.{IsLiteral};
+ghost use Rattle.terms.specs.Vocabulary.{lang_string};
 ghost use Rattle.terms.specs.Parts.{tag_bytes, parts_value, is_tagged_alike};
 
 use crate::forms::{is_label, is_tag};
+use crate::vocabulary::RDF_LANG_STRING;
 use iris::Iri;
 use std::alloc::{AllocError, Global};
 use std::marker::Model;
@@ -63,7 +65,7 @@ fn is_lang_string(datatype: &Iri) -> bool
     ensures test { result ≡ pointwise nat_eq datatype.now lang_string }
     ensures iri { IsIri datatype.now }
 {
-    datatype.as_str() == "http://www.w3.org/1999/02/22-rdf-syntax-ns#langString"
+    datatype.as_str() == RDF_LANG_STRING
 }
 
 /// Whether this tag stands with this datatype: a language tag in lower case with rdf:langString, and none with any other.

@@ -4,11 +4,12 @@ ghost use Rattle.std.specs.Prelude.{nat_eq};
 ghost use Rattle.std.specs.Cmp.Lexicographic.{pointwise};
 ghost use Rattle.std.specs.Fmt.{decimal};
 ghost use Rattle.std.specs.List.{flat_map};
-ghost use Rattle.terms.specs.Literal.{xsd_string};
+ghost use Rattle.terms.specs.Vocabulary.{xsd_string};
 ghost use Rattle.terms.specs.Canonical.{escape, iri_text, suffix, literal_text, made_label, term_text};
 
 use crate::literal::Literal;
 use crate::term::Term;
+use crate::vocabulary::XSD_STRING;
 use iris::Iri;
 use std::alloc::{AllocError, Global};
 
@@ -46,7 +47,7 @@ fn push_iri(text: &mut Vec<u8>, iri: &Iri) -> Result<(), AllocError>
 fn is_xsd_string(datatype: &Iri) -> bool
     ensures { result ≡ pointwise nat_eq datatype.now xsd_string }
 {
-    datatype.as_str() == "http://www.w3.org/2001/XMLSchema#string"
+    datatype.as_str() == XSD_STRING
 }
 
 fn push_suffix(text: &mut Vec<u8>, literal: &Literal) -> Result<(), AllocError>

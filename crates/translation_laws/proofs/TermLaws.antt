@@ -15,7 +15,8 @@ use Rattle.iris.specs.Forms.{is_tag}
 use Rattle.lexer.specs.Names.{AreDigits}
 use Rattle.lexer.proofs.ByteLaws.{digit_small}
 use Rattle.lexer.proofs.IriLaws.{iri_with_local}
-use Rattle.terms.specs.Literal.{LiteralValue, IsLiteral, xsd_string, lang_string}
+use Rattle.terms.specs.Literal.{LiteralValue, IsLiteral}
+use Rattle.terms.specs.Vocabulary.{xsd_string, lang_string, rdf_type, xsd_integer, xsd_boolean}
 use Rattle.terms.specs.Term.{text_cmp}
 use Rattle.terms.specs.declared.term.Term.{Term}
 use Rattle.terms.specs.declared.term.Term.TheVariants as term
@@ -25,7 +26,7 @@ use Rattle.syntax_trees.specs.declared.tree.Literal.{Literal}
 use Rattle.syntax_trees.specs.declared.tree.Literal.TheVariants as literal
 use Rattle.syntax_trees.specs.declared.tree.Node.{Node}
 use Rattle.syntax_trees.specs.declared.tree.Node.TheVariants as node
-use Rattle.names.specs.Names.{Prefixes, declare, namespace_of, iri_of, literal_of, rdf_type, xsd_integer, xsd_boolean, truth, name_term, no_term, is_lang_iri, typed_literal}
+use Rattle.names.specs.Names.{Prefixes, declare, namespace_of, iri_of, literal_of, truth, name_term, no_term, is_lang_iri, typed_literal}
 use Rattle.faults.specs.Faults.{is_lang_literal, is_lang_node, is_undeclared, is_undeclared_literal, is_undeclared_node}
 use Rattle.nquads_laws.specs.WellFormed.{IsTerm, IsIriTerm}
 use Rattle.translation_laws.specs.Written.{is_name_or_literal}

@@ -4,16 +4,11 @@ use Rattle.std.specs.Prelude.{ℕ, Bool, true, false, not, ◌&&◌, ◌||◌, i
 use Rattle.std.specs.Ordering.{eq_by_cmp}
 use Rattle.std.specs.List.{list_all}
 use Rattle.std.specs.Int.Digits.{number_from_digits}
-use Rattle.terms.specs.Literal.{LiteralValue, xsd_string}
+use Rattle.terms.specs.Literal.{LiteralValue}
+use Rattle.terms.specs.Vocabulary.{xsd_string, xsd_integer, xsd_boolean}
 use Rattle.terms.specs.Term.{text_cmp}
 use Rattle.terms.specs.declared.term.Term.{Term}
 use Rattle.terms.specs.declared.term.Term.TheVariants as term
-
-abbrev pub xsd_integer : List ℕ
-xsd_integer = codes "http://www.w3.org/2001/XMLSchema#integer"
-
-abbrev pub xsd_boolean : List ℕ
-xsd_boolean = codes "http://www.w3.org/2001/XMLSchema#boolean"
 
 pub data Reading : Type 0 where
   Number : (value : ℤ) → Reading

@@ -4,7 +4,7 @@ use Rattle.std.specs.declared.cmp.Ordering.{Ordering}
 use Rattle.std.specs.Ordering.{is_eq, is_lt, is_le, is_gt, is_ge, int_cmp, bool_cmp, eq_by_cmp}
 use Rattle.std.specs.List.{starts_with, ends_with}
 use Rattle.std.specs.Fmt.{signed_decimal}
-use Rattle.terms.specs.Literal.{xsd_string}
+use Rattle.terms.specs.Vocabulary.{xsd_string, xsd_integer, xsd_boolean}
 use Rattle.terms.specs.Term.{text_cmp, term_order, is_iri, is_literal}
 use Rattle.terms.specs.declared.term.Term.{Term}
 use Rattle.terms.specs.declared.term.Term.TheVariants as term
@@ -14,7 +14,7 @@ use Rattle.algebra.specs.declared.expression.TwoOperator.{TwoOperator}
 use Rattle.algebra.specs.declared.expression.TwoOperator.TheVariants as two
 use Rattle.algebra.specs.Expressions.{Expression, Constant, Variable, Bound, One, Two}
 use Rattle.meaning.specs.Mapping.{Mapping, term_for}
-use Rattle.values.specs.Readings.{Reading, Number, TooLarge, Text, Tagged, Truth, IllFormed, Other, xsd_integer, xsd_boolean, is_text, fits_64, read_as}
+use Rattle.values.specs.Readings.{Reading, Number, TooLarge, Text, Tagged, Truth, IllFormed, Other, is_text, fits_64, read_as}
 
 -- ---- computed terms
 
