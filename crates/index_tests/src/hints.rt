@@ -1,7 +1,8 @@
 //! Hints of many requests, of one quad each or of many, found by each of the sixteen sets of bound places, beside a plain filter.
 use crate::quads::{fits, pattern_of, quad_of};
 use datasets::{Id, Quad, QuadPattern};
-use quad_index::{Arrangement, BESIDE_SPOG, Hints, OrderSet};
+use quad_hints::Hints;
+use quad_index::{Arrangement, BESIDE_SPOG, OrderSet};
 use std::alloc::{AllocError, Global};
 
 /// How many requests speak.

@@ -1,10 +1,8 @@
 pub mod Alike
 pub mod Filtering
-pub mod Joined
 pub mod Looking
 pub mod Mapped
 pub mod Moved
 pub mod Orders
-pub mod Requests
 pub mod Searching
 pub mod Sought

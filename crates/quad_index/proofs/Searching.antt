@@ -43,6 +43,9 @@ at_total Two = then_total first_total second_total
 at_total Three = then_total first_total (then_total second_total third_total)
 at_total Four = then_total first_total (then_total second_total (then_total third_total fourth_total))
 
+pub key_total : IsTotalOrder key_order
+key_total = at_total Four
+
 -- less by the first places is less
 less_first : (x y : Ordering) → x ≡ Less → ordering_then x y ≡ Less
 less_first x y e = ap (λ r. ordering_then r y) e

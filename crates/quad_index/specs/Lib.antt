@@ -3,9 +3,6 @@ pub mod OrderSet
 pub mod Looks
 pub mod Known
 pub mod KnownOrder
-pub mod Hint
-pub mod HintList
-pub mod Hints
 pub mod Sorted
 pub mod Indexed
 pub mod Index

@@ -127,7 +127,7 @@ impl Arrangement {
     }
 
     /// How two quads stand in this order.
-    pub(crate) fn compare(self, left: &Quad<Id>, right: &Quad<Id>) -> Ordering
+    pub fn compare(self, left: &Quad<Id>, right: &Quad<Id>) -> Ordering
         ensures { result ≡ key_order (the_key_of self left.now) (the_key_of self right.now) }
     {
         let s = left.subject.cmp(&right.subject);
@@ -226,7 +226,7 @@ pub(crate) fn is_before(past: bool, answer: Ordering) -> bool
 }
 
 /// The order that begins with the bound places.
-pub(crate) fn order_for(pattern: &QuadPattern<Id>) -> Arrangement
+pub fn order_for(pattern: &QuadPattern<Id>) -> Arrangement
     ensures { result ≡ arrangement_for pattern.now }
 {
     use Arrangement::{Gpso, Gspo, Ogsp, Ospg, Pogs, Spog};

@@ -28,7 +28,7 @@ fn is_in_place(place: GraphPlace<Id>, graph: Option<Id>) -> bool
 }
 
 /// Whether a quad matches a pattern: each place with a term has that term.
-pub(crate) fn matches(pattern: &QuadPattern<Id>, quad: &Quad<Id>) -> bool
+pub fn matches(pattern: &QuadPattern<Id>, quad: &Quad<Id>) -> bool
     ensures { result ≡ the_matches id_order pattern.now quad.now }
 {
     is_free_or(pattern.subject, quad.subject)

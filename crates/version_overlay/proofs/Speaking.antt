@@ -17,8 +17,8 @@ use Rattle.datasets.specs.declared.quad.Quad.{Quad}
 use Rattle.datasets.specs.declared.read.Read.TheVariants.{Scan, GraphIs, Graphs}
 use Rattle.datasets.specs.Dataset.{matches}
 use Rattle.datasets.specs.Id.{id_order, id_total, id_exact}
-use Rattle.quad_index.specs.declared.hint.Hint.{Hint}
-use Rattle.quad_index.specs.Hint.{hints_of}
+use Rattle.quad_hints.specs.declared.hint.Hint.{Hint}
+use Rattle.quad_hints.specs.Hint.{hints_of}
 use Rattle.reads.specs.Reads.{Delta, Read, covers}
 use Rattle.version_overlay.specs.declared.generation.Generation.{Generation}
 use Rattle.version_overlay.specs.Generation.{requests_of, items_or_none, has_spoken}

@@ -6,13 +6,14 @@ ghost use Rattle.datasets.specs.Id.{id_order};
 ghost use Rattle.datasets.specs.declared.quad.Quad.{Quad as Named};
 ghost use Rattle.std.specs.Ordering.{eq_by_cmp};
 ghost use Rattle.sets.specs.Sets.{has};
-ghost use Rattle.quad_index.specs.declared.hint.Hint.{Hint};
+ghost use Rattle.quad_hints.specs.declared.hint.Hint.{Hint};
 ghost use Rattle.reads.specs.Reads.{Read as Asked, covers};
 ghost use Rattle.version_overlay.specs.Generation.{requests_of, has_spoken};
 
 use datasets::{Id, Quad, Read};
 use delta::Delta;
-use quad_index::{Hints, OrderSet};
+use quad_hints::Hints;
+use quad_index::OrderSet;
 use std::alloc::{AllocError, Global};
 use std::collections::BTreeMap;
 

@@ -3,7 +3,7 @@ use Rattle.std.proofs.lemmas.Bool.{and_from}
 use Rattle.std.proofs.lemmas.Cmp.{nat_eq_equiv}
 use Rattle.std.proofs.lemmas.Result.{on_ok_weaker}
 use Rattle.std.specs.Prelude.{◌&&◌, ◌==◌}
-use Rattle.quad_index.specs.declared.hint.Hint.{Hint}
+use Rattle.quad_hints.specs.declared.hint.Hint.{Hint}
 use Rattle.version_overlay.proofs.Speaking.{any-hints_of}
 use Rattle.version_overlay.proofs.generation.put_quads.Goals as goal
 

@@ -1,4 +1,4 @@
-use Rattle.std.proofs.Common.{List, sym, ap, subst, ◌∙◌}
+use Rattle.std.proofs.Common.{List, sym, ap, subst}
 use Rattle.std.specs.List.Sorted.{IsStrictlySortedBy}
 use Rattle.sets.proofs.SetLaws.{sorted-set_of}
 use Rattle.datasets.specs.Id.{id_order, id_total, quad_total}

@@ -1,0 +1,102 @@
+-- Joining the last two of the runs keeps what any test finds.
+use Rattle.std.specs.Prelude.{Bool, ◌||◌}
+use Rattle.std.proofs.Common.{◌≡◌, ℕ, ◌+◌, true, false, suc, zero, List, [], ◌∷◌, ◌++◌, refl, sym, ap, ◌∙◌, length, take, set, get_or, arith}
+use Rattle.std.proofs.lemmas.Bool.{false≢true, or_parts}
+use Rattle.std.proofs.lemmas.List.Folds.{list_any-append}
+use Rattle.std.specs.List.{list_any}
+use Rattle.quad_hints.specs.declared.hint.Hint.{Hint}
+use Rattle.quad_hints.specs.declared.run.Run.{Run}
+use Rattle.quad_hints.specs.HintList.{hints_in}
+use Rattle.quad_hints.specs.Hints.{all_entries}
+
+or_assoc : (a b c : Bool) → ((a || b) || c) ≡ (a || (b || c))
+or_assoc true b c = refl
+or_assoc false b c = refl
+
+or_false : (a : Bool) → (a || false) ≡ a
+or_false true = refl
+or_false false = refl
+
+pub joined_last : (p : Hint → Bool) (r d : Run) (xs : List Run) (n : ℕ) → length xs ≡ n + 2 → list_any p (hints_in r.hints) ≡ (list_any p (hints_in (get_or xs n d).hints) || list_any p (hints_in (get_or xs (n + 1) d).hints))
+    → list_any p (all_entries (take (n + 1) (set xs n r))) ≡ list_any p (all_entries xs)
+joined_last p r d [] n e h = absurd (omega arith)
+joined_last p r d (a ∷ []) n e h = absurd (omega arith)
+joined_last p r d (a ∷ b ∷ []) zero e h =
+    list_any-append p (hints_in r.hints) [] ∙ or_false _ ∙ h
+    ∙ sym (list_any-append p (hints_in a.hints) ((hints_in b.hints) ++ []) ∙ ap (λ z. list_any p (hints_in a.hints) || z) (list_any-append p (hints_in b.hints) [] ∙ or_false _))
+joined_last p r d (a ∷ b ∷ c ∷ xs) zero e h = absurd (omega arith)
+joined_last p r d (a ∷ b ∷ xs) (suc n) e h =
+    let count : suc n + 1 ≡ suc (n + 1) = omega arith in
+    ap (λ k. list_any p (all_entries (take k (a ∷ set (b ∷ xs) n r)))) count
+    ∙ list_any-append p (hints_in a.hints) (all_entries (take (n + 1) (set (b ∷ xs) n r)))
+    ∙ ap (λ z. list_any p (hints_in a.hints) || z) (joined_last p r d (b ∷ xs) n (omega arith) (h ∙ ap (λ k. list_any p (hints_in (get_or (b ∷ xs) n d).hints) || list_any p (hints_in (get_or (a ∷ b ∷ xs) k d).hints)) count))
+    ∙ sym (list_any-append p (hints_in a.hints) (all_entries (b ∷ xs)))
+
+all-one_more : (p : Hint → Bool) (xs : List Run) (r : Run) → list_any p (all_entries (xs ++ r ∷ [])) ≡ (list_any p (all_entries xs) || list_any p (hints_in r.hints))
+all-one_more p [] r = list_any-append p (hints_in r.hints) [] ∙ or_false _
+all-one_more p (x ∷ xs) r =
+    list_any-append p (hints_in x.hints) (all_entries (xs ++ r ∷ [])) ∙ ap (λ z. list_any p (hints_in x.hints) || z) (all-one_more p xs r)
+    ∙ sym (or_assoc (list_any p (hints_in x.hints)) _ _) ∙ ap (λ z. z || list_any p (hints_in r.hints)) (sym (list_any-append p (hints_in x.hints) (all_entries xs)))
+
+-- a run more at the end
+pub run_pushed : (p : Hint → Bool) (xs ys : List Run) (r : Run) (hints : List Hint) → ys ≡ xs ++ r ∷ [] → list_any p (hints_in r.hints) ≡ list_any p hints
+    → list_any p (all_entries ys) ≡ (list_any p (all_entries xs) || list_any p hints)
+run_pushed p xs ys r hints e h =
+    ap (λ zs. list_any p (all_entries zs)) e ∙ all-one_more p xs r ∙ ap (λ z. list_any p (all_entries xs) || z) h
+
+pub popped : (p : Hint → Bool) (r d : Run) (xs ys : List Run) (n k : ℕ) → ys ≡ take k (set xs n r) → k ≡ n + 1 → length xs ≡ n + 2
+    → list_any p (hints_in r.hints) ≡ (list_any p (hints_in (get_or xs n d).hints) || list_any p (hints_in (get_or xs (n + 1) d).hints)) → list_any p (all_entries ys) ≡ list_any p (all_entries xs)
+popped p r d xs ys n k e f l h =
+    ap (λ zs. list_any p (all_entries zs)) (e ∙ ap (λ j. take j (set xs n r)) f) ∙ joined_last p r d xs n l h
+
+-- ---- hints that are in the orders, and those that aren't yet
+
+pub either : (a b : Bool) {X : Type 0} → (a || b) ≡ true → (a ≡ true → X) → (b ≡ true → X) → X
+either true b e f g = f refl
+either false b e f g = g e
+
+or_right : (a b : Bool) → b ≡ true → (a || b) ≡ true
+or_right true b e = refl
+or_right false b e = e
+
+or_left : (a b : Bool) → a ≡ true → (a || b) ≡ true
+or_left true b e = refl
+or_left false b e = absurd (false≢true e)
+
+or_none : (a b : Bool) → a ≡ false → b ≡ false → (a || b) ≡ false
+or_none true b e f = absurd (false≢true (sym e))
+or_none false b e f = f
+
+module _ (p : Hint → Bool) where
+  pub tail_added : (xs ys : List Hint) (h : Hint) → p h ≡ true → list_any p (xs ++ (ys ++ h ∷ [])) ≡ true
+  tail_added xs ys h e =
+      list_any-append p xs (ys ++ h ∷ []) ∙ or_right (list_any p xs) _ (list_any-append p ys (h ∷ []) ∙ or_right (list_any p ys) _ (or_left (p h) false e))
+
+  pub tail_kept : (xs ys : List Hint) (h : Hint) → list_any p (xs ++ ys) ≡ true → list_any p (xs ++ (ys ++ h ∷ [])) ≡ true
+  tail_kept xs ys h e =
+      list_any-append p xs (ys ++ h ∷ []) ∙ either (list_any p xs) (list_any p ys) (sym (list_any-append p xs ys) ∙ e) (λ a. or_left (list_any p xs) _ a)
+      (λ b. or_right (list_any p xs) _ (list_any-append p ys (h ∷ []) ∙ or_left (list_any p ys) _ b))
+
+  pub tail_only : (xs ys : List Hint) (h : Hint) → list_any p (xs ++ ys) ≡ false → p h ≡ false → list_any p (xs ++ (ys ++ h ∷ [])) ≡ false
+  tail_only xs ys h e f =
+      let parts = or_parts (list_any p xs) (list_any p ys) (sym (list_any-append p xs ys) ∙ e) in
+      list_any-append p xs (ys ++ h ∷ []) ∙ or_none _ _ parts.0 (list_any-append p ys (h ∷ []) ∙ or_none _ _ parts.1 (or_none (p h) false f refl))
+
+  -- hints that come out of the tail are in the orders
+
+  module _ (xs ys tail tail' : List Hint) where
+    pub settled_kept : (list_any p tail ≡ true → list_any p ys ≡ true) → (list_any p xs ≡ true → list_any p ys ≡ true) → list_any p (xs ++ tail) ≡ true → list_any p (ys ++ tail') ≡ true
+    settled_kept added kept e =
+        list_any-append p ys tail' ∙ or_left (list_any p ys) _ (either (list_any p xs) (list_any p tail) (sym (list_any-append p xs tail) ∙ e) kept added)
+
+    pub settled_only : (list_any p xs ≡ false → list_any p tail ≡ false → list_any p ys ≡ false) → (list_any p tail ≡ false → list_any p tail' ≡ false) → list_any p (xs ++ tail) ≡ false → list_any p (ys ++ tail') ≡ false
+    settled_only only fewer e =
+        let parts = or_parts (list_any p xs) (list_any p tail) (sym (list_any-append p xs tail) ∙ e) in
+        list_any-append p ys tail' ∙ or_none _ _ (only parts.0 parts.1) (fewer parts.1)
+
+    -- nothing could be put into the orders, but for some of them
+
+    pub unsettled_kept : tail' ≡ tail → (list_any p xs ≡ true → list_any p ys ≡ true) → list_any p (xs ++ tail) ≡ true → list_any p (ys ++ tail') ≡ true
+    unsettled_kept same kept e =
+        list_any-append p ys tail' ∙ either (list_any p xs) (list_any p tail) (sym (list_any-append p xs tail) ∙ e) (λ a. or_left (list_any p ys) _ (kept a))
+        (λ b. or_right (list_any p ys) _ (ap (list_any p) same ∙ b))
