@@ -10,7 +10,7 @@ use Rattle.std.proofs.lemmas.List.Elements.{recursion_from_All, All-from_recursi
 use Rattle.std.proofs.lemmas.Option.{same_Some, cond_some}
 use Rattle.iris.specs.Runs.{run_of, rest_of, IsRun, RunsAreLongest}
 use Rattle.iris.specs.Bracketed.{◌>>=◌}
-use Rattle.nquads.specs.Lines.{is_inner}
+use Rattle.nquads_lines.specs.Lines.{is_inner}
 use Rattle.nquads.specs.Tag.{mark_of}
 use Rattle.journal.specs.declared.fault.JournalFault.{JournalFault}
 use Rattle.journal.specs.declared.fault.JournalFault.TheVariants as fault

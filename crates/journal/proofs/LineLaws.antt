@@ -16,7 +16,7 @@ use Rattle.datasets.specs.declared.read.GraphPlace.{GraphPlace}
 use Rattle.datasets.specs.declared.read.GraphPlace.TheVariants.{Any, Only}
 use Rattle.terms.specs.declared.term.Term.{Term}
 use Rattle.terms.specs.Canonical.{term_text}
-use Rattle.nquads.specs.Lines.{is_inner}
+use Rattle.nquads_lines.specs.Lines.{is_inner}
 use Rattle.nquads_laws.specs.WellFormed.{IsTerm}
 use Rattle.nquads.specs.Tag.{mark_of}
 use Rattle.journal.specs.declared.lines.Event.{Event}

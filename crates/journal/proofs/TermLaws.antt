@@ -16,7 +16,7 @@ use Rattle.datasets.specs.declared.read.Read.TheVariants.{Scan, GraphIs, Graphs}
 use Rattle.terms.specs.Canonical.{term_text, made_label}
 use Rattle.terms.specs.declared.term.Term.{Term}
 use Rattle.terms.specs.declared.term.Term.TheVariants.{Iri, Literal, Blank, Made}
-use Rattle.nquads.specs.ReadTerms.{object_at}
+use Rattle.nquads_lines.specs.ReadTerms.{object_at}
 use Rattle.nquads.specs.Tag.{mark_of}
 use Rattle.nquads_laws.specs.Named.{named_term}
 use Rattle.nquads_laws.specs.WellFormed.{IsTerm}

@@ -3,7 +3,7 @@ use Rattle.std.specs.Prelude.{ℕ, ◌≡◌, ◌==◌, nat_eq, List, [], ◌∷
 use Rattle.std.specs.Cmp.Lexicographic.{pointwise}
 use Rattle.iris.specs.Runs.{run_of, rest_of}
 use Rattle.iris.specs.Bracketed.{◌>>=◌}
-use Rattle.nquads.specs.Lines.{is_inner}
+use Rattle.nquads_lines.specs.Lines.{is_inner}
 use Rattle.journal.specs.declared.fault.JournalFault.{JournalFault}
 use Rattle.journal.specs.declared.fault.JournalFault.TheVariants as fault
 use Rattle.journal.specs.declared.lines.Line.{Line}

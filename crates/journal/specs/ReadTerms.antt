@@ -11,7 +11,7 @@ use Rattle.datasets.specs.declared.read.Read.{Read}
 use Rattle.datasets.specs.declared.read.Read.TheVariants.{Scan, GraphIs, Graphs}
 use Rattle.terms.specs.declared.term.Term.{Term}
 use Rattle.terms.specs.declared.term.Term.TheVariants as term
-use Rattle.nquads.specs.ReadTerms.{object_at}
+use Rattle.nquads_lines.specs.ReadTerms.{object_at}
 use Rattle.journal.specs.Words.{word, behind, number_below}
 
 -- the number at the front, and what follows the letter behind it

@@ -1,14 +1,14 @@
 //! What a line says.
 ghost use Rattle.std.specs.Prelude.{◌≡◌, ℕ, List, IfOk, IfSome, MatchOption, None, Some};
 ghost use Rattle.std.specs.Str.{is_utf8};
-ghost use Rattle.nquads.specs.Reading.{Gives};
+ghost use Rattle.nquads_lines.specs.Reading.{Gives};
 ghost use Rattle.journal.specs.Lines.{IsRequest, IsCount, IsEvent, IsReply, IsLine};
 ghost use Rattle.journal.specs.Reading.{event_of, numbered_event_of, read_event_at, numbered_event_at, event_at, reply_of, numbered_reply_of, reply_at, body_at, line_of};
 
 use crate::lines::{Event, Line, Reply};
 use crate::read_terms::read_at;
 use crate::words::{first_word, number_of, request_of, worker_of};
-use nquads::Stop;
+use nquads_lines::Stop;
 use std::alloc::Global;
 
 /// An event of a request alone, by its word.

@@ -4,7 +4,7 @@ ghost use Rattle.std.specs.List.{prefix_len, starts_with};
 ghost use Rattle.iris.specs.Iri.{is_digit};
 ghost use Rattle.iris.specs.Runs.{run_of, rest_of};
 ghost use Rattle.terms.specs.declared.term.Term.TheVariants as term;
-ghost use Rattle.nquads.specs.Reading.{Gives};
+ghost use Rattle.nquads_lines.specs.Reading.{Gives};
 ghost use Rattle.nquads.specs.Tag.{has_mark};
 ghost use Rattle.nquads_laws.specs.WellFormed.{IsTerm};
 ghost use Rattle.journal.specs.Lines.{IsHeld, IsPlace, IsGraphPlace, IsRead};
@@ -13,7 +13,7 @@ ghost use Rattle.journal.specs.ReadTerms.{part_at, made_of, unlabelled, term_at,
 use crate::words::{first_word, is_digit, number_below};
 use datasets::{GraphPlace, QuadPattern, Read};
 use iris::laws::run_by_length;
-use nquads::{Stop, object_at};
+use nquads_lines::{Stop, object_at};
 use std::alloc::Global;
 use terms::{Blank, Term};
 

@@ -3,8 +3,8 @@ ghost use Rattle.std.specs.Prelude.{◌≡◌, ◌≤◌, ◌<◌, ◌++◌, ℕ
 ghost use Rattle.std.specs.List.{prefix_len, starts_with};
 ghost use Rattle.std.specs.Cmp.Lexicographic.{pointwise};
 ghost use Rattle.iris.specs.Runs.{run_of, rest_of};
-ghost use Rattle.nquads.specs.Lines.{is_inner};
-ghost use Rattle.nquads.specs.Reading.{Gives};
+ghost use Rattle.nquads_lines.specs.Lines.{is_inner};
+ghost use Rattle.nquads_lines.specs.Reading.{Gives};
 ghost use Rattle.nquads.specs.Tag.{mark_of};
 ghost use Rattle.journal.specs.declared.lines.Line.{Line};
 ghost use Rattle.journal.specs.Text.{line_body, line_text, first_line};
@@ -18,7 +18,8 @@ use crate::laws::{entries_are_lines, one_journal};
 use crate::lines::Line;
 use crate::writer::{FIRST_LINE, push_body};
 use iris::laws::run_by_length;
-use nquads::{Stop, mark_of};
+use nquads::mark_of;
+use nquads_lines::Stop;
 use std::alloc::{AllocError, Global};
 
 fn is_inner(b: u8) -> bool

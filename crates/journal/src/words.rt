@@ -1,11 +1,11 @@
 //! The words of a line, and the numbers among them.
 ghost use Rattle.std.specs.Prelude.{◌≡◌, ◌<◌, ◌≤◌, IfOk, Some};
 ghost use Rattle.iris.specs.Iri.{is_digit};
-ghost use Rattle.nquads.specs.Reading.{Gives};
+ghost use Rattle.nquads_lines.specs.Reading.{Gives};
 ghost use Rattle.journal.specs.Words.{word, behind, with_digit, number_of, number_below};
 
 use iris::laws::run_by_length;
-use nquads::Stop;
+use nquads_lines::Stop;
 
 /// The first word of a text, and what follows the space behind it.
 pub fn first_word(text: &str) -> (&str, &str)

@@ -7,17 +7,17 @@ use Rattle.std.specs.Option.{option_map_or}
 use Rattle.datasets.specs.Dataset.{Dataset}
 use Rattle.terms.specs.declared.term.Term.{Term}
 use Rattle.terms.specs.DataSet.{ListsGrowAsDatasets}
-use Rattle.nquads.specs.declared.stop.Line.{Line}
+use Rattle.nquads_lines.specs.declared.stop.Line.{Line}
 use Rattle.nquads.specs.declared.fault.BaseFault.{BaseFault}
 use Rattle.nquads.specs.declared.fault.BaseFault.TheVariants as fault
-use Rattle.nquads.specs.Lines.{lines}
-use Rattle.nquads.specs.Reading.{line_of, LinesAreRead}
+use Rattle.nquads_lines.specs.Lines.{lines}
+use Rattle.nquads_lines.specs.Reading.{line_of, LinesAreRead}
 use Rattle.nquads.specs.Spelled.{AreLines, none, more, IsFirstBadOf}
 use Rattle.nquads.specs.Whole.{Reads, read_from, no_quads}
 use Rattle.nquads.specs.Long.{front_within, but_last, ended_lines, counted_lines, IsAnswer}
 use Rattle.devices.specs.Front.{IsFront}
 use Rattle.nquads.specs.Checked.{first_bad, StopsAt}
-use Rattle.nquads.proofs.Ends.{lines_first}
+use Rattle.nquads_lines.proofs.Ends.{lines_first}
 use Rattle.nquads.proofs.WholeLaws.{bad_line, no_bad_in, whole_found, whole_bad}
 
 -- ---- the first bad line

@@ -8,11 +8,11 @@ use Rattle.datasets.specs.declared.quad.Quad.{Quad}
 use Rattle.datasets.specs.Dataset.{Dataset}
 use Rattle.terms.specs.declared.term.Term.{Term}
 use Rattle.terms.specs.DataSet.{dataset_of, united, ListsUnite}
-use Rattle.nquads.specs.declared.stop.Line.{Line}
-use Rattle.nquads.specs.declared.stop.Line.TheVariants.{Nothing, Graph, Statement}
-use Rattle.nquads.specs.Lines.{lines, lines_after}
-use Rattle.nquads.specs.Line.{IsLine, nothing, at_end}
-use Rattle.nquads.specs.Reading.{line_of, LinesAreRead}
+use Rattle.nquads_lines.specs.declared.stop.Line.{Line}
+use Rattle.nquads_lines.specs.declared.stop.Line.TheVariants.{Nothing, Graph, Statement}
+use Rattle.nquads_lines.specs.Lines.{lines, lines_after}
+use Rattle.nquads_lines.specs.Line.{IsLine, nothing, at_end}
+use Rattle.nquads_lines.specs.Reading.{line_of, LinesAreRead}
 use Rattle.nquads.specs.Spelled.{AreLines, none, more, stated, declared, Spells}
 use Rattle.nquads.specs.Pieces.{ArePieces}
 

@@ -10,13 +10,13 @@ use Rattle.datasets.specs.Dataset.{Dataset, quad_order}
 use Rattle.terms.specs.declared.term.Term.{Term}
 use Rattle.terms.specs.Term.{term_order}
 use Rattle.terms.specs.DataSet.{dataset_of, ListsGrowAsDatasets}
-use Rattle.nquads.specs.declared.stop.Line.{Line}
-use Rattle.nquads.specs.declared.stop.Line.TheVariants.{Nothing, Graph, Statement}
+use Rattle.nquads_lines.specs.declared.stop.Line.{Line}
+use Rattle.nquads_lines.specs.declared.stop.Line.TheVariants.{Nothing, Graph, Statement}
 use Rattle.nquads.specs.declared.fault.BaseFault.{BaseFault}
 use Rattle.nquads.specs.declared.fault.BaseFault.TheVariants as fault
-use Rattle.nquads.specs.Lines.{lines}
-use Rattle.nquads.specs.Line.{IsLine}
-use Rattle.nquads.specs.Reading.{line_of, LinesAreRead}
+use Rattle.nquads_lines.specs.Lines.{lines}
+use Rattle.nquads_lines.specs.Line.{IsLine}
+use Rattle.nquads_lines.specs.Reading.{line_of, LinesAreRead}
 use Rattle.nquads.specs.Spelled.{AreLines, none, more, stated, declared, Spells, IsBad, IsFirstBad}
 use Rattle.nquads.specs.Whole.{keep, read_from, no_quads, Faults, Reads}
 

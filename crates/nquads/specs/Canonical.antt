@@ -8,7 +8,7 @@ use Rattle.datasets.specs.Dataset.{Dataset, names_of}
 use Rattle.terms.specs.declared.term.Term.{Term}
 use Rattle.terms.specs.Term.{text_cmp, term_order}
 use Rattle.terms.specs.Canonical.{term_text}
-use Rattle.nquads.specs.Line.{graph_mark}
+use Rattle.nquads_lines.specs.Line.{graph_mark}
 
 abbrev pub graph_text : ℕ → Option Term → List ℕ
 graph_text tag None = []

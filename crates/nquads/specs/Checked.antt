@@ -3,7 +3,7 @@ use Rattle.std.specs.Prelude.{ℕ, ◌≡◌, ◌+◌, List, [], ◌∷◌, Opti
 use Rattle.std.specs.Option.{option_map_or}
 use Rattle.nquads.specs.declared.fault.BaseFault.{BaseFault}
 use Rattle.nquads.specs.declared.fault.BaseFault.TheVariants as fault
-use Rattle.nquads.specs.Reading.{line_of}
+use Rattle.nquads_lines.specs.Reading.{line_of}
 
 -- the number of the first bad line, where n lines came before
 abbrev pub first_bad : ℕ → List (List ℕ) → Option ℕ

@@ -7,7 +7,7 @@ use Rattle.devices.specs.declared.front.ReadFault.{ReadFault}
 use Rattle.devices.specs.declared.front.ReadFault.TheVariants as read_fault
 use Rattle.nquads.specs.declared.fault.BaseFault.{BaseFault}
 use Rattle.nquads.specs.declared.fault.BaseFault.TheVariants as fault
-use Rattle.nquads.specs.Lines.{lines}
+use Rattle.nquads_lines.specs.Lines.{lines}
 use Rattle.nquads.specs.Spelled.{Spells, IsFirstBadOf}
 
 -- a cut behind the first n bytes would part a CR from its LF

@@ -1,7 +1,7 @@
 -- Lines of quads and names by places, from the texts of the terms at these places.
 use Rattle.std.specs.Prelude.{ℕ, ◌==◌, Bool, false, List, [], ◌∷◌, ◌++◌, Option, Some, None, codes, slice_index_or}
 use Rattle.datasets.specs.declared.quad.Quad.{Quad}
-use Rattle.nquads.specs.Line.{graph_mark}
+use Rattle.nquads_lines.specs.Line.{graph_mark}
 
 abbrev pub text_at : List (List ℕ) → ℕ → List ℕ
 text_at texts place = slice_index_or texts place []

@@ -6,10 +6,10 @@ use Rattle.datasets.specs.declared.quad.Quad.{Quad}
 use Rattle.datasets.specs.Dataset.{Dataset, quad_order}
 use Rattle.terms.specs.declared.term.Term.{Term}
 use Rattle.terms.specs.Term.{term_order}
-use Rattle.nquads.specs.declared.stop.Line.{Line}
-use Rattle.nquads.specs.declared.stop.Line.TheVariants.{Nothing, Graph, Statement}
-use Rattle.nquads.specs.Lines.{lines}
-use Rattle.nquads.specs.Line.{IsLine}
+use Rattle.nquads_lines.specs.declared.stop.Line.{Line}
+use Rattle.nquads_lines.specs.declared.stop.Line.TheVariants.{Nothing, Graph, Statement}
+use Rattle.nquads_lines.specs.Lines.{lines}
+use Rattle.nquads_lines.specs.Line.{IsLine}
 
 -- each line says its part
 pub data AreLines : List (List ℕ) → List Line → Type 0 where

@@ -4,11 +4,11 @@ use Rattle.std.specs.Option.{option_map_or}
 use Rattle.datasets.specs.Dataset.{Dataset}
 use Rattle.terms.specs.declared.term.Term.{Term}
 use Rattle.terms.specs.DataSet.{with_quad, with_graph}
-use Rattle.nquads.specs.declared.stop.Line.{Line}
-use Rattle.nquads.specs.declared.stop.Line.TheVariants.{Nothing, Graph, Statement}
+use Rattle.nquads_lines.specs.declared.stop.Line.{Line}
+use Rattle.nquads_lines.specs.declared.stop.Line.TheVariants.{Nothing, Graph, Statement}
 use Rattle.nquads.specs.declared.fault.BaseFault.{BaseFault}
 use Rattle.nquads.specs.declared.fault.BaseFault.TheVariants as fault
-use Rattle.nquads.specs.Reading.{line_of}
+use Rattle.nquads_lines.specs.Reading.{line_of}
 
 -- the dataset with what a line says
 abbrev pub keep : Dataset Term → Line → Dataset Term

@@ -1,18 +1,18 @@
 //! The reader of a base, over a reader of bytes.
 ghost use Rattle.std.specs.Prelude.{◌≡◌, ◌≤◌, ◌<◌, ◌+◌, ◌-◌, ◌^◌, ◌∷◌, [], ℕ, List, length, false, OnOk, MatchOption, IfOk, IfErr, IfSome, if◌then◌else◌};
-ghost use Rattle.nquads.specs.Lines.{lines};
+ghost use Rattle.nquads_lines.specs.Lines.{lines};
 ghost use Rattle.nquads.specs.Long.{front_within, but_last, IsAnswer, is_device};
 ghost use Rattle.devices.specs.Front.{IsFront};
 ghost use Rattle.nquads.specs.Checked.{first_bad, Checks};
 ghost use Rattle.nquads.specs.Whole.{Faults};
-ghost use Rattle.nquads.specs.Reading.{line_of};
+ghost use Rattle.nquads_lines.specs.Reading.{line_of};
 
 use crate::fault::BaseFault;
-use crate::laws::lines_are_read;
-use crate::lines::first_line;
 use crate::pieces::read_pieces;
-use crate::reader::{read_lines, said};
+use crate::reader::{read_line, read_lines};
 use devices::{Watched, front_of};
+use nquads_lines::first_line;
+use nquads_lines::laws::lines_are_read;
 use std::alloc::Global;
 use std::io::Read;
 use std::thread::Threads;
@@ -53,7 +53,7 @@ fn check_line(alloc: Global, line: &[u8], number: usize) -> Result<(), BaseFault
         → first_bad n (line.now ∷ later) ≡ first_bad (n + 1) later) }
     ensures bad { IfErr result (λ e. Faults e number (line_of line.now)) }
 {
-    match said(alloc, line, number) {
+    match read_line(alloc, line, number) {
         Ok(_) => Ok(()),
         Err(fault) => Err(fault),
     }

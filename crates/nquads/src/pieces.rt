@@ -5,8 +5,8 @@ ghost use Rattle.nquads.specs.Pieces.{ArePieces};
 ghost use Rattle.nquads.specs.Spelled.{Spells};
 
 use crate::fault::BaseFault;
-use crate::laws::lines_are_read;
 use crate::reader::read_bytes;
+use nquads_lines::laws::lines_are_read;
 use std::alloc::Global;
 use std::thread::{Threads, join};
 use terms::DataSet;

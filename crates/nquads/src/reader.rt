@@ -2,17 +2,15 @@
 ghost use Rattle.std.specs.Prelude.{◌≡◌, ◌+◌, ◌<◌, ◌^◌, IfOk, IsErrOf, IfErr, ℕ, OnOk, OnErr, Some, None, Ok};
 ghost use Rattle.datasets.specs.Dataset.{Dataset};
 ghost use Rattle.terms.specs.declared.term.Term.{Term};
-ghost use Rattle.nquads.specs.Lines.{lines};
+ghost use Rattle.nquads_lines.specs.Lines.{lines};
 ghost use Rattle.nquads.specs.Spelled.{Spells, IsFirstBad};
-ghost use Rattle.nquads.specs.Reading.{line_of};
+ghost use Rattle.nquads_lines.specs.Reading.{line_of};
 ghost use Rattle.nquads.specs.Whole.{Faults, Reads, read_from, no_quads, keep};
 
 use crate::fault::BaseFault;
-use crate::laws::lines_are_read;
-use crate::line::line_of;
-use crate::lines::first_line;
-use crate::stop::{Line, Stop};
 use dataset_builder::DatasetBuilder;
+use nquads_lines::laws::lines_are_read;
+use nquads_lines::{Line, Stop, first_line, line_of};
 use std::alloc::{AllocError, Global};
 use terms::laws::lists_grow_as_datasets;
 use terms::DataSet;
@@ -28,8 +26,8 @@ fn keep<'a>(dataset: &mut DatasetBuilder<'a>, said: Line<'a>) -> Result<(), Allo
     }
 }
 
-/// What line says, where it has this number.
-pub fn said(alloc: Global, line: &[u8], number: usize) -> Result<Line<'_>, BaseFault>
+/// What a line says, which has this number.
+pub fn read_line(alloc: Global, line: &[u8], number: usize) -> Result<Line<'_>, BaseFault>
     ensures ok { IfOk result (λ said. line_of line.now ≡ Some said) }
     ensures bad { IfErr result (λ e. Faults e number (line_of line.now)) }
 {
@@ -49,7 +47,7 @@ pub fn read_lines(alloc: Global, bytes: &[u8]) -> Result<DataSet, BaseFault>
     while let Some(text) = rest {
         let (line, after) = first_line(text);
         number += 1;
-        keep(&mut dataset, said(alloc, line, number)?)?;
+        keep(&mut dataset, read_line(alloc, line, number)?)?;
         rest = after;
     }
     Ok(dataset.into_dataset()?)

@@ -11,7 +11,7 @@ use Rattle.terms.specs.declared.term.Term.{Term}
 use Rattle.terms.specs.declared.term.Term.TheVariants.{Iri, Literal, Blank, Made}
 use Rattle.terms.specs.Term.{term_order}
 use Rattle.terms.specs.TermLaws.{term_total, term_exact}
-use Rattle.nquads.specs.Lines.{lines, is_inner}
+use Rattle.nquads_lines.specs.Lines.{lines, is_inner}
 use Rattle.nquads.specs.Spelled.{Spells}
 use Rattle.nquads.specs.Canonical.{canonical}
 use Rattle.nquads_laws.specs.WellFormed.{IsWellFormed, terms_in, terms_of, is_written}

@@ -9,7 +9,7 @@ use Rattle.std.proofs.lemmas.Bool.Decides.{nat_tests}
 use Rattle.std.proofs.lemmas.List.Folds.{list_all-append}
 use Rattle.iris.specs.Iri.{is_iri, is_iri_byte, is_scheme_byte, is_letter, is_digit, after_first}
 use Rattle.iris.specs.Forms.{is_small_letter, InTag, start, first, dash, later, is_tag_from, is_tag, is_label_byte}
-use Rattle.nquads.specs.Lines.{is_inner}
+use Rattle.nquads_lines.specs.Lines.{is_inner}
 
 -- below 128
 abbrev pub is_ascii : ℕ → Bool

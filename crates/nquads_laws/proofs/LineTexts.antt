@@ -9,11 +9,11 @@ use Rattle.datasets.specs.declared.quad.Quad.{Quad}
 use Rattle.terms.specs.declared.term.Term.{Term}
 use Rattle.terms.specs.declared.term.Term.TheVariants.{Iri, Literal, Blank, Made}
 use Rattle.terms.specs.Canonical.{iri_text, term_text}
-use Rattle.nquads.specs.declared.stop.Line.{Line}
-use Rattle.nquads.specs.declared.stop.Line.TheVariants.{Graph, Statement}
-use Rattle.nquads.specs.Lines.{is_inner}
-use Rattle.nquads.specs.Escapes.{IriAt}
-use Rattle.nquads.specs.Line.{Gap, at_end, default_graph, named, GraphAt, declares, states, Says, IsLine, graph_mark}
+use Rattle.nquads_lines.specs.declared.stop.Line.{Line}
+use Rattle.nquads_lines.specs.declared.stop.Line.TheVariants.{Graph, Statement}
+use Rattle.nquads_lines.specs.Lines.{is_inner}
+use Rattle.nquads_lines.specs.Escapes.{IriAt}
+use Rattle.nquads_lines.specs.Line.{Gap, at_end, default_graph, named, GraphAt, declares, states, Says, IsLine, graph_mark}
 use Rattle.nquads.specs.Canonical.{graph_text, quad_text, graph_line}
 use Rattle.nquads_laws.specs.WellFormed.{IsTerm, IsSubject, IsIriTerm, IsQuad}
 use Rattle.nquads_laws.specs.Named.{named_term, named_quad}

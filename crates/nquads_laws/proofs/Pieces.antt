@@ -10,8 +10,8 @@ use Rattle.std.proofs.lemmas.Bool.Decides.{nat_tests}
 use Rattle.std.proofs.lemmas.Str.{IsUtf8-append, IsUtf8-nil, IsUtf8-encode, IsUtf8-take, IsUtf8-drop, encode_ascii, IsCharBoundary-before_ascii, IsCharBoundary-after_ascii}
 use Rattle.iris.specs.Iri.{is_iri_byte, IsIri}
 use Rattle.terms.specs.Canonical.{escape, iri_text}
-use Rattle.nquads.specs.Lines.{is_inner}
-use Rattle.nquads.specs.Escapes.{is_plain}
+use Rattle.nquads_lines.specs.Lines.{is_inner}
+use Rattle.nquads_lines.specs.Escapes.{is_plain}
 use Rattle.nquads_laws.proofs.Bytes.{is_ascii, is_ascii_inner, all_weaker, all_append, iri_bytes, inner_iri, ascii_of_inner, inner_of_inner}
 
 pub record IsPiece (bs : List ℕ) : Type 0 where

@@ -19,10 +19,10 @@ use Rattle.datasets.specs.Id.{quad_exact, quad_total}
 use Rattle.terms.specs.declared.term.Term.{Term}
 use Rattle.terms.specs.Term.{term_order, text_cmp}
 use Rattle.terms.specs.TermLaws.{term_total, term_exact, text_total, text_exact}
-use Rattle.nquads.specs.declared.stop.Line.{Line}
-use Rattle.nquads.specs.declared.stop.Line.TheVariants.{Nothing, Graph, Statement}
-use Rattle.nquads.specs.Lines.{lines, is_inner}
-use Rattle.nquads.specs.Line.{at_end, nothing, IsLine}
+use Rattle.nquads_lines.specs.declared.stop.Line.{Line}
+use Rattle.nquads_lines.specs.declared.stop.Line.TheVariants.{Nothing, Graph, Statement}
+use Rattle.nquads_lines.specs.Lines.{lines, is_inner}
+use Rattle.nquads_lines.specs.Line.{at_end, nothing, IsLine}
 use Rattle.nquads.specs.Spelled.{AreLines, none, more, stated, declared, Spells}
 use Rattle.nquads.specs.Canonical.{quad_text, graph_line, is_empty_graph, lines_of, ended, canonical}
 use Rattle.nquads_laws.specs.WellFormed.{IsIriTerm, IsQuad, IsWellFormed}

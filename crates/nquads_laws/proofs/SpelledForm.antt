@@ -19,11 +19,11 @@ use Rattle.terms.specs.declared.term.Term.{Term}
 use Rattle.terms.specs.declared.term.Term.TheVariants.{Iri, Literal, Blank, Made}
 use Rattle.terms.specs.Term.{term_order}
 use Rattle.terms.specs.TermLaws.{term_total, term_exact}
-use Rattle.nquads.specs.declared.stop.Line.{Line}
-use Rattle.nquads.specs.declared.stop.Line.TheVariants.{Nothing, Graph, Statement}
-use Rattle.nquads.specs.Escapes.{IriAt}
-use Rattle.nquads.specs.Forms.{BlankAt, LiteralAt, SubjectAt, ObjectAt}
-use Rattle.nquads.specs.Line.{GraphAt, Says}
+use Rattle.nquads_lines.specs.declared.stop.Line.{Line}
+use Rattle.nquads_lines.specs.declared.stop.Line.TheVariants.{Nothing, Graph, Statement}
+use Rattle.nquads_lines.specs.Escapes.{IriAt}
+use Rattle.nquads_lines.specs.Forms.{BlankAt, LiteralAt, SubjectAt, ObjectAt}
+use Rattle.nquads_lines.specs.Line.{GraphAt, Says}
 use Rattle.nquads.specs.Spelled.{AreLines, stated, declared, Spells}
 use Rattle.nquads_laws.specs.WellFormed.{IsTerm, IsSubject, IsIriTerm, IsQuad, IsWellFormed, terms_in, terms_of, is_written}
 use Rattle.nquads_laws.proofs.Bytes.{is_ascii, all_weaker, inner_label, ascii_of_inner}

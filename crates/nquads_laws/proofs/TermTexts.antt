@@ -15,8 +15,8 @@ use Rattle.terms.specs.Vocabulary.{xsd_string, lang_string}
 use Rattle.terms.specs.declared.term.Term.{Term}
 use Rattle.terms.specs.declared.term.Term.TheVariants.{Iri, Literal, Blank, Made}
 use Rattle.terms.specs.Canonical.{escape, iri_text, suffix, literal_text, made_label, term_text}
-use Rattle.nquads.specs.Escapes.{StringAt, IriTextAt, IriAt}
-use Rattle.nquads.specs.Forms.{BlankAt, LiteralAt, SubjectAt, ObjectAt, literal}
+use Rattle.nquads_lines.specs.Escapes.{StringAt, IriTextAt, IriAt}
+use Rattle.nquads_lines.specs.Forms.{BlankAt, LiteralAt, SubjectAt, ObjectAt, literal}
 use Rattle.nquads_laws.specs.WellFormed.{IsTerm, IsSubject}
 use Rattle.nquads_laws.specs.Named.{named_term}
 use Rattle.nquads_laws.proofs.Bytes.{all_weaker, all_append, iri_bytes, tag_bytes, lower_same, is_low_byte, inner_label, inner_low, decimal_digits, digit_label, is_ascii_inner}

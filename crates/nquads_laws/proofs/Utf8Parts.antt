@@ -8,8 +8,8 @@ use Rattle.std.proofs.lemmas.Bool.Decides.{nat_tests}
 use Rattle.std.proofs.lemmas.List.{append-nil}
 use Rattle.std.proofs.lemmas.Str.{IsUtf8-append, IsUtf8-encode}
 use Rattle.iris.specs.Forms.{short_escape}
-use Rattle.nquads.specs.Escapes.{CodeAt, StringAt, IriTextAt, IriAt}
-use Rattle.nquads.specs.Line.{is_blank, Gap}
+use Rattle.nquads_lines.specs.Escapes.{CodeAt, StringAt, IriTextAt, IriAt}
+use Rattle.nquads_lines.specs.Line.{is_blank, Gap}
 use Rattle.nquads_laws.proofs.Bytes.{is_ascii, all_weaker}
 use Rattle.nquads_laws.proofs.Pieces.{utf8_byte, split_ascii}
 

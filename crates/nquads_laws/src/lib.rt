@@ -6,8 +6,8 @@ ghost use Rattle.std.specs.List.{Contains, list_all};
 ghost use Rattle.datasets.specs.Dataset.{Dataset};
 ghost use Rattle.terms.specs.declared.term.Term.{Term};
 ghost use Rattle.terms.specs.Canonical.{term_text};
-ghost use Rattle.nquads.specs.Lines.{is_inner};
-ghost use Rattle.nquads.specs.ReadTerms.{object_at};
+ghost use Rattle.nquads_lines.specs.Lines.{is_inner};
+ghost use Rattle.nquads_lines.specs.ReadTerms.{object_at};
 ghost use Rattle.nquads.specs.Spelled.{Spells};
 ghost use Rattle.nquads.specs.Tag.{is_taken};
 ghost use Rattle.nquads.specs.Canonical.{canonical};
@@ -15,7 +15,8 @@ ghost use Rattle.nquads_laws.specs.WellFormed.{IsTerm, IsWellFormed, terms_of, i
 ghost use Rattle.nquads_laws.specs.Named.{named_term, named};
 
 use iris::laws::runs_are_longest;
-use nquads::laws::{first_line_is_ended, objects_are_read, one_dataset};
+use nquads::laws::one_dataset;
+use nquads_lines::laws::{first_line_is_ended, objects_are_read};
 
 /// The canonical text of a well-formed dataset spells it with each made node as the blank node of its label, whatever the tag. Where no
 /// blank label begins with the tag's mark, no two terms of the dataset become one.

@@ -1,5 +1,5 @@
 use Rattle.std.proofs.Common.{◌≡◌, ◌+◌, ◌≤◌, length}
-use Rattle.nquads.specs.Lines.{lines}
+use Rattle.nquads_lines.specs.Lines.{lines}
 use Rattle.nquads.specs.Long.{but_last}
 use Rattle.nquads.specs.Checked.{first_bad}
 use Rattle.nquads.proofs.base.check_lines.Given as goal

@@ -1,5 +1,0 @@
-use Rattle.nquads.proofs.TermLaws.{object_again}
-use Rattle.nquads.proofs.laws.objects_are_read.Goals as goal
-
-pub returns : goal.returns
-returns c text rest x at = object_again c.runs_are_longest.ensures at
