@@ -5,7 +5,8 @@ use Rattle.std.proofs.Common.{◌≡◌, true, false, cond, List, Some, None, re
 use Rattle.std.proofs.lemmas.Str.{IsUtf8-string_bytes}
 use Rattle.iris.specs.Iri.{IsIri}
 use Rattle.iris.specs.Forms.{is_tag}
-use Rattle.terms.specs.Literal.{lang_string, IsLiteral}
+use Rattle.terms.specs.Literal.{IsLiteral}
+use Rattle.terms.specs.Vocabulary.{lang_string}
 use Rattle.terms.specs.Parts.{parts_value}
 use Rattle.nquads_lines.specs.Forms.{literal}
 use Rattle.nquads_lines.specs.ReadTerms.{tagged}

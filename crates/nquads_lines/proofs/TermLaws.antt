@@ -13,7 +13,7 @@ use Rattle.iris.specs.Iri.{is_iri, IsIri, is_digit}
 use Rattle.iris.specs.Runs.{run_of, rest_of, Stops, IsRun, RunsAreLongest}
 use Rattle.iris.specs.Forms.{is_tag, is_label, is_label_byte, InTag, start, first, dash, later, is_tag_from, is_small_letter}
 use Rattle.iris.specs.Bracketed.{◌>>=◌, iri_of}
-use Rattle.terms.specs.Literal.{xsd_string, lang_string}
+use Rattle.terms.specs.Vocabulary.{xsd_string, lang_string}
 use Rattle.terms.specs.declared.term.Term.{Term}
 use Rattle.terms.specs.declared.term.Term.TheVariants as term
 use Rattle.nquads_lines.specs.Escapes.{StringAt, IriTextAt, IriAt, iri}

@@ -5,7 +5,7 @@ use Rattle.std.specs.Char.{to_ascii_lowercase}
 use Rattle.iris.specs.Iri.{is_letter, is_digit}
 use Rattle.iris.specs.Runs.{Stops}
 use Rattle.iris.specs.Forms.{is_tag, is_label_byte, is_label}
-use Rattle.terms.specs.Literal.{xsd_string, lang_string}
+use Rattle.terms.specs.Vocabulary.{xsd_string, lang_string}
 use Rattle.terms.specs.declared.term.Term.{Term}
 use Rattle.terms.specs.declared.term.Term.TheVariants as term
 use Rattle.nquads_lines.specs.Escapes.{StringAt, IriAt}

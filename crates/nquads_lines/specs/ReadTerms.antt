@@ -6,7 +6,7 @@ use Rattle.std.specs.Cmp.Lexicographic.{pointwise}
 use Rattle.iris.specs.Runs.{run_of, rest_of}
 use Rattle.iris.specs.Forms.{is_tag, is_label_byte, is_label}
 use Rattle.iris.specs.Bracketed.{◌>>=◌}
-use Rattle.terms.specs.Literal.{xsd_string, lang_string}
+use Rattle.terms.specs.Vocabulary.{xsd_string, lang_string}
 use Rattle.terms.specs.declared.term.Term.{Term}
 use Rattle.terms.specs.declared.term.Term.TheVariants as term
 use Rattle.nquads_lines.specs.Forms.{is_tag_byte, literal}

@@ -5,7 +5,7 @@ ghost use Rattle.std.specs.List.{prefix_len};
 ghost use Rattle.iris.specs.Iri.{IsIri};
 ghost use Rattle.iris.specs.Forms.{is_label_byte};
 ghost use Rattle.iris.specs.Runs.{run_of, rest_of};
-ghost use Rattle.terms.specs.Literal.{xsd_string, lang_string};
+ghost use Rattle.terms.specs.Vocabulary.{xsd_string, lang_string};
 ghost use Rattle.nquads_lines.specs.Forms.{is_tag_byte, literal};
 ghost use Rattle.nquads_lines.specs.ReadTerms.{begins_with, label_of, blank_at, tagged, typed, suffix_at, literal_at, subject_at, object_at};
 ghost use Rattle.nquads_lines.specs.Reading.{Gives};
@@ -16,6 +16,7 @@ use crate::stop::Stop;
 use iris::Iri;
 use iris::laws::run_by_length;
 use std::alloc::{AllocError, Global};
+use terms::vocabulary::{RDF_LANG_STRING, XSD_STRING};
 use terms::{Blank, Literal, Term, TermCow};
 
 fn is_label_byte(b: u8) -> bool
@@ -100,7 +101,7 @@ fn lowered(alloc: Global, tag: &str) -> Result<String, AllocError>
 fn xsd_string(alloc: Global) -> Result<Iri, AllocError>
     ensures { IfOk result (λ iri. iri ≡ xsd_string) }
 {
-    match Iri::check(alloc, "http://www.w3.org/2001/XMLSchema#string")? {
+    match Iri::check(alloc, XSD_STRING)? {
         Some(iri) => Ok(iri),
         None => unreachable!(),
     }
@@ -110,10 +111,7 @@ fn lang_string(alloc: Global) -> Result<Iri, AllocError>
     ensures text { IfOk result (λ iri. iri ≡ lang_string) }
     ensures form { IfOk result (λ _. IsIri lang_string) }
 {
-    match Iri::check(
-        alloc,
-        "http://www.w3.org/1999/02/22-rdf-syntax-ns#langString",
-    )? {
+    match Iri::check(alloc, RDF_LANG_STRING)? {
         Some(iri) => Ok(iri),
         None => unreachable!(),
     }
