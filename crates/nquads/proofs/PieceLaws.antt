@@ -4,7 +4,6 @@ use Rattle.std.proofs.Common.{◌≡◌, ℕ, true, false, cond, eqb, List, [], 
 use Rattle.std.proofs.lemmas.List.{append-nil}
 use Rattle.std.specs.List.{onto_first}
 use Rattle.std.specs.Option.{option_to_list}
-use Rattle.datasets.specs.declared.quad.Quad.{Quad}
 use Rattle.datasets.specs.Dataset.{Dataset}
 use Rattle.terms.specs.declared.term.Term.{Term}
 use Rattle.terms.specs.DataSet.{dataset_of, united, ListsUnite}
@@ -12,7 +11,7 @@ use Rattle.nquads_lines.specs.declared.stop.Line.{Line}
 use Rattle.nquads_lines.specs.declared.stop.Line.TheVariants.{Nothing, Graph, Statement}
 use Rattle.nquads_lines.specs.Lines.{lines, lines_after}
 use Rattle.nquads_lines.specs.Line.{IsLine, nothing, at_end}
-use Rattle.nquads_lines.specs.Reading.{line_of, LinesAreRead}
+use Rattle.nquads_lines.specs.Reading.{LinesAreRead}
 use Rattle.nquads.specs.Spelled.{AreLines, none, more, stated, declared, Spells}
 use Rattle.nquads.specs.Pieces.{ArePieces}
 

@@ -12,8 +12,8 @@ use dataset_builder::DatasetBuilder;
 use nquads_lines::laws::lines_are_read;
 use nquads_lines::{Line, Stop, first_line, line_of};
 use std::alloc::{AllocError, Global};
-use terms::laws::lists_grow_as_datasets;
 use terms::DataSet;
+use terms::laws::lists_grow_as_datasets;
 
 /// Puts what a line says into the dataset.
 fn keep<'a>(dataset: &mut DatasetBuilder<'a>, said: Line<'a>) -> Result<(), AllocError>

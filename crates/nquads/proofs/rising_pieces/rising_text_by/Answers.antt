@@ -1,6 +1,6 @@
 use Rattle.std.specs.HashSet.{contains}
 use Rattle.std.specs.Prelude.{not, nat_eq, IfSome}
-use Rattle.std.proofs.Common.{[], ◌++◌, ℕ, List, Some, Option, map, filter, subst, arith}
+use Rattle.std.proofs.Common.{[], ◌++◌, ℕ, List, Option, map, filter, subst, arith}
 use Rattle.std.proofs.lemmas.Bool.Decides.{nat_tests}
 use Rattle.nquads.specs.Placed.{graph_line_at, quad_text_at}
 use Rattle.nquads.specs.Rising.{IsRising}
