@@ -1,11 +1,12 @@
 //! Requests over a base, and over a source whose answers are of the wrong kind.
 use crate::numbers::{numbered, request_at, tell, tell_quads};
+use asking::ask_all;
 use datasets::{Answer, Read};
 use delta::{Delta, Finished};
 use dict::{Dict, Id};
 use meaning::{Cause, Refusal, Reply, Request};
 use numbering::Numbered;
-use reads::{Answered, Source, Stop};
+use reads::{Answered, Note, Source, Stop};
 use std::alloc::{AllocError, Global};
 use std::test::Fail;
 use update::execute;
@@ -318,6 +319,34 @@ fn refused_requests_ask_nothing(rt: HostRuntime) -> Result<(), Fail> {
     let refused = run_on_lies(rt.alloc(), &none, 0);
     assert!(rt;
         matches!(&refused, Ok(run) if run.reply == Reply::Refused(Refusal::Syntax) && run.transcript.is_empty())
+    );
+    Ok(())
+}
+
+// What is asked of a source that answers two reads, each of them wrongly, and its notes.
+fn asked_of_liar(alloc: Global, reads: &[Read<Id>]) -> (Result<(), Stop>, Vec<Note>) {
+    let mut liar = Liar { alloc, left: 2 };
+    let mut notes = Vec::new(alloc);
+    let asked = ask_all(reads, &mut liar, &mut notes);
+    (asked, notes)
+}
+
+#[test]
+fn many_reads_are_noted_in_order(rt: HostRuntime) -> Result<(), Fail> {
+    let graph = Read::GraphIs(Id::Known(3));
+    let (asked, notes) = asked_of_liar(rt.alloc(), &[Read::Graphs, graph]);
+    assert!(rt; asked == Ok(()));
+    assert!(rt;
+        matches!(notes.as_slice(), [first, second] if first.read == Read::Graphs && second.read == graph)
+    );
+    let (asked, notes) = asked_of_liar(rt.alloc(), &[graph, Read::Graphs, graph]);
+    assert!(rt; asked == Err(Stop::Blocked(3)));
+    assert!(rt;
+        notes
+            .as_slice()
+            .iter()
+            .all(|note| note.answer.quads() == Some(&[]))
+            && notes.len() == 2
     );
     Ok(())
 }
