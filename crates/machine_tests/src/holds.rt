@@ -66,18 +66,38 @@ fn reads_all<'a, R: Wait>(
     shared.read_all(rt, alloc, &mut pass, 1, 0, &reads, &[quads, names], replies)
 }
 
-// What two workers are told so, each with how many quads or names it was answered.
-fn told<R: Wait>(rt: &R, alloc: Global, topic: &Topic<'_>) -> Result<Vec<(Told, u64)>, AllocError>
+// The replies to two workers that do so, one after the other.
+fn replies_to_both<'a, R: Wait>(
+    rt: &R,
+    alloc: Global,
+    shared: &SharedBlock<'a>,
+    topic: &Topic<'a>,
+    first: Pass<'a>,
+    second: Pass<'a>,
+) -> Result<Vec<Reply>, AllocError>
+    requires first { IsPassFor (record { table = shared.now; subject = topic.now }) first }
+    requires second { IsPassFor (record { table = shared.now; subject = topic.now }) second }
+{
+    let mut replies = Vec::new(alloc);
+    settles(rt, alloc, shared, topic, first, &mut replies)?;
+    reads_all(rt, alloc, shared, topic, second, &mut replies)?;
+    Ok(replies)
+}
+
+// The replies to the two workers of a book.
+fn replies_of<R: Wait>(rt: &R, alloc: Global, topic: &Topic<'_>) -> Result<Vec<Reply>, AllocError>
     requires { IsDataset topic.now.base }
 {
     let (shared, mut passes) = opened(alloc, topic, 2)?;
     let first = last(&shared, topic, &mut passes);
     let second = last(&shared, topic, &mut passes);
-    let mut replies = Vec::new(alloc);
-    settles(rt, alloc, &shared, topic, first, &mut replies)?;
-    reads_all(rt, alloc, &shared, topic, second, &mut replies)?;
+    replies_to_both(rt, alloc, &shared, topic, first, second)
+}
+
+// What is told, each with how many quads or names were answered.
+fn told(alloc: Global, replies: &[Reply]) -> Result<Vec<(Told, u64)>, AllocError> {
     let mut told = Vec::new(alloc);
-    for reply in &replies {
+    for reply in replies {
         let answered = match reply {
             Reply::Answered(answer) => count(answer),
             _ => 0,
@@ -85,6 +105,24 @@ fn told<R: Wait>(rt: &R, alloc: Global, topic: &Topic<'_>) -> Result<Vec<(Told, 
         told.push((told_by(reply), answered))?;
     }
     Ok(told)
+}
+
+const EXPECTED: [(Told, u64); 6] = [
+    (Told::Begun, 0),
+    (Told::Passed, 0),
+    (Told::Committed, 0),
+    (Told::NotYet, 0),
+    (Told::Answered, 1),
+    (Told::Answered, 0),
+];
+
+// Whether the two workers are told so.
+fn are_expected<R: Wait>(rt: &R, alloc: Global, topic: &Topic<'_>) -> Result<bool, AllocError>
+    requires { IsDataset topic.now.base }
+{
+    let replies = replies_of(rt, alloc, topic)?;
+    let told = told(alloc, replies.as_slice())?;
+    Ok(told.as_slice() == EXPECTED.as_slice())
 }
 
 #[test]
@@ -97,15 +135,6 @@ fn many_events_in_one_hold(rt: HostRuntime) -> Result<(), Fail> {
         base: &base,
         block: &numbered.block,
     };
-    let expected = [
-        (Told::Begun, 0),
-        (Told::Passed, 0),
-        (Told::Committed, 0),
-        (Told::NotYet, 0),
-        (Told::Answered, 1),
-        (Told::Answered, 0),
-    ];
-    let told = told(&rt, alloc, &topic)?;
-    assert!(rt; told.as_slice() == expected.as_slice());
+    assert!(rt; are_expected(&rt, alloc, &topic)?);
     Ok(())
 }

@@ -10,8 +10,9 @@ use numbering::{Numbered, number};
 use rules::{Block, split};
 use std::alloc::{AllocError, Global};
 use std::test::Fail;
+use std::thread::Threads;
 use store::{Alone, Together};
-use terms::{Term, canonical};
+use terms::{DataSet, Term, canonical};
 
 // A base and a block that is read at numbers.
 fn numbered_over(alloc: Global, base: &str, block: &Block) -> Result<Numbered, BaseFault> {
@@ -125,21 +126,63 @@ fn falling(alloc: Global, quads: u32) -> Result<Vec<u8>, AllocError> {
     Ok(text)
 }
 
+fn by_one(alloc: Global, base: &DataSet, block: &Block) -> Result<Numbered, AllocError> {
+    number(&Alone, alloc, base, block)
+}
+
+fn by_threads<T: Threads + Sync>(
+    rt: &T,
+    alloc: Global,
+    base: &DataSet,
+    block: &Block,
+) -> Result<Numbered, AllocError> {
+    number(&Together::new(rt), alloc, base, block)
+}
+
+// Whether the two have one dataset, of so many quads, with the same numbers of the same terms.
+fn are_alike(
+    alloc: Global,
+    one: &Numbered,
+    other: &Numbered,
+    quads: usize,
+) -> Result<bool, AllocError> {
+    let first = one.base.dataset().copied(alloc)?;
+    let second = other.base.dataset().copied(alloc)?;
+    Ok(
+        first.quads().len() == quads
+            && first.quads() == second.quads()
+            && first.names() == second.names()
+            && one.base.terms().terms() == other.base.terms().terms()
+            && one.base.tag() == other.base.tag(),
+    )
+}
+
+// Whether one thread and several give the same numbers.
+fn are_numbered_alike<T: Threads + Sync>(
+    rt: &T,
+    alloc: Global,
+    base: &DataSet,
+    block: &Block,
+    quads: usize,
+) -> Result<bool, AllocError> {
+    let one = by_one(alloc, base, block)?;
+    let other = by_threads(rt, alloc, base, block)?;
+    are_alike(alloc, &one, &other, quads)
+}
+
+// A base of so many quads.
+fn falling_base(alloc: Global, quads: u32) -> Result<DataSet, BaseFault> {
+    let text = falling(alloc, quads)?;
+    read_bytes(alloc, text.as_slice())
+}
+
+const MOVED: &[u8] = b"INSERT { ?s <x:q> 7 } WHERE { GRAPH <x:g0> { ?s <x:p> ?o } }";
+
 #[test]
 fn numbered_by_threads(rt: HostRuntime) -> Result<(), Fail> {
     let alloc = rt.alloc();
-    let base = read_bytes(alloc, falling(alloc, 12_000)?.as_slice())?;
-    let block = split(
-        alloc,
-        b"INSERT { ?s <x:q> 7 } WHERE { GRAPH <x:g0> { ?s <x:p> ?o } }",
-    )?;
-    let by_one = number(&Alone, alloc, &base, &block)?;
-    let by_threads = number(&Together::new(&rt), alloc, &base, &block)?;
-    assert!(rt; by_one.base.terms().terms() == by_threads.base.terms().terms());
-    let one = by_one.base.dataset().copied(alloc)?;
-    let other = by_threads.base.dataset().copied(alloc)?;
-    assert!(rt; one.quads().len() == 12_000);
-    assert!(rt; one.quads() == other.quads() && one.names() == other.names());
-    assert!(rt; by_one.base.tag() == by_threads.base.tag());
+    let base = falling_base(alloc, 12_000)?;
+    let block = split(alloc, MOVED)?;
+    assert!(rt; are_numbered_alike(&rt, alloc, &base, &block, 12_000)?);
     Ok(())
 }
