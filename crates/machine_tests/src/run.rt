@@ -1,7 +1,7 @@
 //! The steps of workers at a book.
 ghost use Rattle.std.specs.Prelude.{◌≡◌, ◌<◌, Some, slice_get, IfSome};
 ghost use Rattle.update.specs.Asked.{IsShort};
-ghost use Rattle.book.specs.Run.{IsSoundEvent};
+ghost use Rattle.book.specs.Run.{IsSoundEvent, Run};
 
 use crate::lines::Step;
 use crate::numbers::request_at;
@@ -107,6 +107,21 @@ fn publish<'a>(alloc: Global, book: Book<'a>, turn: Turn) -> Result<(Book<'a>, R
     Ok((book, reply))
 }
 
+// The event of a step that publishes no run and reads nothing.
+fn event_of(step: Step) -> Option<Event>
+    ensures { (book : Run) → IfSome result (IsSoundEvent book) }
+{
+    match step {
+        Step::Publish(_, _) | Step::Read(_, _) => None,
+        Step::Take(i) => Some(Event::Take(i)),
+        Step::PublishNothing(i, n) => Some(Event::Publish(i, n, None)),
+        Step::Begin(i, n) => Some(Event::Begin(i, n)),
+        Step::Check(i, n) => Some(Event::Check(i, n)),
+        Step::Commit(i) => Some(Event::Commit(i)),
+        Step::GiveUp(i, n) => Some(Event::GiveUp(i, n)),
+    }
+}
+
 /// A worker's step.
 pub fn play<'a>(
     alloc: Global,
@@ -114,22 +129,17 @@ pub fn play<'a>(
     worker: u32,
     step: Step,
 ) -> Result<(Book<'a>, Reply), AllocError> {
-    let told = match step {
-        Step::Publish(place, incarnation) => {
-            let turn = Turn {
-                worker,
-                place,
-                incarnation,
-            };
-            return publish(alloc, book, turn);
-        }
-        Step::Read(_, _) => return Ok((book, Reply::Stale)),
-        Step::Take(i) => book.step(alloc, worker, &Event::Take(i)),
-        Step::PublishNothing(i, n) => { book.step(alloc, worker, &Event::Publish(i, n, None)) }
-        Step::Begin(i, n) => book.step(alloc, worker, &Event::Begin(i, n)),
-        Step::Check(i, n) => book.step(alloc, worker, &Event::Check(i, n)),
-        Step::Commit(i) => book.step(alloc, worker, &Event::Commit(i)),
-        Step::GiveUp(i, n) => book.step(alloc, worker, &Event::GiveUp(i, n)),
+    if let Step::Publish(place, incarnation) = step {
+        let turn = Turn {
+            worker,
+            place,
+            incarnation,
+        };
+        return publish(alloc, book, turn);
+    }
+    let Some(event) = event_of(step) else {
+        return Ok((book, Reply::Stale));
     };
+    let told = book.step(alloc, worker, &event);
     Ok((book, told?))
 }
