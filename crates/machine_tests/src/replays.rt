@@ -36,7 +36,26 @@ fn replayed_text(
         return Ok(None);
     }
     let book = replay(alloc, numbered.base.terms(), base, block, lines)?;
-    Ok(Some(text_of(alloc, &book)?))
+    let text = text_of(alloc, &book);
+    drop(book);
+    Ok(Some(text?))
+}
+
+// Whether the journal of a book has this text, and is replayed to a book whose journal has it too.
+fn is_replayed(
+    alloc: Global,
+    numbered: &Numbered,
+    base: &IndexedView,
+    book: &Book<'_>,
+    journal: &str,
+) -> Result<bool, JournalFault>
+    requires { IsDataset base.now }
+{
+    let lines = lines_of(alloc, book)?;
+    let again = replayed_text(alloc, numbered, base, lines.as_slice())?;
+    drop(lines);
+    let text = text_of(alloc, book)?;
+    Ok(text.as_slice() == journal.as_bytes() && again == Some(text))
 }
 
 // Whether the journal of a walk over an empty base has its text, and is replayed to a book whose journal has it too.
@@ -45,10 +64,9 @@ fn replays(rt: &impl Abort, alloc: Global, base: &IndexedView, walk: &Walk) -> R
 {
     let numbered = numbered(alloc, "", walk.block)?;
     let book = walked(rt, alloc, &numbered, base, walk.lines)?;
-    let lines = lines_of(alloc, &book)?;
-    let again = replayed_text(alloc, &numbered, base, lines.as_slice())?;
-    let text = text_of(alloc, &book)?;
-    Ok(text.as_slice() == walk.journal.as_bytes() && again == Some(text))
+    let is_replayed = is_replayed(alloc, &numbered, base, &book, walk.journal);
+    drop(book);
+    Ok(is_replayed?)
 }
 
 #[test]
@@ -223,8 +241,9 @@ fn told(rt: &impl Abort, alloc: Global, base: &IndexedView, choice: &Choice) -> 
 {
     let numbered = numbered(alloc, "", choice.block)?;
     let mut book = walked(rt, alloc, &numbered, base, choice.lines)?;
-    let reply = book.check_as(alloc, 2, choice.place, 0, choice.passed)?;
-    Ok(told_by(&reply))
+    let reply = book.check_as(alloc, 2, choice.place, 0, choice.passed);
+    drop(book);
+    Ok(told_by(&reply?))
 }
 
 #[test]

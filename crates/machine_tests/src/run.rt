@@ -103,8 +103,8 @@ fn publish<'a>(alloc: Global, book: Book<'a>, turn: Turn) -> Result<(Book<'a>, R
         return Ok((book, Reply::Stale));
     };
     let event = Event::Publish(turn.place, turn.incarnation, Some(run));
-    let reply = book.step_owned(alloc, turn.worker, event)?;
-    Ok((book, reply))
+    let reply = book.step_owned(alloc, turn.worker, event);
+    Ok((book, reply?))
 }
 
 // The event of a step that publishes no run and reads nothing.
