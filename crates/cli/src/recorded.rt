@@ -58,9 +58,10 @@ fn recorded<T: Threads + Wait + Sync>(
     let book = run_book(rt, alloc, terms, dataset, block, workers, &Open)?;
     // (for the proof: it is a history)
     let _journal = book.journal();
-    let outcome = book.outcome(alloc)?;
-    let lines = lines_of(alloc, &book)?;
+    let found = book.outcome(alloc);
+    let printed = lines_of(alloc, &book);
     drop(book);
+    let (outcome, lines) = (found?, printed?);
     let journal = write_lines(alloc, lines.as_slice(), base.tag())?;
     Ok(Record { outcome, journal })
 }
