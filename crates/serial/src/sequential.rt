@@ -52,7 +52,7 @@ fn answer(
 {
     let run = finished(alloc, terms, place, request, current)?;
     let reply = run.reply;
-    current.push(alloc, run.delta)?;
+    current.push(alloc, &run.delta)?;
     Ok(reply)
 }
 
@@ -65,7 +65,7 @@ pub fn run(alloc: Global, base: &Base, block: &[Request<Id>]) -> Result<Outcome,
     ensures run { IfOk result (λ outcome. (outcome.dataset, outcome.replies)
         ≡ run_of (numbers base.now.terms) block.now base.now.dataset) }
 {
-    let mut current = Current::new(alloc, base.dataset());
+    let mut current = Current::new(alloc, base.dataset())?;
     let mut replies = Items::new(alloc);
     for place in 0..block.len() {
         let reply = answer(

@@ -8,8 +8,8 @@ use Rattle.serial.proofs.sequential.run.Goals as goal
 
 pub loop-place-init : goal.loop-place-init
 loop-place-init c = record {
-  dataset = subst (λ (d : View). IsDataset d) (sym c.new-current.ensures) c.dataset.ensures.dataset;
-  so_far = λ t. ((c.new-current.ensures ∙ c.dataset.ensures.value) t, c.new-replies.ensures t);
+  dataset = subst (λ (d : View). IsDataset d) (sym c.in_ok-current.ensures) c.dataset.ensures.dataset;
+  so_far = λ t. ((c.in_ok-current.ensures ∙ c.dataset.ensures.value) t, c.new-replies.ensures t);
 }
 
 pub answer-requires-clause-short : goal.answer-requires-clause-short
