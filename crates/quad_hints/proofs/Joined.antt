@@ -1,7 +1,6 @@
 -- Joining the last two of the runs keeps what any test finds.
 use Rattle.std.specs.Prelude.{Bool, ◌||◌}
 use Rattle.std.proofs.Common.{◌≡◌, ℕ, ◌+◌, true, false, suc, zero, List, [], ◌∷◌, ◌++◌, refl, sym, ap, ◌∙◌, length, take, set, get_or, arith}
-use Rattle.std.proofs.lemmas.Bool.{false≢true, or_parts}
 use Rattle.std.proofs.lemmas.List.Folds.{list_any-append}
 use Rattle.std.specs.List.{list_any}
 use Rattle.quad_hints.specs.declared.hint.Hint.{Hint}
@@ -49,54 +48,6 @@ pub popped : (p : Hint → Bool) (r d : Run) (xs ys : List Run) (n k : ℕ) → 
 popped p r d xs ys n k e f l h =
     ap (λ zs. list_any p (all_entries zs)) (e ∙ ap (λ j. take j (set xs n r)) f) ∙ joined_last p r d xs n l h
 
--- ---- hints that are in the orders, and those that aren't yet
-
 pub either : (a b : Bool) {X : Type 0} → (a || b) ≡ true → (a ≡ true → X) → (b ≡ true → X) → X
 either true b e f g = f refl
 either false b e f g = g e
-
-or_right : (a b : Bool) → b ≡ true → (a || b) ≡ true
-or_right true b e = refl
-or_right false b e = e
-
-or_left : (a b : Bool) → a ≡ true → (a || b) ≡ true
-or_left true b e = refl
-or_left false b e = absurd (false≢true e)
-
-or_none : (a b : Bool) → a ≡ false → b ≡ false → (a || b) ≡ false
-or_none true b e f = absurd (false≢true (sym e))
-or_none false b e f = f
-
-module _ (p : Hint → Bool) where
-  pub tail_added : (xs ys : List Hint) (h : Hint) → p h ≡ true → list_any p (xs ++ (ys ++ h ∷ [])) ≡ true
-  tail_added xs ys h e =
-      list_any-append p xs (ys ++ h ∷ []) ∙ or_right (list_any p xs) _ (list_any-append p ys (h ∷ []) ∙ or_right (list_any p ys) _ (or_left (p h) false e))
-
-  pub tail_kept : (xs ys : List Hint) (h : Hint) → list_any p (xs ++ ys) ≡ true → list_any p (xs ++ (ys ++ h ∷ [])) ≡ true
-  tail_kept xs ys h e =
-      list_any-append p xs (ys ++ h ∷ []) ∙ either (list_any p xs) (list_any p ys) (sym (list_any-append p xs ys) ∙ e) (λ a. or_left (list_any p xs) _ a)
-      (λ b. or_right (list_any p xs) _ (list_any-append p ys (h ∷ []) ∙ or_left (list_any p ys) _ b))
-
-  pub tail_only : (xs ys : List Hint) (h : Hint) → list_any p (xs ++ ys) ≡ false → p h ≡ false → list_any p (xs ++ (ys ++ h ∷ [])) ≡ false
-  tail_only xs ys h e f =
-      let parts = or_parts (list_any p xs) (list_any p ys) (sym (list_any-append p xs ys) ∙ e) in
-      list_any-append p xs (ys ++ h ∷ []) ∙ or_none _ _ parts.0 (list_any-append p ys (h ∷ []) ∙ or_none _ _ parts.1 (or_none (p h) false f refl))
-
-  -- hints that come out of the tail are in the orders
-
-  module _ (xs ys tail tail' : List Hint) where
-    pub settled_kept : (list_any p tail ≡ true → list_any p ys ≡ true) → (list_any p xs ≡ true → list_any p ys ≡ true) → list_any p (xs ++ tail) ≡ true → list_any p (ys ++ tail') ≡ true
-    settled_kept added kept e =
-        list_any-append p ys tail' ∙ or_left (list_any p ys) _ (either (list_any p xs) (list_any p tail) (sym (list_any-append p xs tail) ∙ e) kept added)
-
-    pub settled_only : (list_any p xs ≡ false → list_any p tail ≡ false → list_any p ys ≡ false) → (list_any p tail ≡ false → list_any p tail' ≡ false) → list_any p (xs ++ tail) ≡ false → list_any p (ys ++ tail') ≡ false
-    settled_only only fewer e =
-        let parts = or_parts (list_any p xs) (list_any p tail) (sym (list_any-append p xs tail) ∙ e) in
-        list_any-append p ys tail' ∙ or_none _ _ (only parts.0 parts.1) (fewer parts.1)
-
-    -- nothing could be put into the orders, but for some of them
-
-    pub unsettled_kept : tail' ≡ tail → (list_any p xs ≡ true → list_any p ys ≡ true) → list_any p (xs ++ tail) ≡ true → list_any p (ys ++ tail') ≡ true
-    unsettled_kept same kept e =
-        list_any-append p ys tail' ∙ either (list_any p xs) (list_any p tail) (sym (list_any-append p xs tail) ∙ e) (λ a. or_left (list_any p ys) _ (kept a))
-        (λ b. or_right (list_any p ys) _ (ap (list_any p) same ∙ b))

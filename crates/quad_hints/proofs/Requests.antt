@@ -1,8 +1,8 @@
 -- The requests that the hints of sorted runs and of a tail name.
 use Rattle.std.specs.Prelude.{Bool, true, false, cond, ◌&&◌, ◌||◌, ◌==◌, filter, map}
 use Rattle.std.specs.List.{list_any}
-use Rattle.std.proofs.Common.{◌≡◌, ◌+◌, ◌<◌, ◌≤◌, ℕ, List, [], ◌∷◌, ◌++◌, refl, sym, ap, ◌∙◌, length, drop, get_or}
-use Rattle.std.proofs.lemmas.List.{map-append, append_assoc, drop_more, drop_all}
+use Rattle.std.proofs.Common.{◌≡◌, ◌+◌, ◌<◌, ℕ, List, [], ◌∷◌, ◌++◌, refl, sym, ap, ◌∙◌, length, drop, get_or}
+use Rattle.std.proofs.lemmas.List.{map-append, append_assoc, drop_more}
 use Rattle.std.proofs.lemmas.Bool.{false≢true}
 use Rattle.std.proofs.lemmas.List.Elements.{filter-append}
 use Rattle.std.proofs.lemmas.List.Folds.{list_any-append}
@@ -34,13 +34,6 @@ module _ (p : QuadPattern Id) (runs : List Run) (found next all : List ℕ) (k :
       ∙ ap (λ (zs : List ℕ). found ++ zs) (sym (named-append p (hints_in x.hints) (all_entries (drop (k + 1) runs))))
       ∙ ap (λ (rs : List Run). found ++ named_by p (all_entries rs)) (ap (λ (y : Run). y ∷ drop (k + 1) runs) is ∙ sym (drop_more runs k x lt))
       ∙ so_far
-
-  pub runs_done : length runs ≤ k → found ≡ all
-  runs_done le = sym (append-nothing found) ∙ ap (λ (rs : List Run). found ++ named_by p (all_entries rs)) (sym (drop_all k runs le)) ∙ so_far
-    where
-      append-nothing : (xs : List ℕ) → xs ++ [] ≡ xs
-      append-nothing [] = refl
-      append-nothing (x ∷ xs) = ap (λ ys. x ∷ ys) (append-nothing xs)
 
 -- what is kept of hints in little memory
 

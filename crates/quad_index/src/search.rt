@@ -12,7 +12,7 @@ ghost use Rattle.quad_index.specs.Keys.{key_order, key_of, order_at, is_before a
 use crate::key::{Arrangement, Depth, Key, is_before};
 use datasets::{Id, Quad, QuadPattern};
 
-/// What has a quad.
+/// What has a quad, by which it is sorted and looked for: a quad itself, or one with more beside it.
 pub trait Entry {
     ghost quad: { Self → Spoken Number };
 
