@@ -342,7 +342,8 @@ def add_wrong_bodies(work, crate, waits_for, is_due=lambda crate: True):
         tell(crate, results)
         return results, f"{len(results)} wrong bodies of {crate.name}, {seconds:.0f} s of a processor"
 
-    work.add(crate, "wrong bodies", waits_for, crate.count(rb"\n"), call)
+    # each of several checks reads the libraries below anew, so crates that stand on many are dear, and are begun early
+    work.add(crate, "wrong bodies", waits_for, crate.count(rb"\n") + 60 * len(crate.below()), call)
 
 
 def has_wrong_bodies(crate):
