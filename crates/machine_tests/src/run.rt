@@ -93,6 +93,19 @@ fn executed<'a>(
     }
 }
 
+// Publishes the run of a turn.
+fn publish_run(
+    alloc: Global,
+    book: &mut Book<'_>,
+    turn: Turn,
+    run: Finished,
+) -> Result<Reply, AllocError>
+    requires { IsSoundEvent book.old (Event.Publish turn.place turn.incarnation (Some run)) }
+{
+    let event = Event::Publish(turn.place, turn.incarnation, Some(run));
+    book.step_owned(alloc, turn.worker, event)
+}
+
 // Runs the request of a turn and publishes the run.
 fn publish<'a>(alloc: Global, book: Book<'a>, turn: Turn) -> Result<(Book<'a>, Reply), AllocError> {
     let Some(request) = request_at(book.block(), turn.place) else {
@@ -102,8 +115,7 @@ fn publish<'a>(alloc: Global, book: Book<'a>, turn: Turn) -> Result<(Book<'a>, R
     let Some(run) = run else {
         return Ok((book, Reply::Stale));
     };
-    let event = Event::Publish(turn.place, turn.incarnation, Some(run));
-    let reply = book.step_owned(alloc, turn.worker, event);
+    let reply = publish_run(alloc, &mut book, turn, run);
     Ok((book, reply?))
 }
 
