@@ -35,7 +35,10 @@ impl<'a> Model for DatasetBuilder<'a> {
 }
 
 /// Puts in these quads.
-fn add_all<'a>(placed: &mut PlacedDataset<'a>, quads: Vec<Quad<TermCow<'a>>>) -> Result<(), AllocError>
+fn add_all<'a>(
+    placed: &mut PlacedDataset<'a>,
+    quads: Vec<Quad<TermCow<'a>>>,
+) -> Result<(), AllocError>
     ensures { OnOk result (placed.new ≡ with_quads placed.old quads.entry.items) }
 {
     let guesses = placed.guesses_of(quads.as_slice())?;

@@ -145,7 +145,11 @@ impl<'a> PlacedDataset<'a> {
     }
 
     /// Puts in a quad, and the name of its graph. An `Err`, which comes only where memory runs out, leaves the dataset as it was.
-    pub(crate) fn add(&mut self, quad: Quad<TermCow<'a>>, guesses: Guesses) -> Result<(), AllocError>
+    pub(crate) fn add(
+        &mut self,
+        quad: Quad<TermCow<'a>>,
+        guesses: Guesses,
+    ) -> Result<(), AllocError>
         ensures ok { OnOk result (self.new ≡ with_quad quad.entry self.old) }
         ensures err { OnErr result (self.new ≡ self.old) }
     {
@@ -172,7 +176,10 @@ impl<'a> PlacedDataset<'a> {
     }
 
     /// Where the subjects and the objects of these quads may be found.
-    pub(crate) fn guesses_of(&self, quads: &[Quad<TermCow<'a>>]) -> Result<Vec<Guesses>, AllocError> {
+    pub(crate) fn guesses_of(
+        &self,
+        quads: &[Quad<TermCow<'a>>],
+    ) -> Result<Vec<Guesses>, AllocError> {
         guesses_of(self.alloc, &self.known, quads)
     }
 }
