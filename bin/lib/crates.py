@@ -70,6 +70,15 @@ def with_those_below(crates):
     return sorted(found, key=lambda it: (len(it.below()), it.name))
 
 
+def is_all_read():
+    """Whether each text of Rattle in the repository is one that the check of a crate reads, without which the gate proves nothing. It says which is not."""
+    try:
+        rtlib.stop_on_unread(ROOT, named())
+    except SystemExit:
+        return False
+    return True
+
+
 def is_stopped(crate):
     """Whether the gate stops at the crate's text before it proves anything, as at a module that has a library's name. It says why."""
     try:

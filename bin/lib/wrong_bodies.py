@@ -1,12 +1,11 @@
 """Wrong bodies of crates, the edits crates/NAME/wrong-bodies/*.edit, each of which the prover must refuse.
 
 A proof is modular: the goals of a function rest on the contracts of what it calls, and not on their bodies. So the edits of different functions
-stand in one copy of their crate, which is checked once, and an edit counts as refused only where a goal of its own function, or of a closure in
-it, is reported. That a function calls one that is not proved says nothing. An edit of which such a check tells nothing, or that no other can
-stand beside, goes into another copy, in the end alone. An edit that cannot be applied or read, or that is still proved, fails.
+stand in one copy of their crate, in which the other functions are emptied, which is checked once, and an edit counts as refused only where a goal
+of its own function, or of a closure in it, is reported. That a function calls one that is not proved says nothing. An edit of which such a check
+tells nothing, or that no other can stand beside, goes into another copy, in the end alone with nothing emptied. An edit that cannot be applied or
+read, or that is still proved, fails.
 """
-import bisect
-import json
 import os
 import re
 import shutil
@@ -15,131 +14,13 @@ import tempfile
 from dataclasses import dataclass
 
 from crates import rt, rtlib
+from functions import empty_others, module_of, places, sources_of, spans_in
 
 OPEN = "an open goal"
 BY_TYPE = "a hand-written answer of another type"
 BY_NAME = "a hand-written answer names what it took away"
 UNREACHED = "BAD EDIT: the check did not come to the proofs"
 PROVED = "NOT REFUSED: it is still proved"
-
-
-def module_of(file):
-    """The module that a source file is, as a path by slashes: nothing for the crate's root."""
-    inside = file.removeprefix("src/").removesuffix(".rt")
-    return "" if inside in ("lib", "main") else inside
-
-
-@dataclass(frozen=True)
-class Function:
-    """A function of a source file, by the header of the block that it stands in, its name, and which of that name there it is."""
-
-    file: str
-    block: str
-    name: str
-    number: int
-
-    def path(self):
-        """Its path for `rattle check --only`. A method has its type's path, which may stand in another module; one of a trait's impl is asked for with its module."""
-        place = module_of(self.file).split("/") if module_of(self.file) else []
-        if not self.block:
-            return "::".join([*place, self.name])
-        of_type = re.fullmatch(r"impl(<.*?>)? ?(\w+)( ?<.*>)?", self.block)
-        return f"{of_type[2]}::{self.name}" if of_type else "::".join(place)
-
-
-@dataclass
-class Span:
-    """Where a function stands in its file, by line and column, from what follows the item before it to its last brace."""
-
-    function: Function
-    start: tuple
-    end: tuple
-
-    def text(self, whole):
-        """The lines of the file's text in which the function stands."""
-        return "\n".join(whole.split("\n")[self.start[0] - 1 : self.end[0]])
-
-
-def tokens_of(folder, files):
-    """The tokens of the files that are code, and the ends of clauses, for each file: the byte where each begins and ends, its kind and its text."""
-    if not files:
-        return {}
-    ran = subprocess.run([rtlib.RATTLE, "fmt", "--tokens", *files], cwd=folder, capture_output=True, text=True)
-    parts = re.split(r"(?m)^file \d+\n", ran.stdout)[1:]
-    if ran.returncode or len(parts) != len(files):
-        return None
-    row = re.compile(r'(?m)^\d+ (\d+) (\d+) (Code|Head|End|Literal) (".*")$')
-    return {file: [(int(it[1]), int(it[2]), it[3], json.loads(it[4])) for it in row.finditer(part)] for file, part in zip(files, parts)}
-
-
-def places(text):
-    """A function from a byte of the text to its line and column, both from 1."""
-    lines, at = [0], 0
-    for line in text.split("\n"):
-        at += len(line.encode()) + 1
-        lines.append(at)
-    data = text.encode()
-
-    def place(byte):
-        line = bisect.bisect_right(lines, byte)
-        return line, len(data[lines[line - 1] : byte].decode(errors="replace")) + 1
-
-    return place
-
-
-def closing(tokens, at):
-    """The place of the brace that closes the one at this place."""
-    depth = 0
-    for place in range(at, len(tokens)):
-        _, _, kind, text = tokens[place]
-        depth += (text == "{") - (text == "}") if kind == "Code" else 0
-        if depth == 0:
-            return place
-    return len(tokens) - 1
-
-
-def body_of(tokens, at):
-    """The place of the brace that opens the body of the function whose name stands here, or of the semicolon in its place."""
-    depth = 0
-    for place in range(at, len(tokens)):
-        _, _, kind, text = tokens[place]
-        if kind == "Code":
-            depth += (text in "([") - (text in ")]")
-            if depth == 0 and text in "{;":
-                return place
-    return len(tokens) - 1
-
-
-def spans_of(file, text, tokens):
-    """Where the functions of a file stand."""
-    place, spans, counts = places(text), [], {}
-    block, block_ends, after, at = "", -1, 0, 0
-    while at < len(tokens):
-        start, _, kind, word = tokens[at]
-        if at > block_ends:
-            block = ""
-        if kind == "Code" and word in ("impl", "trait") and not block:
-            opens = body_of(tokens, at)
-            block = re.sub(r" ?([<>:,&]) ?", r"\1", " ".join(it[3] for it in tokens[at:opens] if it[2] == "Code")).replace(">", "> ").strip()
-            block_ends, at = closing(tokens, opens), opens
-            after = tokens[opens][1]
-        elif kind == "Code" and word == "fn" and re.fullmatch(r"\w+", tokens[at + 1][3]):
-            name, opens = tokens[at + 1][3], body_of(tokens, at)
-            ends = closing(tokens, opens) if tokens[opens][3] == "{" else opens
-            number = counts[block, name] = counts.get((block, name), -1) + 1
-            spans.append(Span(Function(file, block, name, number), place(after), place(tokens[ends][1])))
-            after, at = tokens[ends][1], ends
-        elif kind == "Code" and word in "};":
-            after = tokens[at][1]
-        at += 1
-    return spans
-
-
-def spans_in(folder, texts):
-    """Where the functions of these source files stand, by file, or None where one is no code."""
-    files = [it for it in texts if it.startswith("src/")]
-    tokens = tokens_of(folder, files)
-    return None if tokens is None else {file: spans_of(file, texts[file], tokens[file]) for file in files}
 
 
 @dataclass
@@ -171,8 +52,7 @@ def changed_places(text, folder):
 
 def functions_at(found, crate):
     """The functions at these places of files: where a constant stands, those that name it, and none where a place is in neither."""
-    files = [os.path.relpath(it, crate.folder) for it in rtlib.files_of(crate.folder) if it.endswith(".rt")]
-    texts = {it: rtlib.text_of(f"{crate.folder}/{it}") for it in files}
+    texts = sources_of(crate.folder)
     spans, functions = spans_in(crate.folder, texts), set()
     for file, byte in found:
         line, column = places(texts.get(file, ""))(byte)
@@ -246,12 +126,20 @@ class Copy:
         self.texts.update(texts)
         return True
 
-    def check(self, kept, jobs):
-        """What the prover says of the edited functions, or of the whole crate where an edit changes more than bodies."""
-        only = sorted({it.path() for edit in self.edits for it in edit.functions})
-        is_whole = any(not it.functions for it in self.edits) or "" in only
-        asked = [] if is_whole else [word for path in only for word in ("--only", path)]
+    def functions(self):
+        return {it for edit in self.edits for it in edit.functions}
+
+    def check(self, kept, jobs, empties):
+        """What the prover says of the edited functions, with all others emptied or not, or of the whole crate where an edit changes more than bodies."""
+        only = sorted({it.path() for it in self.functions()})
+        is_whole = any(not it.functions for it in self.edits)
+        asked = [] if is_whole or "" in only else [word for path in only for word in ("--only", path)]
         words = [rtlib.RATTLE, "check", *self.crate.words(["--jobs", str(jobs)], keeps=False), "--incremental", kept]
+        if empties and not is_whole:
+            empty_others(self.folder, self.crate.name, self.functions())
+            self.texts = {**self.texts, **sources_of(self.folder)}
+            # what rests on a hole is checked to its end
+            words.append("--allow-holes")
         ran = check_of(self.folder, [*words, *asked])
         # where a path fits no function or several, nothing was looked at
         return check_of(self.folder, words) if ran.status == 2 and asked else ran
@@ -260,9 +148,9 @@ class Copy:
         """What a check says of each edit, by its name, or None where it did not come to the proofs."""
         lines = ran.said.rstrip("\n").split("\n")
         spans = spans_in(self.folder, self.texts)
-        if ran.status != 1 or not re.match(r"logic=not-proved|only=", lines[-1]) or spans is None:
+        if ran.status != 1 or not re.match(r"logic=not-proved|only=|holes=", lines[-1]) or spans is None:
             return {} if ran.status == 0 else None
-        if any(rt.unread(it, self.texts) for it in lines) or rtlib.STALE.search(ran.said):
+        if any(rt.unread(it, self.texts) or self.breaks_others(it) for it in lines) or rtlib.STALE.search(ran.said):
             return None
         found = {}
         for line in lines:
@@ -271,6 +159,11 @@ class Copy:
                 if function in edit.functions or not edit.functions:
                     found.setdefault(edit.name, set()).add(what)
         return found
+
+    def breaks_others(self, line):
+        """Whether a line is an error in proofs/ outside the folders of the edited functions' proofs, as in lemmas that rest on a proof that was emptied."""
+        error = re.match(r"(?:\./)?proofs/(\S+)\.antt:\d+:\d+: error: ", line)
+        return bool(error) and all(it.functions for it in self.edits) and not any(is_proof_of(os.path.dirname(error[1]), it) for it in self.functions())
 
     def reported(self, line, spans):
         """The function of which a line reports a goal, if it is one of those that the edits change, and what it reports."""
@@ -283,8 +176,9 @@ class Copy:
         if not answer or "was not admitted" in answer[2]:
             return None, None
         what = BY_NAME if re.search(r"has no field|is not in scope|has no `", answer[2]) else BY_TYPE
-        # of two functions in a cycle of calls, whose proof is one, nothing tells which of them it is
         own = [it for edit in self.edits for it in edit.functions if is_proof_of(answer[1], it)]
+        # of several functions in a cycle of calls, whose proof is one, the name of the answer begins with that of the function
+        own = own if len(own) < 2 else [it for it in own if re.match(rf"`(\w+-)?{it.name}-", answer[2])]
         return own[0] if len(own) == 1 else None, what
 
 
@@ -302,26 +196,35 @@ def is_proof_of(folder, function):
     return len(parts) > 1 and parts[-1] == function.name and parts[-2].startswith(of_type)
 
 
+def is_worth_emptying(crate, edits):
+    """Whether so few of a crate's functions are edited that to empty the others costs less than to prove what is called."""
+    spans = spans_in(crate.folder, sources_of(crate.folder)) or {}
+    return 3 * len({it for edit in edits for it in edit.functions}) <= sum(map(len, spans.values()))
+
+
 def tried(crate, edits, room, jobs):
     """Tries edits of a crate. Returns for each name whether it is refused and what to say, and the processor seconds that it took."""
-    results, groups, number, seconds = {}, [edits] if edits else [], 0, 0.0
+    # each group with whether the other functions are emptied
+    results, groups, number, seconds = {}, [(edits, is_worth_emptying(crate, edits))] if edits else [], 0, 0.0
     while groups:
-        group, number = groups.pop(), number + 1
+        (group, empties), number = groups.pop(), number + 1
         copy = Copy(crate, f"{room}/{number}")
         later = [it for it in group if not copy.takes(it)]
-        groups += [later] if later else []
-        ran, half = copy.check(f"{room}/kept", jobs), len(copy.edits) // 2
+        groups += [(later, empties)] if later else []
+        ran, half = copy.check(f"{room}/kept", jobs, empties), len(copy.edits) // 2
         told, seconds = copy.told(ran), seconds + ran.seconds
         shutil.rmtree(copy.folder)
         results.update((name, (True, evidence(what))) for name, what in (told or {}).items())
         # those of which it tells nothing: what they call may be refused beside them
         rest = [it for it in copy.edits if it.name not in results]
-        if not half:
+        if rest and empties and (told is None or not half):
+            groups.append((rest, False))
+        elif not half:
             results.update((it.name, (False, UNREACHED if told is None else PROVED)) for it in rest)
         elif len(rest) < len(copy.edits):
-            groups += [rest] if rest else []
+            groups += [(rest, empties)] if rest else []
         else:
-            groups += [rest[:half], rest[half:]]
+            groups += [(rest[:half], empties), (rest[half:], empties)]
     return results, seconds
 
 

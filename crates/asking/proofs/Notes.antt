@@ -4,6 +4,7 @@ use Rattle.std.specs.Prelude.{map, slice_get, OnOk}
 use Rattle.std.specs.List.{AllByRecursion}
 use Rattle.std.specs.Result.{IfErr, IsErrAnd}
 use Rattle.std.proofs.lemmas.List.{append-nil}
+use Rattle.sets.proofs.Every.{all_joined, all_weaker}
 use Rattle.reads.specs.Reads.{View, Read, Answer, says}
 use Rattle.reads.specs.Runs.{Agrees}
 use Rattle.reads.specs.declared.note.Note.{Note}
@@ -20,14 +21,6 @@ agrees_before (n ∷ ns) ms d a = (a.0, agrees_before ns ms d a.1)
 agrees_last : (ns : List Note) (n : Note) (d : View) → Agrees (ns ++ n ∷ []) d → n.answer ≡ says n.read d
 agrees_last [] n d a = a.0
 agrees_last (m ∷ ns) n d a = agrees_last ns n d a.1
-
-all_both : (P : Note → Type 0) (ns ms : List Note) → AllByRecursion P ns → AllByRecursion P ms → AllByRecursion P (ns ++ ms)
-all_both P [] ms all more = more
-all_both P (n ∷ ns) ms all more = (all.0, all_both P ns ms all.1 more)
-
-all_weaker : (P Q : Note → Type 0) → ((n : Note) → P n → Q n) → (ns : List Note) → AllByRecursion P ns → AllByRecursion Q ns
-all_weaker P Q f [] all = tt
-all_weaker P Q f (n ∷ ns) all = (f n all.0, all_weaker P Q f ns all.1)
 
 -- what is allowed of all reads is allowed of the first that were asked for, and of the next
 allowed_first : (allowed : Read → Bool) (ns : List Note) (left : List Read) → AreAllowed allowed (map (λ n. n.read) ns ++ left) → AllAllowed allowed ns
@@ -84,12 +77,6 @@ module _ {S : Type 0} {asks : S → Read → Result Answer Stop → S → Type 0
   goes_noted allowed s s' ns ns' n e a near =
       record { more = n ∷ []; noted = e; near = (near, tt); last = s'; asked = (s', a, refl); ends = refl }
 
-  -- the source was asked, and it stopped
-  pub goes_stopped : (allowed : Read → Bool) (s s' : S) (ns ns' : List Note) (r : Read) (stop : Stop)
-      → ns' ≡ ns → asks s r (Err stop) s' → allowed r ≡ true → Goes asks allowed s s' ns ns' (Some stop)
-  goes_stopped allowed s s' ns ns' r stop e a near =
-      record { more = []; noted = e ∙ sym (append-nil ns); near = tt; last = s; asked = refl; ends = inr (r, near, a) }
-
   -- the source was asked for some reads at once
   pub goes_all : {A : Type 0} {s s' : S} {reads : List Read} {ns ns' : List Note} {result : Result A Stop} → AsksAll asks s reads ns ns' result s'
       → (allowed : Read → Bool) → AreAllowed allowed reads → Goes asks allowed s s' ns ns' (stop_of result)
@@ -114,7 +101,7 @@ module _ {S : Type 0} {asks : S → Read → Result Answer Stop → S → Type 0
   goes_on {allowed} {s} {s1} {s2} {ns} {ns1} {ns2} {stop} a b = record {
     more = a.more ++ b.more;
     noted = b.noted ∙ ap (λ ms. ms ++ b.more) a.noted ∙ append_assoc ns a.more b.more;
-    near = all_both (λ n. allowed n.read ≡ true) a.more b.more a.near b.near;
+    near = all_joined (λ n. allowed n.read ≡ true) a.more b.more a.near b.near;
     last = b.last;
     asked = asked_both asks a.more b.more s s1 b.last (subst (λ m. Asked asks s a.more m) a.ends a.asked) b.asked;
     ends = b.ends;

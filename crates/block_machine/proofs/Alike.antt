@@ -1,5 +1,5 @@
 -- Slots are looked at by their publications alone, whatever is read of their notes.
-use Rattle.std.proofs.Common.{◌≡◌, ℕ, zero, suc, ◌&&◌, List, [], ◌∷◌, ◌++◌, map, Some, option_map, slice_get, slice_index_or, option_to_list, length, refl, sym, ap, ◌∙◌, ◌<◌}
+use Rattle.std.proofs.Common.{◌≡◌, ℕ, zero, suc, ◌&&◌, List, [], ◌∷◌, ◌++◌, map, Some, slice_index_or, option_to_list, length, refl, sym, ap, ◌∙◌, ◌<◌}
 use Rattle.std.specs.Prelude.{if◌then◌else◌}
 use Rattle.std.proofs.lemmas.List.{get_or_default}
 use Rattle.reads.specs.Reads.{View, Read, says, applied, covers}
@@ -7,7 +7,7 @@ use Rattle.block_machine.specs.declared.state.Noted.{Noted as KeptNote}
 use Rattle.block_machine.specs.declared.state.Slot.{Slot as KeptSlot}
 use Rattle.block_machine.specs.declared.validate.Verdict.{Verdict}
 use Rattle.block_machine.specs.declared.validate.Verdict.TheVariants as verdict
-use Rattle.block_machine.specs.Machine.{Noted, Slot, slot_at, status_of, view_at, blocker, touching, NoteVerdict, ListVerdict}
+use Rattle.block_machine.specs.Machine.{Noted, Slot, slot_at, view_at, blocker, touching, NoteVerdict, ListVerdict}
 use Rattle.block_machine.specs.Kept.{slot_by, plain, shown, whole, slots_of, fresh_kept}
 use Rattle.block_machine.specs.Serial.{replies_to}
 
@@ -30,11 +30,6 @@ is_slot f xs i y at lt = ap (slot_by f) (kept_is xs i y at lt) ∙ sym (by_at f 
 -- the same, where the slot is named by its place
 pub at_slot : (f : KeptNote → Noted) (xs : List KeptSlot) (i : ℕ) (y : KeptSlot) → i < length xs → slot_by f (slice_index_or xs i y) ≡ slot_at (map (slot_by f) xs) i
 at_slot f xs i y lt = ap (slot_by f) (get_or_default xs i y fresh_kept lt) ∙ sym (by_at f xs i)
-
-pub status_by : (f : KeptNote → Noted) (xs : List KeptSlot) (i : ℕ) → status_of (map (slot_by f) xs) i ≡ option_map (λ (x : KeptSlot). x.status) (slice_get xs i)
-status_by f [] i = refl
-status_by f (x ∷ xs) zero = refl
-status_by f (x ∷ xs) (suc i) = status_by f xs i
 
 -- ---- lists of slots with the same publications
 

@@ -1,16 +1,18 @@
 -- A walk along the requests that may have spoken gives what the walk along all gives.
-use Rattle.std.proofs.Common.{◌≡◌, ℕ, zero, suc, ◌<◌, ◌≤◌, inl, inr, Bool, true, false, ◌&&◌, if◌then◌else◌, List, [], ◌∷◌, ◌++◌, length, Option, Some, slice_index_or, ◌+◌, refl, sym, ap, ◌∙◌, subst, arith, append_assoc}
+use Rattle.std.proofs.Common.{◌≡◌, ℕ, zero, suc, ◌<◌, ◌≤◌, inl, inr, false, ◌&&◌, if◌then◌else◌, List, [], ◌∷◌, ◌++◌, length, Option, Some, slice_index_or, ◌+◌, sym, ap, ◌∙◌, subst, arith, append_assoc}
 use Rattle.std.proofs.lemmas.Bool.{cases_lt}
-use Rattle.std.proofs.lemmas.List.{get_or_default, get_or_past}
+use Rattle.std.proofs.lemmas.List.{get_or_default, get_or_past, append-nil}
+use Rattle.std.proofs.Math.Bool.{and-false}
 use Rattle.datasets.specs.Id.{id_order}
 use Rattle.change_laws.specs.Laws.{IsRising}
 use Rattle.reads.specs.Reads.{View, Read, Answer, says, applied, covers}
+use Rattle.reads.proofs.Changes.{uncovered}
 use Rattle.block_machine.specs.declared.state.Slot.{Slot as KeptSlot}
 use Rattle.block_machine.specs.Machine.{Slot, slot_at, view_at, blocker, touching}
 use Rattle.block_machine.specs.Kept.{plain, slot_by, shown}
 use Rattle.block_machine.proofs.Alike.{is_slot}
 use Rattle.block_machine.specs.Lower.{request_at, after_first, Leads}
-use Rattle.block_machine.proofs.Overlay.{uncovered, view_rises}
+use Rattle.block_machine.proofs.Overlay.{view_rises}
 
 -- what each step leaves as it was
 skip : {A : Type 0} (f : ℕ → A) (a b : ℕ) → a ≤ b → ((j : ℕ) → a ≤ j → j < b → f (suc j) ≡ f j) → f b ≡ f a
@@ -21,25 +23,17 @@ skip f a (suc b) le h =
       | inr ge ↦ ap f (let e : suc b ≡ a = omega arith in e)
     ]
 
-and_false : (b : Bool) → (b && false) ≡ false
-and_false true = refl
-and_false false = refl
-
-append-nothing : {A : Type 0} (xs : List A) → xs ++ [] ≡ xs
-append-nothing [] = refl
-append-nothing (x ∷ xs) = ap (λ ys. x ∷ ys) (append-nothing xs)
-
 module _ (slots : List Slot) (read : Read) where
   blocker_skips : (j : ℕ) → covers (slot_at slots j).delta read ≡ false → blocker slots (suc j) read ≡ blocker slots j read
   unfolding blocker
   blocker_skips j h =
       ap (λ c. if (slot_at slots j).estimate && c then Some j else blocker slots j read) h
-      ∙ ap (λ c. if c then Some j else blocker slots j read) (and_false (slot_at slots j).estimate)
+      ∙ ap (λ c. if c then Some j else blocker slots j read) (and-false (slot_at slots j).estimate)
 
   touching_skips : (j : ℕ) → covers (slot_at slots j).delta read ≡ false → touching slots (suc j) read ≡ touching slots j read
   unfolding touching
   touching_skips j h =
-      ap (λ c. touching slots j read ++ (if c then (j, (slot_at slots j).version) ∷ [] else [])) h ∙ append-nothing (touching slots j read)
+      ap (λ c. touching slots j read ++ (if c then (j, (slot_at slots j).version) ∷ [] else [])) h ∙ append-nil (touching slots j read)
 
   says_skips : (base : View) → IsRising id_order base → (j : ℕ) → covers (slot_at slots j).delta read ≡ false → says read (view_at base slots (suc j)) ≡ says read (view_at base slots j)
   unfolding view_at

@@ -2,12 +2,12 @@
 use Rattle.std.proofs.Common.{◌≡◌, ℕ, zero, suc, ◌+◌, ◌<◌, ◌≤◌, ◌⊎◌, inl, inr, Bool, true, false, ◌&&◌, ◌==◌, List, [], ◌∷◌, ◌++◌, length, replicate, Option, Some, None, slice_get, slice_set, refl, sym, ap, ◌∙◌, subst, arith, eqb-true, eq-eqb}
 use Rattle.std.specs.Prelude.{if◌then◌else◌}
 use Rattle.std.proofs.lemmas.Bool.{cases_lt, cases_eq}
-use Rattle.std.proofs.lemmas.List.{get_or-replicate, get_or_past}
+use Rattle.std.proofs.lemmas.List.{get_or-replicate, get_or_past, append-nil}
 use Rattle.std.proofs.Math.ListN.{length-replicate}
-use Rattle.datasets.specs.declared.read.Read.TheVariants.{Scan, GraphIs, Graphs}
 use Rattle.datasets.specs.Id.{id_order}
 use Rattle.change_laws.specs.Laws.{IsRising}
 use Rattle.reads.specs.Reads.{View, Delta, Read, says, applied, covers, no_change}
+use Rattle.reads.proofs.Changes.{uncovered, depends, covers_none}
 use Rattle.block_machine.specs.declared.state.Status.{Status}
 use Rattle.block_machine.specs.declared.state.Status.TheVariants.{Ready, Executing, Executed, Committed as HasCommitted}
 use Rattle.block_machine.specs.declared.state.Pass.{Pass}
@@ -22,15 +22,9 @@ use Rattle.block_machine.specs.declared.state.Entry.{Entry}
 use Rattle.block_machine.specs.Machine.{Noted, Slot, State, fresh_slot, fresh, slot_at, status_of, view_at, touching, is_closed, can_commit, IsAllowed, after, state_after, with_note, published, begun, passed, committed, NamesAnswer, NextNamesAnswer, NoteReply, ListVerdict, verdict_reply}
 use Rattle.block_machine.specs.Archive.{Archive, along, filed_at, archive_with, nothing_filed, archive_after, archive_of}
 use Rattle.block_machine.specs.Serial.{Setting, IsSetting, LawfulFrom, IsHistory}
-use Rattle.block_machine.proofs.Overlay.{uncovered, depends, view_rises}
+use Rattle.block_machine.proofs.Overlay.{view_rises}
 use Rattle.block_machine.proofs.SlotLaws.{set_same, set_other, status_within}
 use Rattle.block_machine.proofs.Theorem.{unless_execution, unless_executed, take_ready, commit_can, open_is}
-
-covers_none : (r : Read) → covers no_change r ≡ false
-unfolding covers
-covers_none (Scan p) = refl
-covers_none (GraphIs g) = refl
-covers_none Graphs = refl
 
 -- THE INVARIANT
 
@@ -72,10 +66,6 @@ along_append : (archive : Archive) (v : View) (ts : List (ℕ × ℕ)) (t : ℕ 
 along_append archive v [] t = refl
 along_append archive v (x ∷ xs) t = along_append archive (applied (archive x.0 x.1) v) xs t
 
-append_none : {A : Type 0} (xs : List A) → xs ++ [] ≡ xs
-append_none [] = refl
-append_none (x ∷ xs) = ap (λ ys. x ∷ ys) (append_none xs)
-
 below_append : (slots : List Slot) (ts : List (ℕ × ℕ)) (t : ℕ × ℕ) → Below slots ts → t.1 < next_of (slot_at slots t.0).status → Below slots (ts ++ t ∷ [])
 below_append slots [] t b h = (h, tt)
 below_append slots (x ∷ xs) t b h = (b.0, below_append slots xs t b.1 h)
@@ -112,7 +102,7 @@ module _ (base : View) (rising : IsRising id_order base) (archive : Archive) (sl
   named_next i read before false e =
       uncovered (slot_at slots i).delta (view_at base slots i) read (view_rises base slots rising i) e
       ∙ before
-      ∙ ap (λ (ts : List (ℕ × ℕ)). says read (along archive base ts)) (sym (append_none (touching slots i read)))
+      ∙ ap (λ (ts : List (ℕ × ℕ)). says read (along archive base ts)) (sym (append-nil (touching slots i read)))
 
   -- what a read says of view(i) is what it says along its touching list
   pub named : (i : ℕ) (read : Read) → says read (view_at base slots i) ≡ says read (along archive base (touching slots i read))
@@ -122,7 +112,7 @@ module _ (base : View) (rising : IsRising id_order base) (archive : Archive) (sl
 
   touching_next : (i : ℕ) (read : Read) → Below slots (touching slots i read) → (b : Bool) → covers (slot_at slots i).delta read ≡ b → Below slots (touching slots i read ++ (if b then (i, (slot_at slots i).version) ∷ [] else []))
   touching_next i read before true e = below_append slots (touching slots i read) (i, (slot_at slots i).version) before (covering i read e).1
-  touching_next i read before false e = subst (λ (ts : List (ℕ × ℕ)). Below slots ts) (sym (append_none (touching slots i read))) before
+  touching_next i read before false e = subst (λ (ts : List (ℕ × ℕ)). Below slots ts) (sym (append-nil (touching slots i read))) before
 
   pub touching_below : (i : ℕ) (read : Read) → Below slots (touching slots i read)
   unfolding touching

@@ -4,8 +4,8 @@ use Rattle.std.specs.Prelude.{if◌then◌else◌, option_map}
 use Rattle.std.proofs.lemmas.Bool.{cases_lt, cases_eq, false≢true}
 use Rattle.std.proofs.lemmas.List.{length-map, length-set, map-set, map-append}
 use Rattle.std.proofs.lemmas.Option.{slice_get_within}
-use Rattle.datasets.specs.declared.read.Read.TheVariants.{Scan, GraphIs, Graphs}
-use Rattle.reads.specs.Reads.{View, Delta, Read, says, applied, covers, no_change}
+use Rattle.reads.specs.Reads.{View, Delta, Read, says, applied, covers}
+use Rattle.reads.proofs.Changes.{covers_none}
 use Rattle.version_overlay.specs.Settled.{changed_by}
 use Rattle.block_machine.specs.declared.state.Noted.{Noted as KeptNote}
 use Rattle.block_machine.specs.declared.state.Slot.{Slot as KeptSlot}
@@ -42,11 +42,6 @@ lows_set low (y ∷ xs) (suc i) x h own = (h.0, lows_set low xs i x h.1 own)
 pub low_append : (low : ℕ) (ns : List KeptNote) (n : KeptNote) → LowNotes low ns → n.low ≤ low → LowNotes low (ns ++ n ∷ [])
 low_append low [] n h le = (le, tt)
 low_append low (m ∷ ns) n h le = (h.0, low_append low ns n h.1 le)
-
-pub low_note : (low : ℕ) (ns : List KeptNote) (at : ℕ) (n : KeptNote) → LowNotes low ns → slice_get ns at ≡ Some n → n.low ≤ low
-low_note low [] at n h e = absurd (let g : None ≡ Some n = e in (cc))
-low_note low (m ∷ ns) zero n h e = let same : m ≡ n = cc in subst (λ (z : KeptNote). z.low ≤ low) same h.0
-low_note low (m ∷ ns) (suc at) n h e = low_note low ns at n h.1 e
 
 -- ---- whole lists, of slots that are alike below
 
@@ -278,14 +273,8 @@ begun_kept f x (n ∷ ns) clock some = refl
 
 -- ---- what events leave calm
 
-pub calm_as : (x z : Slot) → x ≡ z → IsCalm z → IsCalm x
-calm_as x z e h = subst IsCalm (sym e) h
-
 pub calm_open : (x : Slot) → may_estimate x.status ≡ true → IsCalm x
 calm_open x e = λ f. absurd (false≢true (sym f ∙ e))
-
-pub calm_like : (x z : Slot) → x.status ≡ z.status → x.estimate ≡ z.estimate → IsCalm z → IsCalm x
-calm_like x z st es h = λ f. es ∙ h (sym (ap may_estimate st) ∙ f)
 
 pub calm_begun : (x : Slot) (ns : List Noted) (clock : ℕ) → IsCalm x → IsCalm (begun x ns clock)
 calm_begun x [] clock h = h
@@ -319,12 +308,6 @@ fresh_at zero j = refl
 fresh_at (suc n) zero = refl
 fresh_at (suc n) (suc j) = fresh_at n j
 
-covers_nothing : (read : Read) → covers no_change read ≡ false
-unfolding covers
-covers_nothing (Scan p) = refl
-covers_nothing (GraphIs g) = refl
-covers_nothing Graphs = refl
-
 fresh_lows : (n : ℕ) → LowSlots 0 (replicate n fresh_kept)
 fresh_lows zero = tt
 fresh_lows (suc n) = (tt, fresh_lows n)
@@ -335,7 +318,7 @@ holds_fresh xs n spoken settled e none =
     let at : (j : ℕ) → slot_at (shown xs) j ≡ fresh_slot = λ j. ap (λ z. slot_at (shown z) j) e ∙ ap (λ s. slot_at s j) (fresh_shown plain n) ∙ fresh_at n j in
     record {
       within = omega arith;
-      knows = λ j read le c. absurd (false≢true (sym (covers_nothing read) ∙ ap (λ (y : Slot). covers y.delta read) (sym (at j)) ∙ c));
+      knows = λ j read le c. absurd (false≢true (sym (covers_none read) ∙ ap (λ (y : Slot). covers y.delta read) (sym (at j)) ∙ c));
       folded = λ base. ap (λ cs. changed_by cs base) none;
       closed = λ j lt. absurd (omega (arith, lt));
       calm = λ j. subst IsCalm (sym (at j)) (λ f. refl);
@@ -364,27 +347,4 @@ module _ (xs : List KeptSlot) (low : ℕ) (spoken : Read → ℕ → Bool) (sett
         ];
         calm = k.calm;
         lows = lows_more low next up xs k.lows;
-      }
-
-  -- who spoke is forgotten of those that are settled
-  pub holds_less : (less : Read → ℕ → Bool) → ((read : Read) (j : ℕ) → low ≤ j → spoken read j ≡ true → less read j ≡ true) → IsKept xs low less settled
-  holds_less less f =
-      record {
-        within = k.within;
-        knows = λ j read le c. f read j le (k.knows j read le c);
-        folded = k.folded;
-        closed = k.closed;
-        calm = k.calm;
-        lows = k.lows;
-      }
-
-  pub holds_of_same : (more : List Delta) → ((d : View) → changed_by more d ≡ changed_by settled d) → IsKept xs low spoken more
-  holds_of_same more same =
-      record {
-        within = k.within;
-        knows = k.knows;
-        folded = λ base. same base ∙ k.folded base;
-        closed = k.closed;
-        calm = k.calm;
-        lows = k.lows;
       }

@@ -10,7 +10,7 @@ use Rattle.std.proofs.lemmas.Cmp.{nat_cmp_total, nat_eq_equiv}
 use Rattle.std.proofs.lemmas.List.{get_or_past}
 use Rattle.std.proofs.lemmas.List.Kept.{IsStrictlySortedBy-dedup, Contains-dedup_nat, Contains-from_dedup}
 use Rattle.std.proofs.lemmas.List.Sorted.{Contains-permutation, IsPermutation-sym}
-use Rattle.std.proofs.lemmas.Bool.{cases_lt, false≢true, and_parts, and_from, eqb-true, ltb-true}
+use Rattle.std.proofs.lemmas.Bool.{cases_lt, false≢true, and_parts, and_from, eqb-true, ltb-true, false_from_ne_true, or_right}
 use Rattle.std.proofs.lemmas.Map.Keys.{below_from_sorted}
 use Rattle.std.proofs.lemmas.Map.Lookups.{exact_unsigned}
 use Rattle.sets.specs.Sets.{has}
@@ -74,11 +74,7 @@ module _ (found kept up result : List ℕ) (from i : ℕ) (filtered : kept ≡ f
 at-has : (xs : List ℕ) (k d : ℕ) → k < length xs → has nat_cmp xs (get_or xs k d) ≡ true
 at-has [] k d lt = absurd (omega arith)
 at-has (x ∷ xs) zero d lt = ap (λ r. is_eq r || has nat_cmp xs x) (tied_itself nat_cmp_total x)
-at-has (x ∷ xs) (suc k) d lt = or_true (eq_by_cmp nat_cmp (get_or xs k d) x) _ (at-has xs k d (omega arith))
-  where
-    or_true : (a b : Bool) → b ≡ true → (a || b) ≡ true
-    or_true true b e = refl
-    or_true false b e = e
+at-has (x ∷ xs) (suc k) d lt = or_right (eq_by_cmp nat_cmp (get_or xs k d) x) _ (at-has xs k d (omega arith))
 
 record Place (xs : List ℕ) (d j : ℕ) : Type 0 where
   place : ℕ
@@ -92,10 +88,6 @@ place_of (x ∷ xs) d j e = at (eq_by_cmp nat_cmp j x) refl e (place_of xs d j)
     at : (b : Bool) → eq_by_cmp nat_cmp j x ≡ b → (b || has nat_cmp xs j) ≡ true → (has nat_cmp xs j ≡ true → Place xs d j) → Place (x ∷ xs) d j
     at true e f rest = record { place = 0; within = omega arith; is = sym (exact_by nat_cmp_total exact_unsigned j x e) }
     at false e f rest = let p = rest f in record { place = suc p.place; within = omega (arith, p.within); is = p.is }
-
-holds_not : (b : Bool) → (b ≡ true → ⊥) → b ≡ false
-holds_not true f = absurd (f refl)
-holds_not false f = refl
 
 module _ (slots : List Slot) (read : Read) (low : ℕ) (list : List ℕ) (i : ℕ) (rises : low ≤ i) (sorted : IsStrictlySortedBy nat_cmp list) (begins : (j : ℕ) → has nat_cmp list j ≡ true → low ≤ j)
     (within : (j : ℕ) → has nat_cmp list j ≡ true → j < i) (all : (j : ℕ) → low ≤ j → j < i → covers (slot_at slots j).delta read ≡ true → has nat_cmp list j ≡ true) where
@@ -123,7 +115,7 @@ module _ (slots : List Slot) (read : Read) (low : ℕ) (list : List ℕ) (i : �
       ]
 
   at_none : (k : ℕ) → k ≤ length list → NoneCovers slots read (after_first low list i k) (request_at list i k)
-  at_none k le j down high = holds_not _ (λ e. no k le down high (place_of list i j (all j (from_low k le down) (below_i k le high) e)))
+  at_none k le j down high = false_from_ne_true _ (λ e. no k le down high (place_of list i j (all j (from_low k le down) (below_i k le high) e)))
     where
       below_i : (k : ℕ) → k ≤ length list → j < request_at list i k → j < i
       below_i k le high =

@@ -24,13 +24,6 @@ standings_new slots standings size n x one whole fresh is e f =
     go zero = refl
     go (suc n) = ap (λ xs. standing_of fresh_slot ∷ xs) (go n)
 
-length-map : (slots : List Slot) → length (map standing_of slots) ≡ length slots
-length-map [] = refl
-length-map (x ∷ slots) = ap suc (length-map slots)
-
-pub standings_within : (slots : List Slot) (standings : List Standing) (i : ℕ) → standings ≡ map standing_of slots → i < length slots → i < length standings
-standings_within slots standings i e lt = let n = ap length e ∙ length-map slots in omega (arith, n, lt)
-
 pub standings_set : (slots : List Slot) (standings next : List Standing) (i : ℕ) (x : Slot) (new : Standing) → standings ≡ map standing_of slots → new ≡ standing_of x → next ≡ slice_set standings i new → next ≡ map standing_of (slice_set slots i x)
 standings_set slots standings next i x new old is e = e ∙ (λ t. slice_set (old t) i (is t)) ∙ sym (map-set standing_of slots i x)
 

@@ -81,12 +81,12 @@ fn note_of<'a>(
     let read = scanned.read();
     let Some(part) = part_before(alloc, scanned, kept, list, i)? else {
         let answer = scanned.answer(alloc)?;
-        return Ok(LeanNote::lean(base, read, answer, Vec::new(alloc)));
+        return LeanNote::lean(alloc, base, read, answer, Vec::new(alloc));
     };
     let answer = part.answer(alloc, read)?;
     if !is_long(&answer) {
-        return Ok(LeanNote::kept(base, read, answer));
+        return LeanNote::kept(alloc, base, read, answer);
     }
     let changes = changes_before(alloc, scanned, kept, list, i)?;
-    Ok(LeanNote::lean(base, read, answer, changes))
+    LeanNote::lean(alloc, base, read, answer, changes)
 }

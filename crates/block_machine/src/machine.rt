@@ -128,6 +128,15 @@ impl<'a> Machine<'a> {
         self.slots.view(alloc, base, self.front)
     }
 
+    /// The same, where the machine is not needed any more.
+    pub fn into_front_view(self, alloc: Global, base: &IndexedView) -> Result<View, AllocError>
+        requires { self.front ≤ length self.slots }
+        ensures { IfOk result (λ view. view ≡ view_at base.now self.entry.slots self.entry.front) }
+    {
+        let Machine { slots, front, .. } = self;
+        slots.into_view(alloc, base, front)
+    }
+
     /// The committed requests' replies.
     pub fn front_replies(&self, alloc: Global) -> Result<Vec<meaning::Reply>, AllocError>
         requires { self.now.front ≤ length self.now.slots }

@@ -147,6 +147,26 @@ impl<'a> Slots<'a> {
         changed_from(alloc, slots, self.kept.low, n, view)
     }
 
+    /// The same, where nothing else is needed any more: notes and hints are let go first.
+    pub fn into_view(self, alloc: Global, base: &IndexedView, n: usize) -> Result<View, AllocError>
+        requires { n ≤ length self }
+        ensures { IfOk result (λ view. view ≡ view_at base.now self.entry n) }
+    {
+        if n != self.kept.low {
+            return self.view(alloc, base, n);
+        }
+        let Kept {
+            slots,
+            settled,
+            spoken,
+            ..
+        } = self.kept;
+        drop(slots);
+        drop(spoken);
+        let view = base.copied(alloc)?;
+        settled.into_applied(alloc, view)
+    }
+
     /// The replies of the first `n` requests' last publications.
     pub fn replies(&self, alloc: Global, n: usize) -> Result<Vec<meaning::Reply>, AllocError>
         requires { n ≤ length self.now }

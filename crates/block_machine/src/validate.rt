@@ -36,7 +36,7 @@ pub(crate) fn check(
     ensures { IfOk result (λ verdict. NoteVerdict base.now (shown kept.now.slots.items) i
         (whole kept.now.slots.items note.now) verdict) }
 {
-    let read = note.note.read();
+    let read = &note.note.read();
     let list = candidates_for(alloc, kept, kept.low, i, read)?;
     if let Some(j) = blocker(kept, kept.low, &list, i, read) {
         return Ok(Verdict::Blocked(j));
@@ -66,7 +66,7 @@ pub(crate) fn check_list(
     ensures { IfOk result (λ verdict. ListVerdict (shown kept.now.slots.items) i note.now.note.read
         (whole kept.now.slots.items note.now).touching verdict) }
 {
-    let read = note.note.read();
+    let read = &note.note.read();
     let along = candidates_for(alloc, kept, note.low, i, read)?;
     if let Some(j) = blocker(kept, note.low, &along, i, read) {
         return Ok(Verdict::Blocked(j));

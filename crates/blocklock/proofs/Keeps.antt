@@ -1,6 +1,8 @@
 -- Each step on the lock's table keeps its rule.
-use Rattle.std.proofs.Common.{◌≡◌, ◌≢◌, ℕ, zero, suc, ◌<◌, eqb, Bool, true, false, true≢false, List, [], ◌∷◌, ◌++◌, length, set, get_or, get_or-set_same, length-set, Option, Some, refl, sym, ap, subst, ◌∙◌, ⊎_elim, arith, append-nil}
+use Rattle.std.proofs.Common.{◌≡◌, ◌≢◌, ℕ, zero, suc, ◌<◌, eqb, true, false, true≢false, List, [], ◌∷◌, ◌++◌, length, set, get_or, get_or-set_same, length-set, Option, Some, refl, sym, ap, subst, ◌∙◌, ⊎_elim, arith, append-nil}
 use Rattle.std.proofs.lemmas.List.Elements.{filter-append}
+use Rattle.std.proofs.lemmas.Bool.{false_from_ne_true, both_ways}
+use Rattle.std.proofs.lemmas.Option.{same_Some}
 use mathlib.Core.Logic.{dite}
 use mathlib.Core.Option.{some, none, some-injective, some-ne-none}
 use native.Mathlib.Decide.{ℕ_discrete}
@@ -37,13 +39,6 @@ module _ {S E : Type 0} where
       (λ (t : (k ≡ id) × (w ≡ u)). subst (λ (y : ℕ × View S E). P y.0 y.1) (λ i. (sym t.0 i, t.1 i)) mine)
       (λ (t : (k ≢ id) × (get_elem? views k ≡ some u)). others k u t.0 t.1)
       (at_set views id k w u e)
-
-not_both : (b : Bool) → b ≡ true → b ≡ false → ⊥
-not_both b yes_it no_it = true≢false (sym yes_it ∙ no_it)
-
-false_if : (b : Bool) → (b ≡ true → ⊥) → b ≡ false
-false_if true other = absurd (other refl)
-false_if false other = refl
 
 module _ {T S E : Type 0} (worker_of : E → ℕ) (history : T → History S E) where
   abbrev St : Type 0
@@ -83,7 +78,7 @@ module _ {T S E : Type 0} (worker_of : E → ℕ) (history : T → History S E) 
             set_there s.views id w me.0 at,
             refl,
             same,
-            λ k u e yes_it. all_set (λ j y. y.holds ≡ true → j ≡ id) s.views id w (λ j y _ f h. absurd (not_both y.holds h (home.3 j y f))) (λ _. refl) k u e yes_it,
+            λ k u e yes_it. all_set (λ j y. y.holds ≡ true → j ≡ id) s.views id w (λ j y _ f h. absurd (both_ways y.holds (home.3 j y f) h)) (λ _. refl) k u e yes_it,
           );
         },
         record {
@@ -121,7 +116,7 @@ module _ {T S E : Type 0} (worker_of : E → ℕ) (history : T → History S E) 
       → (v.seen ≡ r.journal) × (get_or s.words 0 0 ≢ 0) × ((k : ℕ) (u : View S E) → get_elem? s.views k ≡ some u → u.holds ≡ true → k ≡ id)
   held_by id subject v s r at holds =
       dite (ℕ_discrete (get_or s.words 0 0) 0)
-      (λ free. absurd (not_both v.holds holds ((r.free free).3 id v at)))
+      (λ free. absurd (both_ways v.holds ((r.free free).3 id v at) holds))
       (λ held. let out = r.taken held in let here : id ≡ out.0 = out.5 id v at holds in
       let same : v ≡ out.1 = some-injective v out.1 (sym at ∙ (ap (get_elem? s.views) here ∙ out.2)) in
       (ap (λ (y : View S E). y.seen) same ∙ out.4, held, λ k u e h. out.5 k u e h ∙ sym here))
@@ -168,7 +163,7 @@ module _ {T S E : Type 0} (worker_of : E → ℕ) (history : T → History S E) 
           b,
           set_here s.homes 0 (some (Some b)) (omega arith),
           λ i. record { subject = (may.subject ∙ subjects) i; journal = now },
-          all_set (λ _ u. u.holds ≡ false) s.views id w (λ k u other e. false_if u.holds (λ h. other (held.2 k u e h))) refl,
+          all_set (λ _ u. u.holds ≡ false) s.views id w (λ k u other e. false_from_ne_true u.holds (λ h. other (held.2 k u e h))) refl,
         );
         taken = λ ne. absurd (ne zero_now);
       }
@@ -188,11 +183,8 @@ module _ {T S E : Type 0} (worker_of : E → ℕ) (history : T → History S E) 
       first_same : (p q : ℕ × Option T) → p ∷ more ≡ q ∷ more → p ≡ q
       first_same p q e = cc
 
-      some_same : (x y : T) → Some x ≡ Some y → x ≡ y
-      some_same x y e = cc
-
       slot_is : (x y : T) → (0, Some x) ∷ more ≡ (0, Some y) ∷ more → x ≡ y
-      slot_is x y e = some_same x y (ap (λ (p : ℕ × Option T). p.1) (first_same (0, Some x) (0, Some y) e))
+      slot_is x y e = same_Some x y (ap (λ (p : ℕ × Option T). p.1) (first_same (0, Some x) (0, Some y) e))
 
   pub may_give : (w : ℕ) (me : Mine) (table : TableId) (b : T) → IsSeatOf w me → MayGive worker_of (record { table = table; worker = w; subject = me.0.subject; seen = me.0.seen; holds = me.0.holds }) (history b) → MayGiveBook me.0 b
   may_give w me table b seat may = let from = seat.from in let until = seat.until in record {
@@ -223,7 +215,7 @@ module _ {T S E : Type 0} (worker_of : E → ℕ) (history : T → History S E) 
       let right_less : (x : ℕ) → Owns right x → Owns v x = λ x o. (o.0, omega arith) in
       let all : (P : ℕ → View S E → Type 0) → ((k : ℕ) (u : View S E) → k ≢ id → get_elem? s.views k ≡ some u → P k u) → P id left → P (length vs) right → (k : ℕ) (u : View S E) → get_elem? (vs ++ right ∷ []) k ≡ some u → P k u
       = λ P others one two k u e. ⊎_elim (λ was. all_set P s.views id left others one k u was) (λ (t : (k ≡ length vs) × (right ≡ u)). subst (λ (y : ℕ × View S E). P y.0 y.1) (λ i. (sym t.0 i, t.1 i)) two) (at_pushed vs right u k e) in
-      let unheld : (k : ℕ) (u : View S E) → u.holds ≡ true → right ≡ u → ⊥ = λ k u h e. not_both u.holds h (ap (λ (y : View S E). y.holds) (sym e) ∙ idle) in
+      let unheld : (k : ℕ) (u : View S E) → u.holds ≡ true → right ≡ u → ⊥ = λ k u h e. both_ways u.holds (ap (λ (y : View S E). y.holds) (sym e) ∙ idle) h in
       record {
         journal = r.journal;
         words = r.words;
@@ -241,13 +233,13 @@ module _ {T S E : Type 0} (worker_of : E → ℕ) (history : T → History S E) 
             (at_pushed vs right a j ja);
         free = λ z. let home = r.free z in (home.0, home.1, home.2, all (λ _ u. u.holds ≡ false) (λ k u _ e. home.3 k u e) idle idle);
         taken = λ ne. let out = r.taken ne in
-            let apart : out.0 ≢ id = λ e. not_both v.holds (ap (λ (y : View S E). y.holds) (some-injective v out.1 (sym at ∙ (ap (get_elem? s.views) (sym e) ∙ out.2))) ∙ out.3) idle in (
+            let apart : out.0 ≢ id = λ e. both_ways v.holds idle (ap (λ (y : View S E). y.holds) (some-injective v out.1 (sym at ∙ (ap (get_elem? s.views) (sym e) ∙ out.2))) ∙ out.3) in (
               out.0,
               out.1,
               at_longer vs (right ∷ []) out.0 out.1 (set_else s.views id out.0 left apart ∙ out.2),
               out.3,
               out.4,
-              all (λ k u. u.holds ≡ true → k ≡ out.0) (λ k u _ e h. out.5 k u e h) (λ h. absurd (not_both v.holds h idle)) (λ h. absurd (not_both v.holds h idle)),
+              all (λ k u. u.holds ≡ true → k ≡ out.0) (λ k u _ e h. out.5 k u e h) (λ h. absurd (both_ways v.holds idle h)) (λ h. absurd (both_ways v.holds idle h)),
             );
       }
     where

@@ -1,2 +1,3 @@
 pub mod JournalEntry
 pub mod Run
+pub mod PackedEntry

@@ -11,6 +11,7 @@ ghost use Rattle.book.specs.Run.{state_of, setting_of, front_run, kept, IsSoundE
 
 use crate::copies::{copy_of_event, kept_event};
 use crate::journal_entry::JournalEntry;
+use crate::packed_entry::{PackedEntry, room};
 use block_machine::laws::{front_is_serial, front_is_within, history_goes_on, ready_after};
 use block_machine::{Entry, Event, Machine, Noted, Pass, Reply, Status, scans_of};
 use datasets::Id;
@@ -29,7 +30,9 @@ pub struct Book<'a> {
     base: &'a IndexedView,
     block: &'a [Request<Id>],
     machine: Machine<'a>,
-    journal: Vec<JournalEntry>,
+    journal: Vec<PackedEntry>,
+    // Room for an entry that is kept whole.
+    spare: Option<Box<JournalEntry>>,
 }
 
 impl<'a> Model for Book<'a> {
@@ -67,6 +70,7 @@ impl<'a> Book<'a> {
             block,
             machine,
             journal: Vec::new(alloc),
+            spare: None,
         })
     }
 
@@ -94,6 +98,7 @@ impl<'a> Book<'a> {
         front_is_within();
         history_goes_on();
         self.journal.reserve(1)?;
+        let room = room(alloc, self.spare.take())?;
         let (reply, told) = self.machine.step(alloc, self.base, worker, &event, scans)?;
         let event = kept_event(event, &reply);
         let entry = Entry {
@@ -101,7 +106,9 @@ impl<'a> Book<'a> {
             event,
             reply,
         };
-        match self.journal.push(JournalEntry::new(entry)) {
+        let (packed, spare) = PackedEntry::new(JournalEntry::new(entry), room);
+        self.spare = spare;
+        match self.journal.push(packed) {
             Ok(()) => Ok(told),
             Err(_) => unreachable!(),
         }
@@ -169,6 +176,7 @@ impl<'a> Book<'a> {
         front_is_within();
         history_goes_on();
         self.journal.reserve(1)?;
+        let room = room(alloc, self.spare.take())?;
         let (reply, told) = self
             .machine
             .check_as(alloc, self.base, worker, i, n, passed)?;
@@ -177,7 +185,9 @@ impl<'a> Book<'a> {
             event: Event::Check(i, n),
             reply,
         };
-        match self.journal.push(JournalEntry::new(checked)) {
+        let (packed, spare) = PackedEntry::new(JournalEntry::new(checked), room);
+        self.spare = spare;
+        match self.journal.push(packed) {
             Ok(()) => Ok(told),
             Err(_) => unreachable!(),
         }
@@ -267,8 +277,30 @@ impl<'a> Book<'a> {
         })
     }
 
+    /// The same, where the book is not needed any more: its journal and its notes are let go before the dataset is made.
+    pub fn into_outcome(self, alloc: Global) -> Result<Outcome, AllocError>
+        ensures { IfOk result (λ outcome. (outcome.dataset, outcome.replies)
+            ≡ front_run self.entry) }
+    {
+        front_is_within();
+        front_is_serial();
+        let told = self.committed_replies(alloc)?;
+        let Book {
+            base,
+            machine,
+            journal,
+            ..
+        } = self;
+        drop(journal);
+        let dataset = machine.into_front_view(alloc, base)?;
+        Ok(Outcome {
+            dataset,
+            replies: Items::from_vec(told),
+        })
+    }
+
     /// What is kept of every event that was answered, in order: each is lawful where those before it lead.
-    pub fn journal(&self) -> &[JournalEntry]
+    pub fn journal(&self) -> &[PackedEntry]
         ensures journal { result.now ≡ map journal_entry_of self.now.history }
         ensures lawful { IsHistory (setting_of self.now) self.now.history }
     {

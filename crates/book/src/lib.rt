@@ -7,6 +7,8 @@
 mod book;
 mod copies;
 mod journal_entry;
+mod packed_entry;
 
 pub use book::Book;
 pub use journal_entry::{JournalEntry, Kept, count};
+pub use packed_entry::{PackedEntry, Shown};

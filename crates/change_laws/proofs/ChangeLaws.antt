@@ -9,8 +9,9 @@ use Rattle.std.specs.declared.cmp.Ordering.{Ordering}
 use Rattle.std.specs.declared.cmp.Ordering.TheVariants.{Less, Equal, Greater}
 use Rattle.std.specs.Ordering.{is_eq}
 use Rattle.std.specs.Cmp.{IsTotalOrder}
+use Rattle.std.proofs.Math.Bool.{and-false, and-true, or-true}
 use Rattle.sets.specs.Sets.{has, union, without}
-use Rattle.sets.proofs.SetLaws.{same_set, sorted-set_of, has-union, has-filter, has-without}
+use Rattle.sets.proofs.SetLaws.{same_set, sorted-set_of, has-filter, has-after}
 use Rattle.datasets.specs.declared.quad.Quad.{Quad}
 use Rattle.datasets.specs.declared.read.Read.TheVariants.{Scan, GraphIs, Graphs}
 use Rattle.datasets.specs.Dataset.{Told, Quads, Is, Names, quad_order, matches}
@@ -23,11 +24,7 @@ use Rattle.change_laws.specs.Laws.{UncoveredKeeps, SameAfter, RisesAfter, SaysRi
 unchanged : (x a b p : Bool) → (p ≡ true → a ≡ false) → (p ≡ true → b ≡ false) → (((x && not a) || b) && p) ≡ (x && p)
 unchanged true false false p f g = refl
 unchanged false a false p f g = refl
-unchanged true a b false f g = no_and ((true && not a) || b)
-  where
-    no_and : (c : Bool) → (c && false) ≡ false
-    no_and true = refl
-    no_and false = refl
+unchanged true a b false f g = and-false ((true && not a) || b)
 unchanged true true b true f g = absurd (false≢true (sym (f refl)))
 unchanged true false true true f g = refl
 unchanged false a true true f g = absurd (false≢true (sym (g refl)))
@@ -35,16 +32,8 @@ unchanged false a true false f g = refl
 
 -- what is a member after depends, where the test holds, on what was a member before
 depends : (x y a b p : Bool) → (x && p) ≡ (y && p) → (((x && not a) || b) && p) ≡ (((y && not a) || b) && p)
-depends x y a b true h = ap (λ z. ((z && not a) || b) && true) (sym (and_true x) ∙ h ∙ and_true y)
-  where
-    and_true : (c : Bool) → (c && true) ≡ c
-    and_true true = refl
-    and_true false = refl
-depends x y a b false h = no_and ((x && not a) || b) ∙ sym (no_and ((y && not a) || b))
-  where
-    no_and : (c : Bool) → (c && false) ≡ false
-    no_and true = refl
-    no_and false = refl
+depends x y a b true h = ap (λ z. ((z && not a) || b) && true) (sym (and-true x) ∙ h ∙ and-true y)
+depends x y a b false h = and-false ((x && not a) || b) ∙ sym (and-false ((y && not a) || b))
 
 -- ---- sets after a change
 
@@ -61,11 +50,8 @@ module _ {A : Type 0} {R : A → A → Ordering} (o : IsTotalOrder R) (exact : (
       at Greater k bare rest = ap (λ t. is_eq t || has R ys q) k ∙ rest
       at Equal k bare rest = absurd (false≢true (sym bare ∙ ap p (sym (exact q y k)) ∙ e))
 
-  pub has-after : (q : A) (xs gone more : List A) → has R (union R (without R xs gone) more) q ≡ ((has R xs q && not (has R gone q)) || has R more q)
-  has-after q xs gone more = has-union o q (without R xs gone) more ∙ ap (λ b. b || has R more q) (has-without o exact q xs gone)
-
   has-filtered : (p : A → Bool) (q : A) (xs gone more : List A) → has R (filter p (union R (without R xs gone) more)) q ≡ (((has R xs q && not (has R gone q)) || has R more q) && p q)
-  has-filtered p q xs gone more = has-filter o exact p q (union R (without R xs gone) more) ∙ ap (λ b. b && p q) (has-after q xs gone more)
+  has-filtered p q xs gone more = has-filter o exact p q (union R (without R xs gone) more) ∙ ap (λ b. b && p q) (has-after o exact q xs gone more)
 
   sorted-after : (xs gone more : List A) → IsStrictlySortedBy R (union R (without R xs gone) more)
   sorted-after xs gone more = sorted-set_of o (without R xs gone ++ more)
@@ -91,14 +77,10 @@ module _ {A : Type 0} {R : A → A → Ordering} (o : IsTotalOrder R) (exact : (
   pub after-nothing : (xs gone more : List A) → IsStrictlySortedBy R xs → list_any (λ x. true) more ≡ false → list_any (λ x. true) gone ≡ false → union R (without R xs gone) more ≡ xs
   after-nothing xs gone more s none_more none_gone =
       same_set o exact _ _ (sorted-after xs gone more) s
-      (λ q. has-after q xs gone more
-      ∙ sym (and_true _)
+      (λ q. has-after o exact q xs gone more
+      ∙ sym (and-true _)
       ∙ unchanged (has R xs q) (has R gone q) (has R more q) true (λ e. lacks (λ x. true) q gone none_gone refl) (λ e. lacks (λ x. true) q more none_more refl)
-      ∙ and_true _)
-    where
-      and_true : (c : Bool) → (c && true) ≡ c
-      and_true true = refl
-      and_true false = refl
+      ∙ and-true _)
 
 -- ---- the laws
 
@@ -115,11 +97,7 @@ of_is (Is b) = b
 of_is _ = false
 
 kept_name : (x a b : Bool) → (b || a) ≡ false → ((x && not a) || b) ≡ x
-kept_name true true b h = absurd (false≢true (sym h ∙ or_true b))
-  where
-    or_true : (b : Bool) → (b || true) ≡ true
-    or_true true = refl
-    or_true false = refl
+kept_name true true b h = absurd (false≢true (sym h ∙ or-true b))
 kept_name true false true h = refl
 kept_name true false false h = refl
 kept_name false a true h = h

@@ -1,5 +1,5 @@
 -- From what was read and written to what the engine of `replay` says.
-use Rattle.std.proofs.Common.{◌≡◌, ℕ, List, Option, Some, None, Result, Ok, Err, OnOk, OnErr, IfSome, sym, subst, ◌∙◌}
+use Rattle.std.proofs.Common.{◌≡◌, ℕ, List, Option, Some, None, Result, Ok, Err, OnErr, IfSome, sym, subst, ◌∙◌}
 use Rattle.std.specs.Prelude.{IsErrOf}
 use Rattle.datasets.specs.Dataset.{Dataset}
 use Rattle.terms.specs.declared.term.Term.{Term}
@@ -8,8 +8,8 @@ use Rattle.command_line.specs.declared.fault.Fault.{Fault}
 use Rattle.command_line.specs.declared.fault.Fault.TheVariants as told
 use Rattle.command_line.specs.declared.fault.File.TheVariants as file
 use Rattle.cli.specs.Inputs.{IsBaseAnswer, IsBlockAnswer}
-use Rattle.cli.specs.Journals.{IsFaultOfReplay, IsReplay, IsReplayFault, WroteReplay, WroteReplayInPart}
-use Rattle.cli.specs.Outputs.{Taken, Grew, IsPart}
+use Rattle.cli.specs.Journals.{IsFaultOfReplay, IsReplay, IsReplayFault, WroteReplayInPart}
+use Rattle.cli.specs.Outputs.{Taken, IsPart}
 
 -- a fault of the journal
 journal_fault : (b k j : List ℕ) (d : Dataset Term) (r : List (Request Term)) (f : Fault) → IsBaseAnswer b (Ok d) → IsBlockAnswer k (Ok r) → IsReplayFault d r j f → IsFaultOfReplay b k j f
@@ -35,18 +35,6 @@ fault_of_journal (Some b) (Some k) (Some j) d r bytes f hb hk hj h = journal_fau
 
 module _ (b k j : Option (List ℕ)) (d : Dataset Term) (r : List (Request Term)) (bytes dataset replies : List ℕ)
     (hb : IfSome b (λ t. IsBaseAnswer t (Ok d))) (hk : IfSome k (λ t. IsBlockAnswer t (Ok r))) (hj : IfSome j (λ t. bytes ≡ t)) (h : IsReplay d r bytes dataset replies) where
-  pub wrote : {T E : Type 0} (result : Result T E) (written told : Taken) → OnOk result (Grew written dataset)
-      → OnOk result (Grew told replies) → OnOk result (IfSome b (λ b. IfSome k (λ k. IfSome j (λ j. WroteReplay b k j written told))))
-  wrote (Err e) u w p q = tt
-  wrote (Ok t) u w p q = go b k j hb hk hj
-    where
-      go : (b k j : Option (List ℕ)) → IfSome b (λ t. IsBaseAnswer t (Ok d)) → IfSome k (λ t. IsBlockAnswer t (Ok r)) → IfSome j (λ t. bytes ≡ t)
-          → IfSome b (λ b. IfSome k (λ k. IfSome j (λ j. WroteReplay b k j u w)))
-      go None k j hb hk hj = tt
-      go (Some b) None j hb hk hj = tt
-      go (Some b) (Some k) None hb hk hj = tt
-      go (Some b) (Some k) (Some j) hb hk hj = (d, r, dataset, replies, (hb, hk), subst (λ (y : List ℕ). IsReplay d r y dataset replies) hj h, p, q)
-
   pub wrote_in_part : {T E : Type 0} (result : Result T E) (e : E) (written told : Taken)
       → OnErr result (IsPart written told dataset replies) → IsErrOf result e
       → IfSome b (λ b. IfSome k (λ k. IfSome j (λ j. WroteReplayInPart b k j written told)))

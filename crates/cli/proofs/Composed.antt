@@ -1,6 +1,7 @@
 -- Numbering, running and naming is running.
-use Rattle.std.proofs.lemmas.List.{take_all}
-use Rattle.std.proofs.Common.{◌≡◌, ℕ, zero, suc, ◌≤◌, true, List, [], ◌∷◌, length, map, Some, None, Ok, Err, refl, sym, ap, ◌∙◌, subst, arith, slice_get}
+use Rattle.std.proofs.lemmas.List.{take_all, length-map}
+use Rattle.std.proofs.Common.{◌≡◌, ℕ, zero, suc, ◌≤◌, true, List, [], ◌∷◌, length, map, Some, None, Ok, Err, sym, ap, ◌∙◌, subst, arith, slice_get}
+use Rattle.std.proofs.lemmas.Option.{same_Some}
 use Rattle.datasets.specs.Dataset.{Dataset, IsDataset}
 use Rattle.datasets.specs.declared.id.Id.{Id}
 use Rattle.terms.specs.Term.{term_order}
@@ -16,20 +17,13 @@ use Rattle.update.specs.Asked.{AreShort}
 use Rattle.book.specs.Run.{Run as BookRun, state_of, front_run}
 use Rattle.cli.specs.Outputs.{IsWhole}
 
-length-map : {A B : Type 0} (f : A → B) (xs : List A) → length (map f xs) ≡ length xs
-length-map f [] = refl
-length-map f (x ∷ xs) = ap suc (length-map f xs)
-
 get-map : {A B : Type 0} (f : A → B) (xs : List A) (i : ℕ) (x : A) → slice_get xs i ≡ Some x → slice_get (map f xs) i ≡ Some (f x)
 get-map f [] i x e = absurd (let n : None ≡ Some x = e in (cc))
-get-map f (y ∷ ys) zero x e = ap Some (ap f (some-is y x e))
-  where
-    some-is : {A : Type 0} (y x : A) → Some y ≡ Some x → y ≡ x
-    some-is y x e = cc
+get-map f (y ∷ ys) zero x e = ap Some (ap f (same_Some y x e))
 get-map f (y ∷ ys) (suc i) x e = get-map f ys i x e
 
 short_again : (f : Id → Term) (r : Request Id) → IsShort (renamed_request f r) → IsShort r
-short_again f (Ok ops) h = let same : length (map (renamed_operation f) ops) ≡ length ops = length-map (renamed_operation f) ops in (omega (arith, h, same))
+short_again f (Ok ops) h = let same : length (map (renamed_operation f) ops) ≡ length ops = length-map ops (renamed_operation f) in (omega (arith, h, same))
 short_again f (Err refusal) h = tt
 
 module _ (d : Dataset Term) (block : List (Request Term)) (b : Base) (requests : List (Request Id)) (numbered : IsNumbered d block b requests) where
@@ -40,7 +34,7 @@ module _ (d : Dataset Term) (block : List (Request Term)) (b : Base) (requests :
       short_again f r (h i (renamed_request f r) there)
 
   pub same_length : length requests ≡ length block
-  same_length = sym (length-map (renamed_request (term_of b.terms)) requests) ∙ ap length numbered.block_is
+  same_length = sym (length-map requests (renamed_request (term_of b.terms))) ∙ ap length numbered.block_is
 
   -- the run of the first n requests at numbers
   module _ (carries_block : CarriesBlock) (dataset : IsDataset term_order d) (n : ℕ) (after : Dataset Id) (replies : List Reply)

@@ -51,14 +51,9 @@ pub(crate) trait Runs {
         ensures others { TellsNoOther File.Base result };
 
     /// The base and the block at numbers of terms.
-    fn number(
-        &self,
-        alloc: Global,
-        dataset: &DataSet,
-        block: &Block,
-    ) -> Result<Numbered, AllocError>
+    fn number(&self, alloc: Global, dataset: &DataSet, block: Block) -> Result<Numbered, AllocError>
         requires ready { Ready }
-        ensures { IfOk result (λ n. IsNumbered dataset.now block.now n.base n.block.items) };
+        ensures { IfOk result (λ n. IsNumbered dataset.now block n.base n.block.items) };
 
     /// The outcome of the whole block.
     fn outcome(&self, alloc: Global, numbered: &Numbered) -> Result<Outcome, AllocError>
@@ -105,12 +100,12 @@ fn texts_of<W: Runs>(
     way: &W,
     alloc: Global,
     base: DataSet,
-    block: &Block,
+    block: Block,
 ) -> Result<Texts, AllocError>
     requires ready { W.Ready }
-    requires few { length block.now ≤ 4096 }
-    requires short { AreShort block.now }
-    ensures { IfOk result (λ texts. IsAnswerTo base block.now texts.dataset.items
+    requires few { length block ≤ 4096 }
+    requires short { AreShort block }
+    ensures { IfOk result (λ texts. IsAnswerTo base block texts.dataset.items
         (string_bytes texts.replies)) }
 {
     carries_block();
@@ -166,7 +161,7 @@ pub(crate) fn run_by<W: Runs, B: Read, K: Read, D: Write, A: Write>(
 {
     let read = way.read(alloc, base)?;
     let requests = read_block(alloc, block)?;
-    match texts_of(way, alloc, read, &requests) {
+    match texts_of(way, alloc, read, requests) {
         Ok(texts) => write_texts(&texts, dataset, replies),
         Err(_) => Err(Fault::Memory),
     }
@@ -194,7 +189,7 @@ impl<'r, T: Threads + Wait + Sync> Runs for Workers<'r, T> {
         &self,
         alloc: Global,
         dataset: &DataSet,
-        block: &Block,
+        block: Block,
     ) -> Result<Numbered, AllocError> {
         if self.count == 1 {
             return number(&Alone, alloc, dataset, block);

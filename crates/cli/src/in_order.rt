@@ -33,7 +33,7 @@ impl Runs for OneByOne {
         &self,
         alloc: Global,
         dataset: &DataSet,
-        block: &Block,
+        block: Block,
     ) -> Result<Numbered, AllocError> {
         number(&Alone, alloc, dataset, block)
     }

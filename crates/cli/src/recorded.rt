@@ -71,17 +71,17 @@ fn texts_with_journal<T: Threads + Wait + Sync>(
     rt: &T,
     alloc: Global,
     base: DataSet,
-    block: &Block,
+    block: Block,
     workers: u32,
 ) -> Result<RecordTexts, AllocError>
     requires some { 0 < workers }
     requires most { workers ≤ 64 }
-    requires few { length block.now ≤ 4096 }
-    requires short { AreShort block.now }
-    ensures answer { IfOk result (λ texts. IsAnswerTo base block.now texts.answer.dataset.items
+    requires few { length block ≤ 4096 }
+    requires short { AreShort block }
+    ensures answer { IfOk result (λ texts. IsAnswerTo base block texts.answer.dataset.items
         (string_bytes texts.answer.replies)) }
-    ensures journal { IfOk result (λ texts. (front : ℕ) × (length block.now ≤ front)
-        × IsJournalOf base block.now texts.journal.items front) }
+    ensures journal { IfOk result (λ texts. (front : ℕ) × (length block ≤ front)
+        × IsJournalOf base block texts.journal.items front) }
 {
     carries_block();
     let _parts = base.parts();
@@ -164,7 +164,7 @@ pub fn run_with_journal_engine<
 {
     let read = read_base_by(rt, alloc, base, workers)?;
     let requests = read_block(alloc, block)?;
-    let Ok(texts) = texts_with_journal(rt, alloc, read, &requests, workers) else {
+    let Ok(texts) = texts_with_journal(rt, alloc, read, requests, workers) else {
         return Err(Fault::Memory);
     };
     write_texts(&texts.answer, dataset, replies)?;

@@ -59,14 +59,14 @@ fn outcome_of_lines(alloc: Global, numbered: &Numbered, lines: &[Line]) -> Resul
 fn texts_of_journal(
     alloc: Global,
     base: DataSet,
-    block: &Block,
+    block: Block,
     journal: Vec<u8>,
 ) -> Result<Texts, Fault>
-    requires few { length block.now ≤ 4096 }
-    requires short { AreShort block.now }
-    ensures answer { IfOk result (λ texts. IsReplay base block.now journal.items texts.dataset.items
+    requires few { length block ≤ 4096 }
+    requires short { AreShort block }
+    ensures answer { IfOk result (λ texts. IsReplay base block journal.items texts.dataset.items
         (string_bytes texts.replies)) }
-    ensures fault { IfErr result (IsReplayFault base block.now journal.items) }
+    ensures fault { IfErr result (IsReplayFault base block journal.items) }
 {
     carries_block();
     let _parts = base.parts();
@@ -141,7 +141,7 @@ pub fn replay_engine<B: Read, K: Read, J: Read, D: Write, A: Write>(
         Err(fault) => return Err(fault),
     };
     let bytes = read_journal_bytes(alloc, journal)?;
-    match texts_of_journal(alloc, read, &requests, bytes) {
+    match texts_of_journal(alloc, read, requests, bytes) {
         Ok(texts) => write_texts(&texts, dataset, replies),
         Err(fault) => Err(fault),
     }

@@ -6,9 +6,9 @@ use Rattle.std.specs.declared.cmp.Ordering.{Ordering}
 use Rattle.std.specs.declared.cmp.Ordering.TheVariants.{Equal}
 use Rattle.std.specs.Cmp.{IsTotalOrder, tied_itself}
 use Rattle.std.specs.Ordering.{is_eq}
+use Rattle.std.proofs.Math.Bool.{and-false}
 use Rattle.sets.specs.Sets.{has, union, without}
-use Rattle.sets.proofs.SetLaws.{same_set, sorted-set_of, has-filter}
-use Rattle.change_laws.proofs.ChangeLaws.{has-after}
+use Rattle.sets.proofs.SetLaws.{same_set, sorted-set_of, has-filter, has-after}
 use Rattle.datasets.specs.declared.id.Id.{Id}
 use Rattle.datasets.specs.declared.read.QuadPattern.{QuadPattern}
 use Rattle.datasets.specs.declared.read.Read.TheVariants.{Scan, GraphIs, Graphs}
@@ -24,11 +24,7 @@ part true false true true = refl
 part true false false true = refl
 part false a true true = refl
 part false a false true = refl
-part x a b false = no_and ((x && not (a && false)) || (b && false)) ∙ sym (no_and ((x && not a) || b))
-  where
-    no_and : (c : Bool) → (c && false) ≡ false
-    no_and true = refl
-    no_and false = refl
+part x a b false = and-false ((x && not (a && false)) || (b && false)) ∙ sym (and-false ((x && not a) || b))
 
 module _ {A : Type 0} {R : A → A → Ordering} (o : IsTotalOrder R) (exact : (x y : A) → R x y ≡ Equal → x ≡ y) where
   pub filter-part : (p : A → Bool) (xs gone more : List A) → filter p (union R (without R xs (filter p gone)) (filter p more)) ≡ filter p (union R (without R xs gone) more)

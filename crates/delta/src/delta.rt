@@ -9,7 +9,7 @@ ghost use Rattle.change_laws.specs.Laws.{IsRising};
 ghost use Rattle.reads.specs.Reads.{View as Dataset, says, applied, covers as the_covers, no_change};
 ghost use Rattle.delta.specs.Same.{delta_eq};
 
-use crate::lists::{has_names, names_after, quads_after};
+use crate::lists::{has_names, names_after, names_changed, quads_after, quads_changed};
 use crate::parts::Parts;
 use datasets::{Id, Quad, QuadPattern, Read};
 use quad_index::matching::{is_any_in_set, matching};
@@ -216,6 +216,23 @@ impl Delta {
         let (quads, names) = view.into_parts();
         let quads = quads_after(alloc, quads, self.absent(), self.present())?;
         let names = names_after(alloc, names, self.gone(), self.there())?;
+        Ok(View::from_sets(quads, names))
+    }
+
+    /// The same, where the change is not needed any more: what comes is moved, if it has no other owner.
+    #[tactic(auto, unfolding(reads::specs::Reads::applied))]
+    pub fn into_applied(self, alloc: Global, view: View) -> Result<View, AllocError>
+        ensures { IfOk result (λ after. after ≡ applied self view) }
+    {
+        let Parts {
+            present,
+            absent,
+            there,
+            gone,
+        } = self.into_parts(alloc)?;
+        let (quads, names) = view.into_parts();
+        let quads = quads_changed(quads, &absent, present)?;
+        let names = names_changed(names, &gone, there)?;
         Ok(View::from_sets(quads, names))
     }
 

@@ -28,6 +28,20 @@ fn names_without(mut names: Vec<Id>, others: &[Id]) -> Vec<Id>
 }
 
 /// The set of the quads that are none of a set's, and of more.
+pub(crate) fn quads_changed(
+    quads: Vec<Quad<Id>>,
+    gone: &[Quad<Id>],
+    more: Vec<Quad<Id>>,
+) -> Result<Vec<Quad<Id>>, AllocError>
+    requires { IsStrictlySortedBy (quad_order id_order) gone.now }
+    ensures { IfOk result (λ after. after.items
+        ≡ union (quad_order id_order) (without (quad_order id_order) quads.items gone.now)
+        more.items) }
+{
+    quads_union(quads_without(quads, gone), more)
+}
+
+/// The same, where what comes is copied.
 pub(crate) fn quads_after(
     alloc: Global,
     quads: Vec<Quad<Id>>,
@@ -40,10 +54,23 @@ pub(crate) fn quads_after(
         more.now) }
 {
     let more = copied_quads(alloc, more)?;
-    quads_union(quads_without(quads, gone), more)
+    quads_changed(quads, gone, more)
 }
 
 /// The set of the names that are none of a set's, and of more.
+pub(crate) fn names_changed(
+    names: Vec<Id>,
+    gone: &[Id],
+    more: Vec<Id>,
+) -> Result<Vec<Id>, AllocError>
+    requires { IsStrictlySortedBy id_order gone.now }
+    ensures { IfOk result (λ after. after.items
+        ≡ union id_order (without id_order names.items gone.now) more.items) }
+{
+    names_union(names_without(names, gone), more)
+}
+
+/// The same, where what comes is copied.
 pub(crate) fn names_after(
     alloc: Global,
     names: Vec<Id>,
@@ -55,5 +82,5 @@ pub(crate) fn names_after(
         ≡ union id_order (without id_order names.items gone.now) more.now) }
 {
     let more = copied_names(alloc, more)?;
-    names_union(names_without(names, gone), more)
+    names_changed(names, gone, more)
 }

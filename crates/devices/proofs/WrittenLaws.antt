@@ -3,6 +3,7 @@ use Rattle.std.specs.Prelude.{ℕ}
 use Rattle.std.proofs.Common.{◌≡◌, List, [], ◌∷◌, ◌++◌, Option, Some, None, length, take, drop, refl, sym, ap, ◌∙◌, subst, append_assoc, arith}
 use Rattle.std.proofs.lemmas.List.{append-nil, take-append-drop}
 use Rattle.std.specs.Io.KnownBytes.{Appends, Keeps}
+use Rattle.std.proofs.Math.Seq.{take-append_seam}
 
 -- the bytes of the text before the rest were written
 pub record IsWritten (old new : Option (List ℕ)) (text rest : List ℕ) : Type 0 where
@@ -37,10 +38,6 @@ pub all_written : (a b : Option (List ℕ)) (text rest : List ℕ) → IsWritten
 all_written a b text [] is e = subst (Appends a b) (sym (append-nil is.front) ∙ is.whole) is.bytes
 all_written a b text (x ∷ rest) is e = absurd (omega arith)
 
-take_front : (xs ys : List ℕ) → take (length xs) (xs ++ ys) ≡ xs
-take_front [] ys = refl
-take_front (x ∷ xs) ys = ap (λ (t : List ℕ). x ∷ t) (take_front xs ys)
-
 pub front_written : (a b c : Option (List ℕ)) (text rest : List ℕ) → IsWritten a b text rest → Keeps b c → (n : ℕ) × Appends a c (take n text)
 front_written a b c text rest is q =
-    (length is.front, subst (Appends a c) (sym (take_front is.front rest) ∙ ap (take (length is.front)) is.whole) (kept a b c is.front is.bytes q))
+    (length is.front, subst (Appends a c) (sym (take-append_seam is.front rest) ∙ ap (take (length is.front)) is.whole) (kept a b c is.front is.bytes q))

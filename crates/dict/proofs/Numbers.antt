@@ -8,6 +8,7 @@ use Rattle.std.specs.Cmp.{nat_cmp_is, tied_itself}
 use Rattle.std.proofs.lemmas.Bool.{and_parts}
 use Rattle.std.proofs.lemmas.Bool.{cases_lt}
 use Rattle.std.proofs.Math.Nat.{eq-or-lt_of_le}
+use Rattle.std.proofs.lemmas.Map.Keys.{Less-from_sorted}
 use borrow.Author.Tests.{ltb-true}
 use Rattle.terms.specs.Term.{term_order}
 use Rattle.terms.specs.TermLaws.{term_total}
@@ -18,7 +19,6 @@ use Rattle.datasets.specs.declared.id.Id.TheVariants.{Known, Made}
 use Rattle.datasets.specs.Id.{id_order, id_order_is}
 use Rattle.meaning_laws.specs.Renaming.{IsRenaming}
 use Rattle.dict.specs.Dictionary.{is_written, IsDictionary, term_of, is_known, written, numbers}
-use Rattle.sets.proofs.Places.{below_at}
 
 written_at : (terms : List Term) (n : ℕ) (d : Term) → list_all is_written terms ≡ true → n < length terms → is_written (get_or terms n d) ≡ true
 written_at [] n d h lt = absurd (omega (arith, lt))
@@ -41,10 +41,10 @@ module _ (terms : List Term) (dictionary : IsDictionary terms) where
           ap (λ k. term_order (term_of terms (Known m)) (term_of terms (Known k))) e ∙ tied_itself term_total (term_of terms (Known m)) ∙ nat_cmp_is m n Equal (sym e)
       cases_at_least (inr gt) =
           term_total.antisymm (term_of terms (Known m)) (term_of terms (Known n))
-          ∙ ap ordering_reverse (below_at term_order terms n m (term.Made 0 0 0 0) dictionary.rises gt hm) ∙ nat_cmp_is m n Greater gt
+          ∙ ap ordering_reverse (Less-from_sorted term_order terms n m (term.Made 0 0 0 0) dictionary.rises gt hm) ∙ nat_cmp_is m n Greater gt
 
       cases : (m < n) ⊎ (n ≤ m) → term_order (term_of terms (Known m)) (term_of terms (Known n)) ≡ nat_cmp m n
-      cases (inl lt) = below_at term_order terms m n (term.Made 0 0 0 0) dictionary.rises lt hn ∙ nat_cmp_is m n Less lt
+      cases (inl lt) = Less-from_sorted term_order terms m n (term.Made 0 0 0 0) dictionary.rises lt hn ∙ nat_cmp_is m n Less lt
       cases (inr ge) = cases_at_least (eq-or-lt_of_le ge)
 
   order : (x y : Id) → is_known terms x ≡ true → is_known terms y ≡ true → term_order (term_of terms x) (term_of terms y) ≡ id_order x y

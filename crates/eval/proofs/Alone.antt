@@ -4,12 +4,12 @@ use Rattle.std.specs.List.{AllByRecursion, flat_map, cons_option}
 use Rattle.std.specs.List.Sorted.{IsStrictlySortedBy}
 use Rattle.std.proofs.lemmas.List.Kept.{IsStrictlySortedBy-filter}
 use Rattle.std.specs.declared.cmp.Ordering.{Ordering}
-use Rattle.std.specs.declared.cmp.Ordering.TheVariants.{Less, Equal, Greater}
 use Rattle.std.proofs.Common.{ℕ, zero, suc, ◌≡◌, List, [], ◌∷◌, ◌++◌, Option, Some, None, length, refl, ap, ◌∙◌, arith, append-nil}
 use Rattle.std.specs.Ordering.{eq_by_cmp}
 use Rattle.std.proofs.lemmas.List.{length-set, length-replicate}
-use Rattle.sets.specs.Sets.{placed, with, set_of, has}
+use Rattle.sets.specs.Sets.{set_of, has}
 use Rattle.sets.proofs.SetLaws.{sorted-set_of, set_of-set, sorted-cons, sorted-empty}
+use Rattle.sets.proofs.Every.{all_joined, all_set_of, all_kept}
 use Rattle.datasets.specs.declared.id.Id.{Id}
 use Rattle.datasets.specs.declared.quad.Quad.{Quad}
 use Rattle.datasets.specs.Dataset.{quads_in}
@@ -33,31 +33,6 @@ R = mapping_cmp id_order
 -- ---- what holds of each mapping of a set
 
 module _ (P : Mapping Id → Type 0) where
-  all_placed : (r : Ordering) (x y : Mapping Id) (ys further : Mappings) → P x → P y → AllByRecursion P ys → AllByRecursion P further → AllByRecursion P (placed r x y ys further)
-  all_placed Less x y ys further h k all more = (h, (k, all))
-  all_placed Equal x y ys further h k all more = (k, all)
-  all_placed Greater x y ys further h k all more = (k, more)
-
-  all_with : (x : Mapping Id) (ys : Mappings) → P x → AllByRecursion P ys → AllByRecursion P (with R x ys)
-  all_with x [] h all = (h, tt)
-  all_with x (y ∷ ys) h all = all_placed (R x y) x y ys (with R x ys) h all.0 all.1 (all_with x ys h all.1)
-
-  all_set : (xs : Mappings) → AllByRecursion P xs → AllByRecursion P (set_of R xs)
-  all_set [] all = tt
-  all_set (x ∷ xs) all = all_with x (set_of R xs) all.0 (all_set xs all.1)
-
-  all_append : (xs ys : Mappings) → AllByRecursion P xs → AllByRecursion P ys → AllByRecursion P (xs ++ ys)
-  all_append [] ys all more = more
-  all_append (x ∷ xs) ys all more = (all.0, all_append xs ys all.1 more)
-
-  all_if : (b : Bool) (x : Mapping Id) (xs : Mappings) → P x → AllByRecursion P xs → AllByRecursion P (cond b (x ∷ xs) xs)
-  all_if true x xs h all = (h, all)
-  all_if false x xs h all = all
-
-  all_filter : (test : Mapping Id → Bool) (xs : Mappings) → AllByRecursion P xs → AllByRecursion P (filter test xs)
-  all_filter test [] all = tt
-  all_filter test (x ∷ xs) all = all_if (test x) x (filter test xs) all.0 (all_filter test xs all.1)
-
   -- what holds of what an option has
   abbrev Holds : Option (Mapping Id) → Type 0
   Holds None = Unit {0}
@@ -77,11 +52,11 @@ module _ (P : Mapping Id → Type 0) where
 
   all_flat : {A : Type 0} (f : A → Mappings) → ((x : A) → AllByRecursion P (f x)) → (xs : List A) → AllByRecursion P (flat_map f xs)
   all_flat f h [] = tt
-  all_flat f h (x ∷ xs) = all_append (f x) (flat_map f xs) (h x) (all_flat f h xs)
+  all_flat f h (x ∷ xs) = all_joined P (f x) (flat_map f xs) (h x) (all_flat f h xs)
 
   all_flat_of : (f : Mapping Id → Mappings) → ((x : Mapping Id) → P x → AllByRecursion P (f x)) → (xs : Mappings) → AllByRecursion P xs → AllByRecursion P (flat_map f xs)
   all_flat_of f h [] all = tt
-  all_flat_of f h (x ∷ xs) all = all_append (f x) (flat_map f xs) (h x all.0) (all_flat_of f h xs all.1)
+  all_flat_of f h (x ∷ xs) all = all_joined P (f x) (flat_map f xs) (h x all.0) (all_flat_of f h xs all.1)
 
 -- ---- no solution has more places than the pattern has variables
 
@@ -100,7 +75,7 @@ module _ (width : ℕ) where
 
   join_narrow : (xs ys : Mappings) → AllByRecursion IsNarrow xs → AllByRecursion IsNarrow (join id_order xs ys)
   join_narrow xs ys all =
-      all_set IsNarrow _ (all_flat_of IsNarrow (λ a. filter_map (joined id_order a) ys) (λ a h. all_mapped IsNarrow (joined id_order a) (λ b. joined_narrow a b h (compatible id_order a b)) ys) xs all)
+      all_set_of IsNarrow R _ (all_flat_of IsNarrow (λ a. filter_map (joined id_order a) ys) (λ a h. all_mapped IsNarrow (joined id_order a) (λ b. joined_narrow a b h (compatible id_order a b)) ys) xs all)
 
   empty_narrow : IsNarrow (empty_mapping {K = Id} width)
   empty_narrow =
@@ -133,13 +108,13 @@ module _ (width : ℕ) where
     solved_narrow (Basic ts) d graph = basic_narrow (empty_mapping width ∷ []) ts (quads_in id_order graph d.quads) (empty_narrow, tt)
     solved_narrow (Join a b) d graph = join_narrow _ _ (solved_narrow a d graph)
     solved_narrow (LeftJoin a b es) d graph =
-        all_set IsNarrow _ (all_append IsNarrow _ _ (all_filter IsNarrow (passes_all passes es) _ (join_narrow _ _ (solved_narrow a d graph))) (all_filter IsNarrow _ _ (solved_narrow a d graph)))
-    solved_narrow (Union a b) d graph = all_set IsNarrow _ (all_append IsNarrow _ _ (solved_narrow a d graph) (solved_narrow b d graph))
-    solved_narrow (Minus a b) d graph = all_filter IsNarrow _ _ (solved_narrow a d graph)
-    solved_narrow (Filter es a) d graph = all_filter IsNarrow (passes_all passes es) _ (solved_narrow a d graph)
+        all_set_of IsNarrow R _ (all_joined IsNarrow _ _ (all_kept IsNarrow (passes_all passes es) _ (join_narrow _ _ (solved_narrow a d graph))) (all_kept IsNarrow _ _ (solved_narrow a d graph)))
+    solved_narrow (Union a b) d graph = all_set_of IsNarrow R _ (all_joined IsNarrow _ _ (solved_narrow a d graph) (solved_narrow b d graph))
+    solved_narrow (Minus a b) d graph = all_kept IsNarrow _ _ (solved_narrow a d graph)
+    solved_narrow (Filter es a) d graph = all_kept IsNarrow (passes_all passes es) _ (solved_narrow a d graph)
     solved_narrow (InGraph (place.Term name) a) d graph = narrow_if (has id_order d.names name) _ (solved_narrow a d (Some name))
     solved_narrow (InGraph (place.Variable v) a) d graph =
-        all_set IsNarrow _ (all_flat IsNarrow (λ name. filter_map (fitted id_order (place.Variable v) name) (solutions id_order passes width a d (Some name)))
+        all_set_of IsNarrow R _ (all_flat IsNarrow (λ name. filter_map (fitted id_order (place.Variable v) name) (solutions id_order passes width a d (Some name)))
         (λ name. all_mapped_of IsNarrow (fitted id_order (place.Variable v) name) (λ m h. bound_narrow m v name (term_for m v) h) _ (solved_narrow a d (Some name))) d.names)
 
     -- ---- solutions are a set

@@ -1,6 +1,7 @@
 -- What a list gives, by its last member.
-use Rattle.std.specs.Prelude.{ℕ, Bool, ◌<◌, ◌≤◌, ◌-◌}
+use Rattle.std.specs.Prelude.{ℕ, Bool, ◌≤◌, ◌-◌}
 use Rattle.std.proofs.Common.{◌≡◌, List, [], ◌∷◌, ◌++◌, Option, suc, zero, length, take, get_or, refl, sym, ap, ◌∙◌, arith}
+use Rattle.std.proofs.lemmas.List.{nil_from_length, get_or_default}
 use Rattle.datasets.specs.declared.id.Id.{Id}
 use Rattle.datasets.specs.declared.quad.Quad.{Quad}
 use Rattle.datasets.specs.Id.{id_order}
@@ -53,11 +54,6 @@ linked_ends : (before : Plan Id) (parts : List (Link Id × Kept Id)) (last : Lin
 linked_ends before [] last = refl
 linked_ends before (part ∷ parts) last = linked_ends (linked before part.0 (plan_of part.1)) parts last
 
-any_default : {A : Type 0} (xs : List A) (i : ℕ) (d e : A) → i < length xs → get_or xs i d ≡ get_or xs i e
-any_default [] i d e lt = absurd (omega arith)
-any_default (x ∷ xs) zero d e lt = refl
-any_default (x ∷ xs) (suc i) d e lt = any_default xs i d e (omega arith)
-
 -- the last part of a group
 pub group_ends : (parts : List (Link Id × Kept Id)) (d e : Link Id × Kept Id) → 1 ≤ length parts
     → linked_all nothing (parts_of parts)
@@ -67,11 +63,7 @@ group_ends parts d e le =
     let link = (get_or parts (length parts - 1) d).0 in
     ap (λ xs. linked_all nothing (parts_of xs)) (ends parts d le)
     ∙ linked_ends nothing (take (length parts - 1) parts) (get_or parts (length parts - 1) d)
-    ∙ ap (λ (x : Link Id × Kept Id). linked first link (plan_of x.1)) (any_default parts (length parts - 1) d e (omega arith))
-
-none_of : {A : Type 0} (xs : List A) → length xs ≡ 0 → xs ≡ []
-none_of [] e = refl
-none_of (x ∷ xs) e = absurd (omega arith)
+    ∙ ap (λ (x : Link Id × Kept Id). linked first link (plan_of x.1)) (get_or_default parts (length parts - 1) d e (omega arith))
 
 -- a group of one, to which it goes on by a join
 pub group_alone : (parts : List (Link Id × Kept Id)) (d e : Link Id × Kept Id) → 1 ≤ length parts
@@ -79,4 +71,4 @@ pub group_alone : (parts : List (Link Id × Kept Id)) (d e : Link Id × Kept Id)
     → linked_all nothing (parts_of parts) ≡ Join nothing (plan_of (get_or parts (length parts - 1) e).1)
 group_alone parts d e le none is =
     group_ends parts d e le
-    ∙ (λ i. linked (linked_all nothing (parts_of (none_of (take (length parts - 1) parts) none i))) (is i) (plan_of (get_or parts (length parts - 1) e).1))
+    ∙ (λ i. linked (linked_all nothing (parts_of (nil_from_length (take (length parts - 1) parts) none i))) (is i) (plan_of (get_or parts (length parts - 1) e).1))

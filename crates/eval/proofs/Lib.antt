@@ -3,7 +3,6 @@ pub mod Few
 pub mod Folds
 pub mod Lasts
 pub mod Maps
-pub mod Members
 pub mod Nearness
 pub mod Outside
 pub mod Replacing

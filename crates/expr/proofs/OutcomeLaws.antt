@@ -7,7 +7,7 @@ use Rattle.std.specs.Ordering.{is_eq}
 use Rattle.terms.specs.declared.term.Term.{Term}
 use Rattle.algebra.specs.declared.expression.OneOperator.TheVariants as one
 use Rattle.values.specs.Readings.{Reading, read_as}
-use Rattle.values.specs.Values.{truth_of, effective_of, truth_value, value_order, decided, is_equal, same_or_unknown, strict, is_ordered, text_length, one_value, truth, is_true}
+use Rattle.values.specs.Values.{truth_of, effective_of, value_order, decided, is_equal, same_or_unknown, strict, is_ordered, text_length, one_value, is_true}
 use Rattle.expr.specs.Outcomes.{of_two, of_readings}
 
 pub effective_some : (v : Option Term) (r : Reading) → Some r ≡ option_map read_as v → truth_of r ≡ effective_of v
@@ -61,8 +61,6 @@ equal_unordered a b x y h p q =
     let left : None ≡ of_readings value_order (Some x) (Some y) = h ∙ ap (λ c. of_readings value_order c b) (sym p) ∙ ap (λ c. of_readings value_order (Some x) c) (sym q) in
     ap (decided x y) left ∙ two_some is_equal a b x y p q
 
--- ---- an error where a side is one
-
 -- ---- functions of one value
 
 pub length_some : (v : Option Term) (r : Reading) → Some r ≡ option_map read_as v → text_length r ≡ option_and_then (λ t. text_length (read_as t)) v
@@ -72,10 +70,6 @@ length_some (Some t) r h = let e : r ≡ read_as t = cc in ap text_length e
 pub length_none : (v : Option Term) → None ≡ option_map read_as v → None ≡ option_and_then (λ t. text_length (read_as t)) v
 length_none None h = refl
 length_none (Some t) h = (cc)
-
-pub kind_is : (is : Term → Bool) (v : Option Term) → truth_value (option_map is v) ≡ option_and_then (λ t. Some (truth (is t))) v
-kind_is is None = refl
-kind_is is (Some t) = refl
 
 pub is_true_or : (o : Option Bool) → unwrap_or o false ≡ is_true o
 is_true_or None = refl

@@ -1,14 +1,11 @@
 -- Whether two terms are one, by their parts.
-use Rattle.std.proofs.Common.{◌≡◌, Bool, true, false, ℤ, List, ℕ, [], ◌∷◌, refl, sym, ap, ◌∙◌}
-use Rattle.std.specs.declared.cmp.Ordering.{Ordering}
-use Rattle.std.specs.declared.cmp.Ordering.TheVariants.{Less, Equal, Greater}
+use Rattle.std.proofs.Common.{◌≡◌, ℤ, List, ℕ, [], ◌∷◌, sym, ap, ◌∙◌}
 use Rattle.std.specs.Ordering.{is_eq, int_cmp}
 use Rattle.std.specs.Int.RustNames.{FitsSigned}
 use Rattle.std.specs.Fmt.{signed_decimal}
-use Rattle.std.specs.Cmp.{tied_itself}
+use Rattle.std.specs.Cmp.{tied_itself, both_ways, Equal-is}
 use Rattle.std.proofs.lemmas.Cmp.{int_cmp_total}
 use Rattle.std.proofs.lemmas.Map.Lookups.{exact_signed}
-use Rattle.std.proofs.lemmas.Bool.{false≢true}
 use mir.Syntax.{w64}
 use Rattle.terms.specs.Term.{term_order}
 use Rattle.terms.specs.TermLaws.{term_total, term_exact}
@@ -17,16 +14,6 @@ use Rattle.terms.specs.declared.term.Term.TheVariants as term
 use Rattle.values.specs.Readings.{Number, integer_read}
 use Rattle.values.specs.Values.{integer, is_same_term}
 use Rattle.expr.proofs.NumeralLaws.{integer_read_of}
-
-pub both_ways : (x y : Bool) → (x ≡ true → y ≡ true) → (y ≡ true → x ≡ true) → x ≡ y
-both_ways true y to from = sym (to refl)
-both_ways false true to from = from refl
-both_ways false false to from = refl
-
-equal_told : (o : Ordering) → is_eq o ≡ true → o ≡ Equal
-equal_told Less h = absurd (false≢true h)
-equal_told Equal h = refl
-equal_told Greater h = absurd (false≢true h)
 
 lexical_of : Term → List ℕ
 lexical_of (term.Iri i) = i
@@ -44,7 +31,7 @@ same_integer a b fa fb e =
 pub integers_same : (a b : ℤ) → FitsSigned w64 a → FitsSigned w64 b → is_eq (int_cmp a b) ≡ is_same_term (integer a) (integer b)
 integers_same a b fa fb =
     both_ways (is_eq (int_cmp a b)) (is_same_term (integer a) (integer b))
-    (λ h. let e : a ≡ b = exact_signed a b (equal_told (int_cmp a b) h) in
+    (λ h. let e : a ≡ b = exact_signed a b ((Equal-is (int_cmp a b)).0 h) in
     ap (λ z. is_same_term (integer a) (integer z)) (sym e) ∙ ap is_eq (tied_itself term_total (integer a)))
-    (λ h. let e : a ≡ b = same_integer a b fa fb (term_exact (integer a) (integer b) (equal_told (term_order (integer a) (integer b)) h)) in
+    (λ h. let e : a ≡ b = same_integer a b fa fb (term_exact (integer a) (integer b) ((Equal-is (term_order (integer a) (integer b))).0 h)) in
     ap (λ z. is_eq (int_cmp a z)) (sym e) ∙ ap is_eq (tied_itself int_cmp_total a))

@@ -9,10 +9,10 @@ use Rattle.std.proofs.lemmas.Str.Pattern.{contains_text}
 use Rattle.std.proofs.lemmas.Slice.Eq.{starts_is}
 use Rattle.std.proofs.lemmas.Bool.Decides.{Decides-eqb}
 use Rattle.std.proofs.lemmas.Bool.{or_cases, or_left, or_right}
+use Rattle.std.specs.Cmp.{both_ways}
 use Rattle.terms.specs.declared.term.Term.{Term}
 use Rattle.values.specs.Values.{occurs_in, truth, text_pair, strict, on_texts}
 use Rattle.expr.specs.Outcomes.{of_readings}
-use Rattle.expr.proofs.PartsLaws.{both_ways}
 
 starts_told : (s p : List ℕ) → starts_with nat_eq s p ≡ true → s ≡ p ++ drop (length p) s
 starts_told s p h = (starts_is Decides-eqb s p (starts_with nat_eq s p) refl).0 h

@@ -5,6 +5,7 @@ use Rattle.std.specs.Prelude.{Option, Some, None, is_some}
 use Rattle.std.specs.Option.{option_map}
 use Rattle.std.specs.Global.{Box, Vec}
 use Rattle.std.proofs.Math.ListN.{get_or-map}
+use Rattle.std.proofs.lemmas.Simd.{map-map}
 use Rattle.terms.specs.declared.term.Term.{Term}
 use Rattle.datasets.specs.declared.id.Id.{Id}
 use Rattle.algebra.specs.declared.expression.TwoOperator.{TwoOperator}
@@ -21,10 +22,6 @@ use Rattle.dict.specs.Dictionary.{term_of}
 is_some-option_map : {A B : Type 0} (f : A → B) (o : Option A) → is_some (option_map f o) ≡ is_some o
 is_some-option_map f None = refl
 is_some-option_map f (Some x) = refl
-
-map_twice : {A B C : Type 0} (f : A → B) (g : B → C) (xs : List A) → map g (map f xs) ≡ map (λ x. g (f x)) xs
-map_twice f g [] = refl
-map_twice f g (x ∷ xs) = ap (λ (ys : List _). g (f x) ∷ ys) (map_twice f g xs)
 
 pub variable_told : (e : Kept Id) (v : ℕ) → e ≡ kept.Variable v → expression_of e ≡ Variable v
 variable_told e v is =
@@ -70,7 +67,7 @@ module _ (terms : List Term) (m : Mapping Id) where
 
   pub chain_told : (first : Box (Kept Id)) (steps : Vec (TwoOperator × Kept Id)) → chain_value (value_at terms m (expression_of first.value)) (map (step_value terms m) steps.items) ≡ value_at terms m (expression_of (kept.Chain first steps))
   chain_told first steps =
-      ap (chain_value (value_at terms m (expression_of first.value))) (sym (map_twice step_of (λ (s : TwoOperator × Expression Id). (s.0, value_at terms m s.1)) steps.items))
+      ap (chain_value (value_at terms m (expression_of first.value))) (sym (map-map (λ (s : TwoOperator × Expression Id). (s.0, value_at terms m s.1)) step_of steps.items))
       ∙ chain_values (expression_of first.value) (map step_of steps.items) ∙ ap (value_at terms m) (sym (chain_is first steps))
 
   -- one operator more

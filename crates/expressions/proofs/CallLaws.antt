@@ -3,12 +3,13 @@ use Rattle.std.proofs.Common.{◌≡◌, ℕ, true, false, cond, List, [], ◌�
 use Rattle.std.specs.Prelude.{codes, bytes_eq}
 use Rattle.std.specs.Char.{to_ascii_lowercase}
 use Rattle.std.specs.Cmp.Lexicographic.{bytes_decides}
+use Rattle.std.proofs.lemmas.Option.{same_Some}
+use Rattle.iris.proofs.Options.{bind_some}
 use Rattle.lexer.specs.declared.token.Token.{Token}
 use Rattle.lexer.specs.declared.token.Token.TheVariants as token
 use Rattle.syntax_trees.specs.declared.expression.One.TheVariants as one
 use Rattle.syntax_trees.specs.declared.expression.Two.TheVariants as two
 use Rattle.productions.specs.Keywords.{is_keyword}
-use Rattle.productions.proofs.StepLaws.{bind_some, some_is}
 use Rattle.expressions.specs.declared.calls.Called.{Called}
 use Rattle.expressions.specs.declared.calls.Called.TheVariants as called
 use Rattle.expressions.specs.Calls.{called_name, first_called, all_called, called_of, called_at}
@@ -17,7 +18,7 @@ first_found : (cs : List Called) (w : List ℕ) (c : Called) → first_called cs
 first_found [] w c e = absurd cc
 first_found (d ∷ cs) w c e =
     elim (bytes_eq w (map to_ascii_lowercase (called_name d))) as (λ b. bytes_eq w (map to_ascii_lowercase (called_name d)) ≡ b → cond b (Some d) (first_called cs w) ≡ Some c → bytes_eq w (map to_ascii_lowercase (called_name c)) ≡ true) [
-      | true ↦ λ q e. subst (λ (f : Called). bytes_eq w (map to_ascii_lowercase (called_name f)) ≡ true) (some_is d c e) q
+      | true ↦ λ q e. subst (λ (f : Called). bytes_eq w (map to_ascii_lowercase (called_name f)) ≡ true) (same_Some d c e) q
       | false ↦ λ q e. first_found cs w c e
     ] refl e
 
@@ -59,5 +60,5 @@ pub record CalledFound (ts : List Token) (x : Called × List Token) : Type 0 whe
 pub called_is : (ts : List Token) (x : Called × List Token) → called_at ts ≡ Some x → CalledFound ts x
 called_is (token.Word w ∷ ts) x e =
     let c = bind_some (called_of w) (λ c. Some (c, ts)) x e in
-    subst (λ (y : Called × List Token). CalledFound (token.Word w ∷ ts) y) (some_is (c.0, ts) x c.2) (record { w = w; cut = refl; is = called_found w c.0 c.1 })
+    subst (λ (y : Called × List Token). CalledFound (token.Word w ∷ ts) y) (same_Some (c.0, ts) x c.2) (record { w = w; cut = refl; is = called_found w c.0 c.1 })
 called_is ts x e = absurd cc

@@ -2,13 +2,14 @@
 use Rattle.std.proofs.Common.{◌≡◌, ℕ, zero, suc, ◌≤◌, ◌<◌, true, false, cond, eqb, List, [], ◌∷◌, length, Option, Some, None, refl, sym, ap, ◌∙◌, subst, arith}
 use Rattle.std.specs.Option.{option_map_or}
 use Rattle.std.proofs.lemmas.Bool.{eqb-true, eqb-false}
+use Rattle.std.proofs.lemmas.Option.{same_Some, cond_some}
 use Rattle.iris.specs.Bracketed.{◌>>=◌}
+use Rattle.iris.proofs.Options.{bind_some}
 use Rattle.lexer.specs.declared.token.Token.{Token}
 use Rattle.syntax_trees.specs.declared.expression.Operator.{Operator}
 use Rattle.syntax_trees.specs.Expressions.{Tree, Binary}
 use Rattle.syntax_trees.specs.Operators.{rank, level_of}
 use Rattle.productions.specs.Steps.{Production, Reader, Found, Takes}
-use Rattle.productions.proofs.StepLaws.{bind_some, some_is, guard_some}
 use Rattle.expressions.specs.Operators.{operator_of, operator_at}
 use Rattle.expressions.specs.Grammar.{IsOperator, ReadsMore, done, more, ReadsChain, chain, ReadsOnce, alone, pair}
 use Rattle.expressions.specs.Reading.{more_with, chain_with, once_with}
@@ -28,7 +29,7 @@ pub operator_found : (n : ℕ) (ts : List Token) (x : Operator × List Token) �
 operator_found n [] x e = absurd cc
 operator_found n (t ∷ ts) x e =
     let o = bind_some (operator_of t) (λ o. cond (eqb (rank (level_of o)) n) (Some (o, ts)) None) x e in
-    let g = guard_some (eqb (rank (level_of o.0)) n) (o.0, ts) x o.2 in
+    let g = cond_some (eqb (rank (level_of o.0)) n) (o.0, ts) x o.2 in
     subst (λ (y : Operator × List Token). OperatorFound n (t ∷ ts) y) g.1 (record { t = t; cut = refl; is = record { is = o.1; binds = eqb-true (rank (level_of o.0)) n g.0 } })
 
 pub operator_again : (n : ℕ) (t : Token) (ts : List Token) (o : Operator) → IsOperator n t o → operator_at n (t ∷ ts) ≡ Some (o, ts)
@@ -54,10 +55,10 @@ front_is n t ts o is = ap binding is.is ∙ is.binds
 -- ---- chains
 
 more_found : (item : Reader Tree) (P : Production Tree) (n : ℕ) → Found item P → (k : ℕ) (e : Tree) (ts : List Token) (x : Tree × List Token) → more_with item n k e ts ≡ Some x → ReadsMore P n ts e x.0 x.1
-more_found item P n found zero e ts x h = subst (λ (y : Tree × List Token). ReadsMore P n ts e y.0 y.1) (some_is (e, ts) x h) done
+more_found item P n found zero e ts x h = subst (λ (y : Tree × List Token). ReadsMore P n ts e y.0 y.1) (same_Some (e, ts) x h) done
 more_found item P n found (suc k) e ts x h =
     elim (operator_at n ts) as (λ o. operator_at n ts ≡ o → option_map_or (λ o. item o.1 >>= λ x. more_with item n k (Binary o.0 e x.0) x.1) o (Some (e, ts)) ≡ Some x → ReadsMore P n ts e x.0 x.1) [
-      | None ↦ λ q h. subst (λ (y : Tree × List Token). ReadsMore P n ts e y.0 y.1) (some_is (e, ts) x h) done
+      | None ↦ λ q h. subst (λ (y : Tree × List Token). ReadsMore P n ts e y.0 y.1) (same_Some (e, ts) x h) done
       | Some o ↦ λ q h.
           let f = operator_found n ts o q in
           let y = bind_some (item o.1) (λ x. more_with item n k (Binary o.0 e x.0) x.1) x h in
@@ -75,11 +76,11 @@ unfolding once_with
 once_found item P n found ts x h =
     let y = bind_some (item ts) (λ x. option_map_or (λ o. item o.1 >>= λ y. Some (Binary o.0 x.0 y.0, y.1)) (operator_at n x.1) (Some x)) x h in
     elim (operator_at n y.0.1) as (λ o. operator_at n y.0.1 ≡ o → option_map_or (λ o. item o.1 >>= λ z. Some (Binary o.0 y.0.0 z.0, z.1)) o (Some y.0) ≡ Some x → ReadsOnce P n ts x.0 x.1) [
-      | None ↦ λ q h. subst (λ (z : Tree × List Token). ReadsOnce P n ts z.0 z.1) (some_is y.0 x h) (alone (found ts y.0 y.1))
+      | None ↦ λ q h. subst (λ (z : Tree × List Token). ReadsOnce P n ts z.0 z.1) (same_Some y.0 x h) (alone (found ts y.0 y.1))
       | Some o ↦ λ q h.
           let f = operator_found n y.0.1 o q in
           let z = bind_some (item o.1) (λ z. Some (Binary o.0 y.0.0 z.0, z.1)) x h in
-          subst (λ (w : Tree × List Token). ReadsOnce P n ts w.0 w.1) (some_is (Binary o.0 y.0.0 z.0.0, z.0.1) x z.2)
+          subst (λ (w : Tree × List Token). ReadsOnce P n ts w.0 w.1) (same_Some (Binary o.0 y.0.0 z.0.0, z.0.1) x z.2)
           (pair (subst (λ (us : List Token). P ts y.0.0 us) f.cut (found ts y.0 y.1)) f.is (found o.1 z.0 z.1))
     ] refl y.2
 

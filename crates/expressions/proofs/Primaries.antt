@@ -1,7 +1,9 @@
 -- Calls, primaries and negations: what is read is in the grammar, and what is in it is read.
 use Rattle.std.proofs.Common.{◌≡◌, ℕ, zero, suc, ◌<◌, true, List, [], ◌∷◌, Option, Some, None, refl, sym, ap, ◌∙◌, subst, arith}
 use Rattle.std.specs.Option.{option_map_or}
+use Rattle.std.proofs.lemmas.Option.{same_Some}
 use Rattle.iris.specs.Bracketed.{◌>>=◌}
+use Rattle.iris.proofs.Options.{bind_some}
 use Rattle.lexer.specs.declared.token.Token.{Token}
 use Rattle.lexer.specs.declared.token.Token.TheVariants as token
 use Rattle.lexer.specs.declared.token.Sign.TheVariants as signs
@@ -17,7 +19,6 @@ use Rattle.productions.specs.Signs.{sign_at}
 use Rattle.productions.specs.Keywords.{is_keyword}
 use Rattle.productions.specs.Names.{ReadsName, iri, prefixed, ReadsLiteral, plain as plain_text, tagged, typed, integer, is_true, is_false}
 use Rattle.productions.specs.Reading.{variable_at, name_at, literal_at}
-use Rattle.productions.proofs.StepLaws.{bind_some, some_is}
 use Rattle.productions.proofs.SignLaws.{sign_found}
 use Rattle.productions.proofs.NameLaws.{variable_found, name_found, name_takes, literal_found, literal_takes, literal_again}
 use Rattle.expressions.specs.declared.calls.Called.{Called}
@@ -35,7 +36,7 @@ unfolding closed_with
 closed_is inner I found ts x e =
     let y = bind_some (inner ts) (λ y. sign_at signs.CloseParen y.1 >>= λ rest. Some (y.0, rest)) x e in
     let rest = bind_some (sign_at signs.CloseParen y.0.1) (λ rest. Some (y.0.0, rest)) x y.2 in
-    subst (λ (z : Tree × List Token). I ts z.0 (token.Sign signs.CloseParen ∷ z.1)) (some_is (y.0.0, rest.0) x rest.2)
+    subst (λ (z : Tree × List Token). I ts z.0 (token.Sign signs.CloseParen ∷ z.1)) (same_Some (y.0.0, rest.0) x rest.2)
     (subst (λ (us : List Token). I ts y.0.0 us) (sign_found signs.CloseParen y.0.1 rest.0 rest.1) (found ts y.0 y.1))
 
 record BoundFound (n : ℕ) (ts : List Token) (x : Tree × List Token) : Type 0 where
@@ -50,7 +51,7 @@ bound_is zero ts x e = absurd cc
 bound_is (suc n) ts x e =
     let v = bind_some (variable_at ts) (λ v. sign_at signs.CloseParen v.1 >>= λ rest. Some (tree.Bound v.0, rest)) x e in
     let rest = bind_some (sign_at signs.CloseParen v.0.1) (λ rest. Some (tree.Bound v.0.0, rest)) x v.2 in
-    let same = some_is (tree.Bound v.0.0, rest.0) x rest.2 in
+    let same = same_Some (tree.Bound v.0.0, rest.0) x rest.2 in
     record {
       deep = omega arith;
       v = v.0.0;
@@ -70,7 +71,7 @@ module _ (n : ℕ) (inner : Reader Tree) (I : Production Tree) where
   unfolding one_with
   one_found found w f k ts x e =
       let y = bind_some (closed_with inner ts) (λ y. Some (tree.Call f y.0, y.1)) x e in
-      subst (λ (z : Tree × List Token). ReadsCall n I (token.Word w ∷ token.Sign signs.OpenParen ∷ ts) z.0 z.1) (some_is (tree.Call f y.0.0, y.0.1) x y.2) (one k (closed_is inner I found ts y.0 y.1))
+      subst (λ (z : Tree × List Token). ReadsCall n I (token.Word w ∷ token.Sign signs.OpenParen ∷ ts) z.0 z.1) (same_Some (tree.Call f y.0.0, y.0.1) x y.2) (one k (closed_is inner I found ts y.0 y.1))
 
   two_found : Found inner I → (w : List ℕ) (f : Two) → is_keyword w (two_name f) ≡ true → (ts : List Token) (x : Tree × List Token) → two_with inner f ts ≡ Some x → ReadsCall n I (token.Word w ∷ token.Sign signs.OpenParen ∷ ts) x.0 x.1
   unfolding two_with
@@ -80,7 +81,7 @@ module _ (n : ℕ) (inner : Reader Tree) (I : Production Tree) where
       let y = bind_some (closed_with inner us.0) (λ y. Some (tree.CallTwo f d.0.0 y.0, y.1)) x us.2 in
       let first : I ts d.0.0 (token.Sign signs.Comma ∷ us.0) = subst (λ (vs : List Token). I ts d.0.0 vs) (sign_found signs.Comma d.0.1 us.0 us.1) (found ts d.0 d.1) in
       let made : Tree × List Token = (tree.CallTwo f d.0.0 y.0.0, y.0.1) in
-      subst (λ (z : Tree × List Token). ReadsCall n I (token.Word w ∷ token.Sign signs.OpenParen ∷ ts) z.0 z.1) {x = (tree.CallTwo f d.0.0 y.0.0, y.0.1)} (some_is made x y.2) (two k first (closed_is inner I found us.0 y.0 y.1))
+      subst (λ (z : Tree × List Token). ReadsCall n I (token.Word w ∷ token.Sign signs.OpenParen ∷ ts) z.0 z.1) {x = (tree.CallTwo f d.0.0 y.0.0, y.0.1)} (same_Some made x y.2) (two k first (closed_is inner I found us.0 y.0 y.1))
 
   inside_found : Found inner I → (w : List ℕ) (c : Called) → is_keyword w (called_name c) ≡ true → (ts : List Token) (x : Tree × List Token) → inside_with n inner c ts ≡ Some x → ReadsCall n I (token.Word w ∷ token.Sign signs.OpenParen ∷ ts) x.0 x.1
   inside_found found w calls.Bound k ts x e =
@@ -102,17 +103,17 @@ module _ (n : ℕ) (inner : Reader Tree) (I : Production Tree) where
   unfolding named_at
   named_found ts x e =
       let y = bind_some (name_at ts) (λ y. Some (tree.Value (node.Name y.0), y.1)) x e in
-      subst (λ (z : Tree × List Token). ReadsPrimary n I ts z.0 z.1) (some_is (tree.Value (node.Name y.0.0), y.0.1) x y.2) (named (name_found ts y.0 y.1))
+      subst (λ (z : Tree × List Token). ReadsPrimary n I ts z.0 z.1) (same_Some (tree.Value (node.Name y.0.0), y.0.1) x y.2) (named (name_found ts y.0 y.1))
 
   quoted_found : (ts : List Token) (x : Tree × List Token) → quoted_at ts ≡ Some x → ReadsPrimary n I ts x.0 x.1
   unfolding quoted_at
   quoted_found ts x e =
       let y = bind_some (literal_at ts) (λ y. Some (tree.Value (node.Literal y.0), y.1)) x e in
-      subst (λ (z : Tree × List Token). ReadsPrimary n I ts z.0 z.1) (some_is (tree.Value (node.Literal y.0.0), y.0.1) x y.2) (quoted (literal_found ts y.0 y.1))
+      subst (λ (z : Tree × List Token). ReadsPrimary n I ts z.0 z.1) (same_Some (tree.Value (node.Literal y.0.0), y.0.1) x y.2) (quoted (literal_found ts y.0 y.1))
 
   value_found : (ts : List Token) (x : Tree × List Token) → value_at ts ≡ Some x → ReadsPrimary n I ts x.0 x.1
   value_found [] x e = absurd cc
-  value_found (token.Variable v ∷ ts) x e = subst (λ (z : Tree × List Token). ReadsPrimary n I (token.Variable v ∷ ts) z.0 z.1) (some_is (tree.Value (node.Variable v), ts) x e) variable
+  value_found (token.Variable v ∷ ts) x e = subst (λ (z : Tree × List Token). ReadsPrimary n I (token.Variable v ∷ ts) z.0 z.1) (same_Some (tree.Value (node.Variable v), ts) x e) variable
   value_found (token.Iri i ∷ ts) x e = named_found (token.Iri i ∷ ts) x e
   value_found (token.Name p l ∷ ts) x e = named_found (token.Name p l ∷ ts) x e
   value_found ts x e = quoted_found ts x e
@@ -136,7 +137,7 @@ module _ (n : ℕ) (inner : Reader Tree) (I : Production Tree) where
         | Some r ↦ λ q e.
             let y = bind_some (primary_with n inner r) (λ y. Some (tree.Not y.0, y.1)) x e in
             subst (λ (us : List Token). ReadsNot n I us x.0 x.1) (sym (sign_found signs.Bang ts r q))
-            (subst (λ (z : Tree × List Token). ReadsNot n I (token.Sign signs.Bang ∷ r) z.0 z.1) (some_is (tree.Not y.0.0, y.0.1) x y.2) (negated (primary_found found r y.0 y.1)))
+            (subst (λ (z : Tree × List Token). ReadsNot n I (token.Sign signs.Bang ∷ r) z.0 z.1) (same_Some (tree.Not y.0.0, y.0.1) x y.2) (negated (primary_found found r y.0 y.1)))
       ] refl e
 
   -- ---- they take a token or more

@@ -3,6 +3,7 @@ use Rattle.std.proofs.Common.{◌≡◌, ℕ, ◌<◌, ◌≤◌, true, false, L
 use Rattle.std.specs.Prelude.{codes}
 use Rattle.std.specs.Option.{option_map_or}
 use Rattle.iris.specs.Bracketed.{◌>>=◌}
+use Rattle.iris.proofs.Options.{bind_some}
 use Rattle.lexer.specs.declared.token.Token.{Token}
 use Rattle.syntax_trees.specs.Groups.{Part}
 use Rattle.syntax_trees.specs.declared.tree.Name.{Name}
@@ -13,7 +14,6 @@ use Rattle.productions.specs.Steps.{Found}
 use Rattle.productions.specs.Names.{ReadsName}
 use Rattle.productions.specs.Keywords.{keyword_at, ReadsKeyword}
 use Rattle.productions.specs.Reading.{name_at}
-use Rattle.productions.proofs.StepLaws.{bind_some}
 use Rattle.productions.proofs.KeywordLaws.{keyword_again, keyword_takes, reads_no_other}
 use Rattle.productions.proofs.NameLaws.{name_found, name_takes, name_again}
 use Rattle.triples.specs.Reads.{ReadsQuads}

@@ -3,6 +3,7 @@ use Rattle.std.proofs.Common.{◌≡◌, ℕ, ◌<◌, Bool, true, false, List, 
 use Rattle.std.specs.Prelude.{codes}
 use Rattle.std.specs.Option.{option_map_or}
 use Rattle.iris.specs.Bracketed.{◌>>=◌}
+use Rattle.iris.proofs.Options.{bind_some}
 use Rattle.lexer.specs.declared.token.Token.{Token}
 use Rattle.syntax_trees.specs.declared.tree.Name.{Name}
 use Rattle.algebra.specs.declared.update.Target.{Target}
@@ -16,7 +17,6 @@ use Rattle.productions.specs.Steps.{Found, Takes, Again}
 use Rattle.productions.specs.Names.{ReadsName}
 use Rattle.productions.specs.Keywords.{is_keyword, keyword_at, ReadsKeyword}
 use Rattle.productions.specs.Reading.{name_at}
-use Rattle.productions.proofs.StepLaws.{bind_some}
 use Rattle.productions.proofs.KeywordLaws.{reads_keyword, keyword_again, keyword_takes, reads_no_other}
 use Rattle.productions.proofs.NameLaws.{name_found, name_takes, name_again}
 use Rattle.grammar.specs.Reads.{ReadsSilent, ReadsGraph, ReadsTarget, ReadsPlace, ReadsTransfer, ReadsOperation}

@@ -2,6 +2,7 @@
 use Rattle.std.proofs.Common.{◌≡◌, ℕ, zero, suc, ◌<◌, List, [], ◌∷◌, ◌++◌, length, Some, None, Result, Ok, Err, refl, sym, ap, ◌∙◌, subst, arith, append_assoc}
 use Rattle.std.specs.Option.{option_map_or}
 use Rattle.std.proofs.lemmas.List.{append-nil, nil_from_length}
+use Rattle.std.proofs.lemmas.Option.{same_Some, none-some}
 use Rattle.lexer.specs.Cut.{Cuts}
 use Rattle.lexer.specs.declared.token.Token.{Token}
 use Rattle.lexer.specs.declared.token.Token.TheVariants as token
@@ -12,10 +13,9 @@ use Rattle.syntax_trees.specs.declared.tree.Step.{Step}
 use Rattle.syntax_trees.specs.declared.tree.Step.TheVariants as step
 use Rattle.syntax_trees.specs.declared.tree.Syntax.{Syntax}
 use Rattle.productions.specs.Steps.{Fails}
-use Rattle.productions.proofs.StepLaws.{some_is, none_some}
 use Rattle.productions.proofs.KeywordLaws.{keyword_takes}
 use Rattle.grammar.specs.Reads.{ReadsRequest, nothing, prefix, last, next, Reads}
-use Rattle.grammar.specs.Reading.{operation_at, transferred_at, update_at, done_at, step_at, AreRead, IsRead}
+use Rattle.grammar.specs.Reading.{operation_at, transferred_at, update_at, done_at, step_at, AreRead}
 use Rattle.grammar.specs.Below.{Below}
 use Rattle.grammar.proofs.OperationLaws.{no_tokens}
 use Rattle.grammar.proofs.StepLaws.{StepAt, declares, ends, goes_on, step_found, step_again, step_shorter}
@@ -48,19 +48,6 @@ first_step (next {ts} {rest} {x} {steps} is r) = begins (step.Do x) rest steps (
 pub passes_on : (tokens : List Token) (r : Result (List Step) Stop) (e f : Stop) → r ≡ Err e → e ≡ f → AreRead tokens (Err f) → AreRead tokens r
 passes_on tokens r e f r-is e-is fails = subst (λ (r : Result (List Step) Stop). AreRead tokens r) (sym (r-is ∙ ap (λ (e : Stop). let r : Result (List Step) Stop = Err e in r) e-is)) fails
 
--- ---- the text
-
-same_syntax : (text : List ℕ) (ss : List Step) (other : Syntax) → other.steps ≡ ss → other.length ≡ length text → other ≡ record { steps = ss; length = length text }
-same_syntax text ss other steps bytes = λ i. record { steps = steps i; length = bytes i }
-
-pub is_read : (text : List ℕ) (ts : List Token) (r : Result (List Step) Stop) → Cuts text ts × ((us : List Token) → Cuts text us → us ≡ ts) → AreRead ts r → IsRead text r
-is_read text ts (Ok ss) cut read = (
-  record { tokens = ts; cut = cut.0; request = read.0; bytes = refl },
-  λ other reads. same_syntax text ss other (read.1 other.steps (subst (λ (us : List Token). ReadsRequest us other.steps) (cut.1 reads.tokens reads.cut) reads.request)) reads.bytes,
-)
-is_read text ts (Err stop.Memory) cut read = tt
-is_read text ts (Err stop.NoReading) cut read = λ other reads. read other.steps (subst (λ (us : List Token). ReadsRequest us other.steps) (cut.1 reads.tokens reads.cut) reads.request)
-
 module _ (below : Below) where
   nothing_left : {ss : List Step} → ReadsRequest [] ss → ss ≡ []
   nothing_left nothing = refl
@@ -75,9 +62,9 @@ module _ (below : Below) where
 
   first_is : (rest : List Token) (s : Step) (after : List Token) (all : List Step) → step_at rest ≡ Some (s, after) → BeginsWith rest all → (later : List Step) × (all ≡ s ∷ later) × ReadsRequest after later
   first_is rest s after all e (begins t r ss at request all-is) =
-      let same : (t, r) ≡ (s, after) = some_is (t, r) (s, after) (sym (step_again below at) ∙ e) in
+      let same : (t, r) ≡ (s, after) = same_Some (t, r) (s, after) (sym (step_again below at) ∙ e) in
       (ss, all-is ∙ ap (λ (x : Step). x ∷ ss) (ap (λ (y : Step × List Token). y.0) same), subst (λ (r : List Token). ReadsRequest r ss) (ap (λ (y : Step × List Token). y.1) same) request)
-  first_is rest s after all e (is_done none all-is) = absurd (none_some (s, after) (sym no_step ∙ ap step_at (sym none) ∙ e))
+  first_is rest s after all e (is_done none all-is) = absurd (none-some (s, after) (sym no_step ∙ ap step_at (sym none) ∙ e))
 
   pub read_more : (tokens : List Token) (before : List Step) (rest : List Token) (s : Step) (after : List Token) → IsReadSoFar tokens before rest → step_at rest ≡ Some (s, after) → IsReadSoFar tokens (before ++ s ∷ []) after
   read_more tokens before rest s after so_far e = record {
@@ -92,7 +79,7 @@ module _ (below : Below) where
   read_smaller rest s after e = step_shorter below (step_found below rest (s, after) e)
 
   stuck : (rest : List Token) (all : List Step) → 0 < length rest → step_at rest ≡ None → BeginsWith rest all → ⊥
-  stuck rest all some e (begins s r ss at request all-is) = none_some (s, r) (sym e ∙ step_again below at)
+  stuck rest all some e (begins s r ss at request all-is) = none-some (s, r) (sym e ∙ step_again below at)
   stuck rest all some e (is_done none all-is) = let at-end : length rest ≡ 0 = ap length none in omega arith
 
   read_stuck : (tokens : List Token) (before : List Step) (rest : List Token) → IsReadSoFar tokens before rest → 0 < length rest → step_at rest ≡ None → (ss : List Step) → ReadsRequest tokens ss → ⊥
@@ -116,7 +103,7 @@ module _ (below : Below) where
   -- ---- one reading
 
   done_only : (ts : List Token) (us : List Step) → ts ≡ [] → BeginsWith ts us → us ≡ []
-  done_only ts us none (begins s rest later at request us-is) = absurd (none_some (s, rest) (sym no_step ∙ ap step_at (sym none) ∙ step_again below at))
+  done_only ts us none (begins s rest later at request us-is) = absurd (none-some (s, rest) (sym no_step ∙ ap step_at (sym none) ∙ step_again below at))
   done_only ts us none (is_done same us-is) = us-is
 
   one_from : (n : ℕ) (ts : List Token) (ss us : List Step) → length ts < n → BeginsWith ts ss → BeginsWith ts us → ss ≡ us

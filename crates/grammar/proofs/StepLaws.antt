@@ -2,7 +2,9 @@
 use Rattle.std.proofs.Common.{◌≡◌, ℕ, ◌<◌, true, List, [], ◌∷◌, length, Some, None, refl, sym, ap, ◌∙◌, subst, arith, ◌⊎◌, inl, inr}
 use Rattle.std.specs.Prelude.{codes}
 use Rattle.std.specs.Option.{option_map_or}
+use Rattle.std.proofs.lemmas.Option.{same_Some}
 use Rattle.iris.specs.Bracketed.{◌>>=◌}
+use Rattle.iris.proofs.Options.{bind_some}
 use Rattle.lexer.specs.declared.token.Token.{Token}
 use Rattle.lexer.specs.declared.token.Token.TheVariants as token
 use Rattle.lexer.specs.declared.token.Sign.TheVariants as signs
@@ -11,7 +13,6 @@ use Rattle.syntax_trees.specs.declared.tree.Step.{Step}
 use Rattle.syntax_trees.specs.declared.tree.Step.TheVariants as step
 use Rattle.productions.specs.Steps.{Found}
 use Rattle.productions.specs.Keywords.{keyword_at, ReadsKeyword}
-use Rattle.productions.proofs.StepLaws.{bind_some, some_is}
 use Rattle.productions.proofs.KeywordLaws.{keyword_again, keyword_takes}
 use Rattle.grammar.specs.Reads.{ReadsOperation}
 use Rattle.grammar.specs.Reading.{operation_at, namespace_at, reference_at, declared_at, ended_at, done_at, step_at}
@@ -26,11 +27,11 @@ pub data StepAt : List Token → Step → List Token → Type 0 where
   goes_on : {ts rest : List Token} {x : Operation} → ReadsOperation ts x (token.Sign signs.Semicolon ∷ rest) → StepAt ts (step.Do x) rest
 
 namespace_found : (ts : List Token) (x : List ℕ × List Token) → namespace_at ts ≡ Some x → ts ≡ token.Name x.0 [] ∷ x.1
-namespace_found (token.Name p [] ∷ ts) x e = ap (λ (y : List ℕ × List Token). token.Name y.0 [] ∷ y.1) (some_is (p, ts) x e)
+namespace_found (token.Name p [] ∷ ts) x e = ap (λ (y : List ℕ × List Token). token.Name y.0 [] ∷ y.1) (same_Some (p, ts) x e)
 namespace_found ts x e = absurd cc
 
 reference_found : (ts : List Token) (x : List ℕ × List Token) → reference_at ts ≡ Some x → ts ≡ token.Iri x.0 ∷ x.1
-reference_found (token.Iri i ∷ ts) x e = ap (λ (y : List ℕ × List Token). token.Iri y.0 ∷ y.1) (some_is (i, ts) x e)
+reference_found (token.Iri i ∷ ts) x e = ap (λ (y : List ℕ × List Token). token.Iri y.0 ∷ y.1) (same_Some (i, ts) x e)
 reference_found ts x e = absurd cc
 
 declared_found : (ts r : List Token) (x : Step × List Token) → ReadsKeyword (codes "PREFIX") ts r → declared_at r ≡ Some x → StepAt ts x.0 x.1
@@ -42,8 +43,8 @@ declared_found ts r x word e =
     moved StepAt ts (step.Declare p.0.0 i.0.0, i.0.1) x i.2 (declares (subst (λ (us : List Token). ReadsKeyword (codes "PREFIX") ts us) cut word))
 
 ended_found : (ts rest : List Token) → ended_at ts ≡ Some rest → ((ts ≡ []) × (rest ≡ [])) ⊎ (ts ≡ token.Sign signs.Semicolon ∷ rest)
-ended_found [] rest e = inl (refl, sym (some_is [] rest e))
-ended_found (token.Sign signs.Semicolon ∷ ts) rest e = inr (ap (λ (r : List Token). token.Sign signs.Semicolon ∷ r) (some_is ts rest e))
+ended_found [] rest e = inl (refl, sym (same_Some [] rest e))
+ended_found (token.Sign signs.Semicolon ∷ ts) rest e = inr (ap (λ (r : List Token). token.Sign signs.Semicolon ∷ r) (same_Some ts rest e))
 ended_found ts rest e = absurd cc
 
 module _ (below : Below) where

@@ -2,20 +2,21 @@
 use Rattle.std.proofs.Common.{◌≡◌, ℕ, ◌≤◌, Bool, true, false, List, ◌∷◌, length, Option, Some, None, refl, ap, subst, arith}
 use Rattle.std.specs.Prelude.{codes}
 use Rattle.std.specs.Option.{option_map_or}
+use Rattle.std.proofs.lemmas.Option.{same_Some}
 use Rattle.iris.specs.Bracketed.{◌>>=◌}
+use Rattle.iris.proofs.Options.{bind_some}
 use Rattle.lexer.specs.declared.token.Token.{Token}
 use Rattle.syntax_trees.specs.declared.tree.Name.{Name}
 use Rattle.productions.specs.Steps.{Production, Reader}
 use Rattle.productions.specs.Names.{ReadsName, iri, prefixed}
 use Rattle.productions.specs.Keywords.{keyword_at, ReadsKeyword}
-use Rattle.productions.proofs.StepLaws.{bind_some, some_is}
 use Rattle.productions.proofs.KeywordLaws.{reads_keyword, keyword_again, keyword_takes, reads_no_other}
 use Rattle.grammar.specs.Reads.{ReadsSilent, silent, not_silent}
 use Rattle.grammar.specs.Reading.{silent_at}
 
 -- what a production reads at the front of ts, seen at what was found
 pub moved : {A : Type 0} (P : Production A) (ts : List Token) (x y : A × List Token) → Some x ≡ Some y → P ts x.0 x.1 → P ts y.0 y.1
-moved {A} P ts x y e p = subst (λ (z : A × List Token). P ts z.0 z.1) (some_is x y e) p
+moved {A} P ts x y e p = subst (λ (z : A × List Token). P ts z.0 z.1) (same_Some x y e) p
 
 -- where a word may be there
 pub by_word : {A : Type 0} (P : Production A) (k : List ℕ) (ts : List Token) (f : Reader A) (other : Option (A × List Token)) (x : A × List Token)

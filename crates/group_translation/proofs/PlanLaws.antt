@@ -1,6 +1,6 @@
 -- Patterns and expressions that grow at their end.
-use Rattle.std.proofs.Common.{◌≡◌, List, [], ◌∷◌, ◌++◌, map, reverse, refl, sym, ap, ◌∙◌}
-use Rattle.std.proofs.lemmas.List.{reverse-append}
+use Rattle.std.proofs.Common.{◌≡◌, List, [], ◌∷◌, ◌++◌, reverse, refl, sym, ap, ◌∙◌}
+use Rattle.std.proofs.lemmas.List.{reverse-append, map_push}
 use Rattle.terms.specs.declared.term.Term.{Term}
 use Rattle.algebra.specs.declared.expression.TwoOperator.{TwoOperator}
 use Rattle.algebra.specs.declared.expression.Expression.{Expression as Made}
@@ -11,10 +11,6 @@ use Rattle.algebra.specs.Expressions.{Expression, chained, expression_of, steps_
 use Rattle.algebra.specs.Plans.{Plan, linked, linked_all, plan_of, parts_of as linked_parts}
 use Rattle.algebra.proofs.Folds.{group_is, union_is as united_is, chain_is}
 use Rattle.group_translation.specs.Chains.{stacked}
-
-pub map_push : {A B : Type 0} (f : A → B) (xs : List A) (x : A) → map f (xs ++ x ∷ []) ≡ map f xs ++ f x ∷ []
-map_push f [] x = refl
-map_push f (y ∷ xs) x = ap (λ (ys : List _). f y ∷ ys) (map_push f xs x)
 
 -- one pattern more at the end of a group's
 pub linked_push : (before : Plan Term) (parts : List (Link Term × Kept Term)) (part : Link Term × Kept Term) → linked_all before (linked_parts (parts ++ part ∷ [])) ≡ linked (linked_all before (linked_parts parts)) part.0 (plan_of part.1)

@@ -115,7 +115,7 @@ fn chained(
 }
 
 /// The translation of an expression. Left operands lie as deep as a text is long: it goes down them by a loop.
-#[tactic(auto, using(crate::proofs::PlanLaws::map_push, crate::proofs::PlanLaws::stacked_push))]
+#[tactic(auto, using(std::proofs::lemmas::List::map_push, crate::proofs::PlanLaws::stacked_push))]
 fn translated_tree<'a>(
     alloc: Global,
     scope: &Scope<'_, 'a>,
@@ -154,7 +154,7 @@ fn translated_tree<'a>(
 }
 
 /// Adds the filter that an element is, if it is one.
-#[tactic(auto, using(nodes::proofs::GroupLaws::union_lists, crate::proofs::PlanLaws::map_push))]
+#[tactic(auto, using(nodes::proofs::GroupLaws::union_lists, std::proofs::lemmas::List::map_push))]
 fn add_filter<'a>(
     alloc: Global,
     scope: &Scope<'_, 'a>,
@@ -262,7 +262,7 @@ fn parts_of<'a>(
 
 /// Goes on with an element of a group.
 #[cycle(groups)]
-#[tactic(auto, using(nodes::proofs::GroupLaws::union_lists, crate::proofs::PlanLaws::folded, crate::proofs::PlanLaws::map_push))]
+#[tactic(auto, using(nodes::proofs::GroupLaws::union_lists, crate::proofs::PlanLaws::folded, std::proofs::lemmas::List::map_push))]
 fn add_part<'a>(
     alloc: Global,
     scope: &Scope<'_, 'a>,

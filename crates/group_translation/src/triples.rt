@@ -1,9 +1,9 @@
 //! Triples of templates and patterns.
 ghost use Rattle.std.specs.Prelude.{◌≡◌, ◌++◌, IfOk, OnOk};
-ghost use Rattle.group_translation.specs.Triples.{of_property, of_subject, of_triples, graph_of, pattern_of, patterns_of, quad_of, quads_of_block, template_of};
+ghost use Rattle.group_translation.specs.Triples.{of_property, of_subject, of_triples, slot_of, graph_of, pattern_of, patterns_of, quad_of, quads_of_block, template_of};
 
 use crate::scope::Scope;
-use algebra::{QuadTemplate, TriplePattern};
+use algebra::{QuadTemplate, Slot, TriplePattern};
 use sets::Items;
 use std::alloc::{AllocError, Global};
 use syntax_trees::{Block, Name, Node, Property, SameSubject};
@@ -87,6 +87,42 @@ struct Within<'s, 'a> {
     graph: &'s Option<Node<'a>>,
 }
 
+/// What a subject and a verb stand for.
+fn two_slots<'a>(
+    alloc: Global,
+    scope: &Scope<'_, 'a>,
+    subject: &Node<'a>,
+    verb: &Node<'a>,
+) -> Result<(Slot<Term>, Slot<Term>), AllocError>
+    ensures { IfOk result (λ x. x
+        ≡ (
+          slot_of scope.now.prefixes.now scope.now.variables.now scope.now.labels.now subject.now,
+          slot_of scope.now.prefixes.now scope.now.variables.now scope.now.labels.now verb.now,
+        )) }
+{
+    let subject = scope.slot(alloc, subject)?;
+    let verb = scope.slot(alloc, verb)?;
+    Ok((subject, verb))
+}
+
+/// What an object stands for, and the graph of its quad.
+fn object_of<'a>(
+    alloc: Global,
+    within: &Within<'_, 'a>,
+    object: &Node<'a>,
+) -> Result<(Slot<Term>, Option<Slot<Term>>), AllocError>
+    ensures { IfOk result (λ x. x ≡ (
+      slot_of within.now.scope.now.prefixes.now
+          within.now.scope.now.variables.now within.now.scope.now.labels.now object.now,
+      graph_of within.now.scope.now.prefixes.now within.now.scope.now.variables.now
+          within.now.scope.now.labels.now within.now.with.now within.now.graph.now,
+    )) }
+{
+    let object = within.scope.slot(alloc, object)?;
+    let graph = within.scope.graph(alloc, within.with, within.graph)?;
+    Ok((object, graph))
+}
+
 fn quad_of<'a>(
     alloc: Global,
     within: &Within<'_, 'a>,
@@ -100,11 +136,13 @@ fn quad_of<'a>(
         within.now.scope.now.labels.now within.now.with.now within.now.graph.now) subject.now
         verb.now object.now) }
 {
+    let (subject, predicate) = two_slots(alloc, within.scope, subject, verb)?;
+    let (object, graph) = object_of(alloc, within, object)?;
     Ok(QuadTemplate {
-        subject: within.scope.slot(alloc, subject)?,
-        predicate: within.scope.slot(alloc, verb)?,
-        object: within.scope.slot(alloc, object)?,
-        graph: within.scope.graph(alloc, within.with, within.graph)?,
+        subject,
+        predicate,
+        object,
+        graph,
     })
 }
 

@@ -14,11 +14,12 @@ use Rattle.productions.specs.Many.{Many, last, next}
 use Rattle.productions.proofs.KeywordLaws.{other_keyword, no_keyword}
 use Rattle.productions.proofs.ManyLaws.{Consumes, Completes, many_again}
 use Rattle.triples.specs.Reads.{ReadsMaybeDot, dot, no_dot, is_a, EndsTriples, at_open, at_close, at_word}
-use Rattle.triples.specs.Reading.{begins_node, after_dot}
+use Rattle.triples.specs.Reading.{begins_node}
+use Rattle.triples.proofs.QuadLaws.{dot_again, dot_keeps}
 use Rattle.groups.specs.Reads.{ReadsFront, triples, no_triples, UnionLink, or_group, no_union, ReadsPart, union, optional, minus, in_graph, filter, ReadsParts, close, part, ReadsBraces, braces, ReadsGroup}
 use Rattle.groups.specs.Reading.{unlabelled_at, front_at, union_link, union_with, optional_with, minus_with, graph_with, filter_at, part_with, item_with, items_from, parts_with, braces_with, group_at}
 use Rattle.groups.proofs.Below.{Below, BelowAgain}
-use Rattle.groups.proofs.Parts.{groups_consume, groups_shrink, part_takes, front_shorter, dot_shorter, group_takes}
+use Rattle.groups.proofs.Parts.{groups_consume, groups_shrink, part_takes, front_shorter, group_takes}
 
 -- ---- what begins and what follows
 
@@ -76,10 +77,6 @@ or_is (or_group k) = (tt, rw k refl)
 no_is : {r s : List Token} → UnionLink r false s → keyword_at (codes "UNION") s ≡ None → Unit {0} × (union_link r ≡ (false, s))
 no_is no_union none = (tt, rw none refl)
 
-dot_again : {r u : List Token} → ReadsMaybeDot r u → sign_at signs.Dot u ≡ None → after_dot r ≡ u
-dot_again dot none = refl
-dot_again no_dot none = rw none refl
-
 node_front : (ts : List Token) → begins_node ts ≡ true → (sign_at signs.Dot ts ≡ None) × (keyword_at (codes "UNION") ts ≡ None)
 node_front (token.Variable v ∷ ts) e = (refl, refl)
 node_front (token.Iri i ∷ ts) e = (refl, refl)
@@ -134,7 +131,7 @@ module _ (b : Below) (a : BelowAgain) where
     items_again takes (part {ts} {r} {u} {v} {rest} {p} xs ps i d f m) zero l = absurd (let c = part_takes b n inner I takes ts p r i in omega arith)
     items_again takes (part {ts} {r} {u} {v} {rest} {p} xs ps i d f m) (suc k) l =
         let c = part_takes b n inner I takes ts p r i in
-        let e = dot_shorter r u d in
+        let e = dot_keeps d in
         let g = front_shorter b u xs v f in
         rw (not_closed n I opens i, item_again i d f (parts_follow n I opens m), items_again takes m k (omega arith)) refl
 

@@ -1,7 +1,10 @@
 -- The loop over the parts of a group: what was found and what is left to read is all.
 use Rattle.std.proofs.Common.{◌≡◌, ℕ, ◌<◌, false, List, [], ◌∷◌, ◌++◌, length, Option, Some, None, Result, Err, refl, sym, ap, ◌∙◌, subst, arith, append_assoc}
 use Rattle.std.specs.Option.{MatchOption, is_some}
+use Rattle.std.proofs.lemmas.Option.{same_Some}
+use Rattle.std.proofs.lemmas.List.{map_push}
 use Rattle.iris.specs.Bracketed.{◌>>=◌}
+use Rattle.iris.proofs.Options.{bind_some}
 use Rattle.lexer.specs.declared.token.Token.{Token}
 use Rattle.lexer.specs.declared.token.Sign.TheVariants as signs
 use Rattle.lexer.specs.declared.stop.Stop.{Stop}
@@ -10,12 +13,10 @@ use Rattle.syntax_trees.specs.declared.group.Element.{Element}
 use Rattle.syntax_trees.specs.Groups.{Part, part_of, parts_of}
 use Rattle.productions.specs.Steps.{Reader, Fails, Gives}
 use Rattle.productions.specs.Signs.{sign_at}
-use Rattle.productions.proofs.StepLaws.{bind_some, some_is}
 use Rattle.triples.specs.Reading.{after_dot}
 use Rattle.groups.specs.Reading.{behind, front_at, part_with, item_with, items, parts_with, group_at}
 use Rattle.groups.specs.Laws.{ItemsShrink}
 use Rattle.groups.proofs.ItemLaws.{behind_nothing, behind_both, items_stuck, items_next}
-use Rattle.groups.proofs.TreeLaws.{map_push}
 
 -- ---- exits
 
@@ -92,7 +93,7 @@ module _ (n : ℕ) where
           record {
             xs = y.0;
             turn_is = item_is ts r (part_of x) part_is ∙ ap (λ (o : Option (List Part × List Token)). o >>= λ xs. Some (part_of x ∷ xs.0, xs.1)) y.1;
-            same = some_is (behind_part y.0) (found, rest) y.2;
+            same = same_Some (behind_part y.0) (found, rest) y.2;
           }
 
       pub turn_shrinks : (found : List Part) (rest : List Token) → behind (parts_of after) (front_at u) ≡ Some (found, rest) → length rest < length ts

@@ -1,2 +1,4 @@
 pub mod RunLaws
 pub mod TextLaws
+pub mod Options
+pub mod ByteLaws

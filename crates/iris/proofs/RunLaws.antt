@@ -1,11 +1,9 @@
 -- Runs, as code finds them by a position, and as a grammar cuts them.
-use Rattle.std.proofs.Common.{◌≡◌, ℕ, suc, ◌+◌, Bool, true, false, cond, List, [], ◌∷◌, ◌++◌, take, drop, refl, sym, ap, ◌∙◌, subst, arith}
+use Rattle.std.proofs.Common.{◌≡◌, ℕ, ◌+◌, Bool, true, false, cond, List, [], ◌∷◌, ◌++◌, take, drop, refl, sym, ap, ◌∙◌, subst}
 use Rattle.std.specs.List.{list_all, prefix_len}
 use Rattle.std.proofs.lemmas.Bool.{and_parts}
+use Rattle.std.proofs.Math.Numerals.{one-add}
 use Rattle.iris.specs.Runs.{run_of, rest_of, Stops, RunsAreLongest}
-
-one-more : (n : ℕ) → 1 + n ≡ suc n
-one-more n = omega arith
 
 -- the front and what follows are the text
 pub run-rest : (p : ℕ → Bool) (xs : List ℕ) → run_of p xs ++ rest_of p xs ≡ xs
@@ -14,11 +12,11 @@ run-rest p (x ∷ xs) = elim (p x) as (λ b. cond b (x ∷ run_of p xs) [] ++ co
 
 pub take-prefix : (p : ℕ → Bool) (xs : List ℕ) → take (prefix_len p xs) xs ≡ run_of p xs
 take-prefix p [] = refl
-take-prefix p (x ∷ xs) = elim (p x) as (λ b. take (cond b (1 + prefix_len p xs) 0) (x ∷ xs) ≡ cond b (x ∷ run_of p xs) []) [ true ↦ ap (λ n. take n (x ∷ xs)) (one-more (prefix_len p xs)) ∙ ap (λ (r : List ℕ). x ∷ r) (take-prefix p xs) | false ↦ refl ]
+take-prefix p (x ∷ xs) = elim (p x) as (λ b. take (cond b (1 + prefix_len p xs) 0) (x ∷ xs) ≡ cond b (x ∷ run_of p xs) []) [ true ↦ ap (λ n. take n (x ∷ xs)) (one-add (prefix_len p xs)) ∙ ap (λ (r : List ℕ). x ∷ r) (take-prefix p xs) | false ↦ refl ]
 
 pub drop-prefix : (p : ℕ → Bool) (xs : List ℕ) → drop (prefix_len p xs) xs ≡ rest_of p xs
 drop-prefix p [] = refl
-drop-prefix p (x ∷ xs) = elim (p x) as (λ b. drop (cond b (1 + prefix_len p xs) 0) (x ∷ xs) ≡ cond b (rest_of p xs) (x ∷ xs)) [ true ↦ ap (λ n. drop n (x ∷ xs)) (one-more (prefix_len p xs)) ∙ drop-prefix p xs | false ↦ refl ]
+drop-prefix p (x ∷ xs) = elim (p x) as (λ b. drop (cond b (1 + prefix_len p xs) 0) (x ∷ xs) ≡ cond b (rest_of p xs) (x ∷ xs)) [ true ↦ ap (λ n. drop n (x ∷ xs)) (one-add (prefix_len p xs)) ∙ drop-prefix p xs | false ↦ refl ]
 
 pub all-run : (p : ℕ → Bool) (xs : List ℕ) → list_all p (run_of p xs) ≡ true
 all-run p [] = refl

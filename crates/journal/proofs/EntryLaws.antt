@@ -1,6 +1,6 @@
 -- Entries and lines.
 use Rattle.std.specs.Prelude.{ℕ, ◌==◌, ◌≢◌, ◌+◌, nat_eq, All, Result, Ok, Err, IfOk, MatchResult}
-use Rattle.std.proofs.Common.{◌≡◌, true, cond, List, [], ◌∷◌, ◌++◌, Option, Some, None, refl, sym, ap, ◌∙◌, subst, length, take, drop, append_assoc, arith, inl, inr}
+use Rattle.std.proofs.Common.{◌≡◌, true, cond, List, [], ◌∷◌, ◌++◌, Some, None, refl, sym, ap, ◌∙◌, subst, length, take, drop, append_assoc, arith, inl, inr}
 use Rattle.std.specs.List.{flat_map, starts_with, AllByRecursion}
 use Rattle.std.specs.Cmp.Lexicographic.{pointwise, same_text}
 use Rattle.std.proofs.lemmas.Bool.{eqb-true}
@@ -10,6 +10,7 @@ use Rattle.std.proofs.lemmas.List.Elements.{recursion_from_All, All-from_recursi
 use Rattle.std.proofs.lemmas.Option.{same_Some, cond_some}
 use Rattle.iris.specs.Runs.{run_of, rest_of, IsRun, RunsAreLongest}
 use Rattle.iris.specs.Bracketed.{◌>>=◌}
+use Rattle.iris.proofs.Options.{bind_some}
 use Rattle.nquads_lines.specs.Lines.{is_inner}
 use Rattle.nquads.specs.Tag.{mark_of}
 use Rattle.journal.specs.declared.fault.JournalFault.{JournalFault}
@@ -21,10 +22,6 @@ use Rattle.journal.specs.Journal.{IsJournal, IsBad, IsBadBehind, IsFirstBad}
 use Rattle.journal.specs.Reading.{line_of}
 use Rattle.journal.specs.Entry.{after_lf, line_at, entry_at, Faults}
 use Rattle.journal.proofs.LineLaws.{TermsArePieces, body_piece}
-
-bind_some : {A B : Type 0} (o : Option A) (f : A → Option B) (y : B) → (o >>= f) ≡ Some y → (x : A) × (o ≡ Some x) × (f x ≡ Some y)
-bind_some None f y e = absurd cc
-bind_some (Some x) f y e = (x, refl, e)
 
 -- a line's text and what follows it
 ended : (tag : ℕ) (l : Line) (rest : List ℕ) → line_text tag l ++ rest ≡ line_body tag l ++ 10 ∷ rest

@@ -1,4 +1,3 @@
-pub mod TextLaws
 pub mod NumberLaws
 pub mod TermLaws
 pub mod LineLaws

@@ -1,11 +1,9 @@
 -- The words and terms that are written are read.
 use Rattle.std.specs.Prelude.{ℕ, ◌<◌, ◌^◌, nat_eq, codes}
-use Rattle.std.proofs.Common.{◌≡◌, true, false, List, [], ◌∷◌, ◌++◌, Option, Some, None, refl, sym, ap, ◌∙◌, drop, append_assoc, arith}
+use Rattle.std.proofs.Common.{◌≡◌, true, false, List, [], ◌∷◌, ◌++◌, Option, Some, None, refl, sym, ap, ◌∙◌, drop, arith}
 use Rattle.std.specs.List.{list_all, flat_map, starts_with}
 use Rattle.std.specs.Fmt.{decimal}
-use Rattle.std.specs.Cmp.Lexicographic.{pointwise}
-use Rattle.std.proofs.Math.Seq.{take-append_seam, drop-append_seam}
-use Rattle.std.proofs.lemmas.Cmp.{nat_list_eq_equiv}
+use Rattle.std.proofs.Math.Seq.{drop-append_seam}
 use Rattle.std.proofs.lemmas.List.{append-nil}
 use Rattle.iris.specs.Iri.{is_digit}
 use Rattle.iris.specs.Runs.{RunsAreLongest}
@@ -13,13 +11,14 @@ use Rattle.datasets.specs.declared.read.GraphPlace.{GraphPlace}
 use Rattle.datasets.specs.declared.read.GraphPlace.TheVariants.{Any, Only}
 use Rattle.datasets.specs.declared.read.Read.{Read}
 use Rattle.datasets.specs.declared.read.Read.TheVariants.{Scan, GraphIs, Graphs}
-use Rattle.terms.specs.Canonical.{term_text, made_label}
+use Rattle.terms.specs.Canonical.{term_text}
 use Rattle.terms.specs.declared.term.Term.{Term}
 use Rattle.terms.specs.declared.term.Term.TheVariants.{Iri, Literal, Blank, Made}
 use Rattle.nquads_lines.specs.ReadTerms.{object_at}
 use Rattle.nquads.specs.Tag.{mark_of}
 use Rattle.nquads_laws.specs.Named.{named_term}
 use Rattle.nquads_laws.specs.WellFormed.{IsTerm}
+use Rattle.nquads_laws.proofs.Labels.{label_is, starts-append}
 use Rattle.journal.specs.Text.{place_word, graph_word, read_words, spaced}
 use Rattle.journal.specs.Lines.{IsHeld, IsPlace, IsGraphPlace, IsRead}
 use Rattle.journal.specs.Words.{is_word_byte, word, behind}
@@ -44,15 +43,6 @@ joined words = drop 1 (flat_map spaced words)
 
 abbrev after_mark : ℕ → ℕ → ℕ → ℕ → List ℕ
 after_mark r o l s = decimal r ++ 111 ∷ (decimal o ++ 108 ∷ (decimal l ++ 115 ∷ decimal s))
-
-regrouped : (m a b c d : List ℕ) → m ++ a ++ (111 ∷ []) ++ b ++ (108 ∷ []) ++ c ++ (115 ∷ []) ++ d ≡ m ++ (a ++ 111 ∷ (b ++ 108 ∷ (c ++ 115 ∷ d)))
-regrouped m a b c d = simp append_assoc
-
-label_is : (tag r o l s : ℕ) → made_label tag r o l s ≡ mark_of tag ++ after_mark r o l s
-label_is tag r o l s = regrouped (mark_of tag) (decimal r) (decimal o) (decimal l) (decimal s)
-
-starts-append : (xs ys : List ℕ) → starts_with nat_eq (xs ++ ys) xs ≡ true
-starts-append xs ys = ap (pointwise nat_eq xs) (take-append_seam xs ys) ∙ nat_list_eq_equiv.refl xs
 
 part_front : RunsAreLongest → (n c : ℕ) (rest : List ℕ) → n < 2 ^ 32 → is_digit c ≡ false → part_at (decimal n ++ c ∷ rest) ≡ Some (n, rest)
 unfolding part_at

@@ -154,7 +154,7 @@ fn body_at(alloc: Global, mark: &[u8], text: &str) -> Result<Line, Stop>
 }
 
 /// The one line that these bytes may be the text of.
-#[tactic(auto, using(crate::proofs::TextLaws::text_laws), unfolding(crate::specs::Reading::line_of))]
+#[tactic(auto, using(iris::proofs::TextLaws::text_laws), unfolding(crate::specs::Reading::line_of))]
 pub fn line_of(alloc: Global, mark: &[u8], bytes: &[u8]) -> Result<Line, Stop>
     ensures read { Gives (λ x. x) result (line_of mark.now bytes.now) }
     ensures form { IfOk result (λ l. IsLine mark.now l) }

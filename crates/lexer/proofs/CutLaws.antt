@@ -6,11 +6,12 @@ use Rattle.lexer.specs.declared.stop.Stop.{Stop}
 use Rattle.lexer.specs.declared.stop.Stop.TheVariants as stop
 use Rattle.lexer.specs.Gives.{IsCut}
 use Rattle.std.specs.List.{list_all}
-use Rattle.std.proofs.lemmas.Bool.{eqb-true, and_parts, not-false}
+use Rattle.std.proofs.lemmas.Bool.{eqb-true, and_parts, not-false, or_right}
 use Rattle.std.proofs.lemmas.Option.{same_Some, none-some}
 use Rattle.std.proofs.lemmas.List.{append-nil, nil_from_length}
 use Rattle.iris.specs.Runs.{run_of, rest_of, RunsAreLongest}
 use Rattle.iris.specs.Iri.{is_letter, is_digit}
+use Rattle.iris.proofs.ByteLaws.{test_ne}
 use Rattle.lexer.specs.declared.token.Token.{Token}
 use Rattle.lexer.specs.declared.token.Sign.{Sign}
 use Rattle.lexer.specs.declared.token.Sign.TheVariants as signs
@@ -19,15 +20,11 @@ use Rattle.lexer.specs.Strings.{is_quote}
 use Rattle.lexer.specs.Form.{IsToken, iri, name, variable, blank, string, tag, integer, word, sign, sign_text}
 use Rattle.lexer.specs.Cut.{is_space, is_inner, is_line_end, AtLineEnd, IsLongest, Cuts, end, space, comment, token}
 use Rattle.lexer.specs.Reading.{skip_from, token_at, NoneAhead}
-use Rattle.lexer.proofs.ByteLaws.{test_ne, run-rest, all-run}
+use Rattle.lexer.proofs.ByteLaws.{run-rest, all-run}
 use Rattle.lexer.proofs.TokenLaws.{of_marks, token_found, longest_found, longest_again, none_begins}
 use Rattle.lexer.proofs.EdgeLaws.{edge_after, edge_skip}
 
 -- ---- white space and comments
-
-or_right : (a b : Bool) → b ≡ true → (a || b) ≡ true
-or_right true b e = refl
-or_right false b e = e
 
 line_end_space : (b : ℕ) → is_inner b ≡ false → is_space b ≡ true
 line_end_space b e = or_right (eqb b 32 || eqb b 9) (is_line_end b) (not-false (is_line_end b) e)
@@ -196,7 +193,7 @@ sign_len signs.Plus = omega arith
 sign_len signs.Minus = omega arith
 sign_len signs.Star = omega arith
 
-token_len : {front after : List ℕ} {t : Token} → IsToken front after t → 0 < length front
+pub token_len : {front after : List ℕ} {t : Token} → IsToken front after t → 0 < length front
 token_len (iri {i} is) = omega arith
 token_len (name {p} {l} prefix local) = omega (arith, length-append p (58 ∷ l))
 token_len (variable {m} {v} mark is) = omega arith

@@ -8,11 +8,12 @@ use Rattle.std.proofs.lemmas.Str.Ascii.{IsAscii-from_all}
 use Rattle.std.proofs.lemmas.List.Elements.{All-from_recursion}
 use Rattle.std.proofs.lemmas.List.Folds.{list_all-append}
 use Rattle.iris.specs.Iri.{is_letter, is_digit, is_scheme_byte, is_iri_byte, after_first, IsIri}
+use Rattle.iris.proofs.ByteLaws.{by_trial, letter_small, digit_small}
 use Rattle.lexer.specs.declared.token.Token.{Token}
 use Rattle.lexer.specs.Names.{is_name_byte, IsLocal}
 use Rattle.lexer.specs.Form.{IsToken, iri, name, variable, blank, string, tag, integer, word, sign, HasParts}
 use Rattle.lexer.specs.Cut.{Cuts, end, space, comment, token as token_cut}
-use Rattle.lexer.proofs.ByteLaws.{letter_small, digit_small, start_name, all_weaker, by_trial}
+use Rattle.lexer.proofs.ByteLaws.{start_name, all_weaker}
 use Rattle.lexer.proofs.StringLaws.{spelled_is_utf8}
 
 -- ---- bytes of names

@@ -3,19 +3,20 @@ use Rattle.std.proofs.Common.{◌≡◌, ℕ, suc, ◌+◌, ◌-◌, ◌≤◌, 
 use Rattle.std.proofs.Math.Utf8.{scalar, scalars}
 use Rattle.std.specs.Str.{is_utf8}
 use Rattle.std.specs.Char.{len_utf8}
-use Rattle.std.proofs.lemmas.Bool.{eqb-true, and_parts, or_cases, ltb-true, ltb-false}
+use Rattle.std.proofs.lemmas.Bool.{eqb-true, and_parts, or_cases, ltb-true, ltb-false, or_parts}
 use Rattle.std.proofs.lemmas.List.{take_at, append-nil}
 use Rattle.std.proofs.lemmas.Option.{same_Some, none-some}
 use Rattle.std.proofs.lemmas.Str.{IsUtf8-nil, IsUtf8-append, IsUtf8-encode, IsUtf8-from_is_utf8, is_utf8-from_IsUtf8, IsUtf8-from_ascii, encode_ascii, length-encode, inside_one}
 use Rattle.std.proofs.lemmas.Str.Ascii.{IsAscii-from_all}
 use Rattle.std.proofs.lemmas.List.Elements.{All-from_recursion}
 use Rattle.iris.specs.Forms.{short_escape}
+use Rattle.iris.proofs.ByteLaws.{by_test}
 use Rattle.lexer.specs.declared.token.Token.{Token}
 use Rattle.lexer.specs.declared.token.Token.TheVariants as token
 use Rattle.lexer.specs.Strings.{is_quote, ends_plain, Spells, end, plain, short, IsEscaped, end as escaped_end, plain as escaped_plain, short as escaped_short, unescaped, unescaped_after}
 use Rattle.lexer.specs.Form.{IsBarred, quotes}
 use Rattle.lexer.specs.Reading.{string_end, begins_with_two, quoted, quoted_at, string_at}
-use Rattle.lexer.proofs.ByteLaws.{by_test, picked}
+use Rattle.lexer.proofs.ByteLaws.{picked}
 
 -- ---- escapes
 
@@ -72,16 +73,12 @@ of_quotes P double single q quote =
 closes : (rest : List ℕ) (quote : ℕ) → is_quote quote ≡ true → string_end quote false (quote ∷ rest) ≡ Some rest
 closes rest = of_quotes (λ q. string_end q false (q ∷ rest) ≡ Some rest) refl refl
 
-or_first : (a b : Bool) → (a || b) ≡ false → (a ≡ false) × (b ≡ false)
-or_first false b e = (refl, e)
-or_first true b e = absurd cc
-
 end_again : {quote : ℕ} {written value : List ℕ} (rest : List ℕ) → is_quote quote ≡ true → Spells quote written value → string_end quote false (written ++ quote ∷ rest) ≡ Some rest
 end_again {quote} rest is end = closes rest quote is
 end_again {quote} rest is (plain {b} {written} {value} p s) =
-    let line = or_first ((eqb b quote || eqb b 92) || eqb b 10) (eqb b 13) p in
-    let feed = or_first (eqb b quote || eqb b 92) (eqb b 10) line.0 in
-    let both = or_first (eqb b quote) (eqb b 92) feed.0 in
+    let line = or_parts ((eqb b quote || eqb b 92) || eqb b 10) (eqb b 13) p in
+    let feed = or_parts (eqb b quote || eqb b 92) (eqb b 10) line.0 in
+    let both = or_parts (eqb b quote) (eqb b 92) feed.0 in
     rw (both.1, both.0, feed.1, line.1) (end_again rest is s)
 end_again {quote} rest is (short {b} {c} {written} {value} e s) = rw e (end_again rest is s)
 
@@ -90,9 +87,9 @@ spells_value : {quote : ℕ} {written value : List ℕ} → Spells quote written
 spells_value end = (escaped_end, refl)
 spells_value (plain {b} {written} {value} p s) =
     let below = spells_value s in
-    let line = or_first ((eqb b _ || eqb b 92) || eqb b 10) (eqb b 13) p in
-    let feed = or_first (eqb b _ || eqb b 92) (eqb b 10) line.0 in
-    let both = or_first (eqb b _) (eqb b 92) feed.0 in
+    let line = or_parts ((eqb b _ || eqb b 92) || eqb b 10) (eqb b 13) p in
+    let feed = or_parts (eqb b _ || eqb b 92) (eqb b 10) line.0 in
+    let both = or_parts (eqb b _) (eqb b 92) feed.0 in
     (escaped_plain both.1 below.0, rw both.1 (ap (λ (x : List ℕ). b ∷ x) below.1))
 spells_value (short {b} {c} {written} {value} e s) =
     let below = spells_value s in

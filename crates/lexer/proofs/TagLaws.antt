@@ -10,8 +10,8 @@ use Rattle.std.proofs.lemmas.Str.Ascii.{IsAscii-from_all}
 use Rattle.std.proofs.lemmas.List.Elements.{All-from_recursion}
 use Rattle.iris.specs.Iri.{is_letter, is_digit}
 use Rattle.iris.specs.Forms.{is_small_letter, InTag, start, first, dash, later as in_later, is_tag_from, is_tag}
+use Rattle.iris.proofs.ByteLaws.{test_ne, letter_small, digit_small}
 use Rattle.lexer.specs.Reading.{begins_group, tag_of, tag_end}
-use Rattle.lexer.proofs.ByteLaws.{letter_small, digit_small, test_ne}
 
 -- ---- letters of either case
 

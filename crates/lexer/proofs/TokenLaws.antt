@@ -9,6 +9,7 @@ use Rattle.std.proofs.lemmas.Str.{IsUtf8-from_is_utf8, is_utf8-from_IsUtf8}
 use Rattle.iris.specs.Iri.{is_letter, is_digit, is_iri_byte, is_iri, IsIri}
 use Rattle.iris.specs.Runs.{run_of, rest_of, Stops, RunsAreLongest}
 use Rattle.iris.specs.Forms.{is_label, is_tag}
+use Rattle.iris.proofs.ByteLaws.{by_test, test_ne, iri_bytes}
 use Rattle.lexer.specs.declared.token.Token.{Token}
 use Rattle.lexer.specs.declared.token.Token.TheVariants as token
 use Rattle.lexer.specs.declared.token.Sign.{Sign}
@@ -18,7 +19,7 @@ use Rattle.lexer.specs.Strings.{is_quote, Spells}
 use Rattle.lexer.specs.Form.{sign_text, is_variable_mark, begins_with_digit, continues_integer, EndsInteger, IsBarred, quotes, no_iri, IsToken, iri, name, variable, blank, string, tag, integer, word, sign}
 use Rattle.lexer.specs.Cut.{IsLongest}
 use Rattle.lexer.specs.Reading.{NoneAhead, local_at, name_after, name_or_word, variable_at, label_at, blank_at, integer_at, tag_of, tag_end, tag_at, begins_with_two, string_at, sign_at, bracketed, angle_at, plain_at, token_at}
-use Rattle.lexer.proofs.ByteLaws.{cut_same, run_longer, all_weaker, by_test, test_ne, digit_no_letter, letter_name, start_name, start_variable, iri_bytes, run-rest, all-run, run_until}
+use Rattle.lexer.proofs.ByteLaws.{cut_same, run_longer, all_weaker, digit_no_letter, letter_name, start_name, start_variable, run-rest, all-run, run_until}
 use Rattle.lexer.proofs.EdgeLaws.{no_name}
 use Rattle.lexer.proofs.SignLaws.{At, exactly, sign_found, one_reached, two_reached}
 use Rattle.lexer.proofs.TagLaws.{tag_is, tag_split, tag_longer}

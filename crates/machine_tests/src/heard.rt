@@ -34,7 +34,10 @@ impl<'r, R: Wait> Gate for Sees<'r, R> {
 // Whether the journal has of a worker what the gate saw of it, in that order.
 fn has_seen(book: &Book<'_>, lines: &[(u32, Line)], worker: u32) -> bool {
     let seen = lines.iter().filter(|line| line.0 == worker);
-    let kept = book.journal().iter().filter(|entry| entry.worker == worker);
+    let kept = book
+        .journal()
+        .iter()
+        .filter(|entry| entry.worker() == worker);
     seen.map(|line| line.1).eq(kept.map(line_of_kept))
 }
 

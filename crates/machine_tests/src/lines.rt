@@ -1,6 +1,6 @@
 //! What workers do and are told, without terms.
 use block_machine::{Entry, Event, Reply};
-use book::{JournalEntry, Kept};
+use book::{Kept, PackedEntry, Shown};
 
 /// What a worker does: an event at the request of a place, where it matters with its incarnation.
 #[derive(Clone, Copy, PartialEq, Eq)]
@@ -81,9 +81,9 @@ pub fn line_of(entry: &Entry) -> Line {
     line_by(&entry.event, &entry.reply)
 }
 
-/// An entry of a journal as a line.
-pub fn line_of_kept(entry: &JournalEntry) -> Line {
-    match &entry.kept {
+// What a journal keeps of an event and its reply, as a line.
+fn line_of_whole(kept: &Kept) -> Line {
+    match kept {
         Kept::Answered(i, n, _, _) => Line {
             step: Step::Read(*i, *n),
             told: Told::Answered,
@@ -93,5 +93,20 @@ pub fn line_of_kept(entry: &JournalEntry) -> Line {
             told: Told::Published,
         },
         Kept::Other(event, reply) => line_by(event, reply),
+    }
+}
+
+/// An entry of a journal as a line.
+pub fn line_of_kept(entry: &PackedEntry) -> Line {
+    match entry.shown() {
+        Shown::Answered(i, n, _, _) => Line {
+            step: Step::Read(i, n),
+            told: Told::Answered,
+        },
+        Shown::Passed(i, n) => Line {
+            step: Step::Check(i, n),
+            told: Told::Passed,
+        },
+        Shown::Whole(kept) => line_of_whole(kept),
     }
 }

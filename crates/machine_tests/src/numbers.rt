@@ -15,7 +15,7 @@ use store::{Alone, Together};
 use terms::{DataSet, Term, canonical};
 
 // A base and a block that is read at numbers.
-fn numbered_over(alloc: Global, base: &str, block: &Block) -> Result<Numbered, BaseFault> {
+fn numbered_over(alloc: Global, base: &str, block: Block) -> Result<Numbered, BaseFault> {
     let base = read_bytes(alloc, base.as_bytes())?;
     Ok(number(&Alone, alloc, &base, block)?)
 }
@@ -23,7 +23,7 @@ fn numbered_over(alloc: Global, base: &str, block: &Block) -> Result<Numbered, B
 /// A base and a block at numbers.
 pub fn numbered(alloc: Global, base: &str, block: &str) -> Result<Numbered, Fail> {
     let block = split(alloc, block.as_bytes())?;
-    Ok(numbered_over(alloc, base, &block)?)
+    Ok(numbered_over(alloc, base, block)?)
 }
 
 /// The request at one of the first thousand places, which has few operations.
@@ -126,17 +126,14 @@ fn falling(alloc: Global, quads: u32) -> Result<Vec<u8>, AllocError> {
     Ok(text)
 }
 
-fn by_one(alloc: Global, base: &DataSet, block: &Block) -> Result<Numbered, AllocError> {
-    number(&Alone, alloc, base, block)
+// The block at numbers, over a base that one thread puts in order.
+fn by_one(alloc: Global, base: &DataSet) -> Result<Numbered, Fail> {
+    Ok(number(&Alone, alloc, base, split(alloc, MOVED)?)?)
 }
 
-fn by_threads<T: Threads + Sync>(
-    rt: &T,
-    alloc: Global,
-    base: &DataSet,
-    block: &Block,
-) -> Result<Numbered, AllocError> {
-    number(&Together::new(rt), alloc, base, block)
+// The same by threads.
+fn by_threads<T: Threads + Sync>(rt: &T, alloc: Global, base: &DataSet) -> Result<Numbered, Fail> {
+    Ok(number(&Together::new(rt), alloc, base, split(alloc, MOVED)?)?)
 }
 
 // Whether the two have one dataset, of so many quads, with the same numbers of the same terms.
@@ -162,12 +159,11 @@ fn are_numbered_alike<T: Threads + Sync>(
     rt: &T,
     alloc: Global,
     base: &DataSet,
-    block: &Block,
     quads: usize,
-) -> Result<bool, AllocError> {
-    let one = by_one(alloc, base, block)?;
-    let other = by_threads(rt, alloc, base, block)?;
-    are_alike(alloc, &one, &other, quads)
+) -> Result<bool, Fail> {
+    let one = by_one(alloc, base)?;
+    let other = by_threads(rt, alloc, base)?;
+    Ok(are_alike(alloc, &one, &other, quads)?)
 }
 
 // A base of so many quads.
@@ -182,7 +178,6 @@ const MOVED: &[u8] = b"INSERT { ?s <x:q> 7 } WHERE { GRAPH <x:g0> { ?s <x:p> ?o 
 fn numbered_by_threads(rt: HostRuntime) -> Result<(), Fail> {
     let alloc = rt.alloc();
     let base = falling_base(alloc, 12_000)?;
-    let block = split(alloc, MOVED)?;
-    assert!(rt; are_numbered_alike(&rt, alloc, &base, &block, 12_000)?);
+    assert!(rt; are_numbered_alike(&rt, alloc, &base, 12_000)?);
     Ok(())
 }

@@ -2,8 +2,10 @@
 use Rattle.std.proofs.Common.{◌≡◌, ℕ, zero, suc, ◌+◌, Bool, true, false, ◌||◌, List, [], ◌∷◌, ◌++◌, length, take, Option, Some, None, Result, Ok, Err, refl, sym, ap, ◌∙◌, arith, slice_get, add-zero}
 use Rattle.std.specs.Prelude.{not, if◌then◌else◌}
 use Rattle.std.specs.List.{list_any}
+use Rattle.std.proofs.lemmas.List.Folds.{list_any-append}
+use Rattle.std.proofs.lemmas.Option.{same_Some}
 use Rattle.sets.specs.Sets.{has, union, without}
-use Rattle.sets.proofs.SetLaws.{list_any-append, has-union, sorted-set_of}
+use Rattle.sets.proofs.SetLaws.{has-union, sorted-set_of}
 use Rattle.datasets.specs.declared.quad.Quad.{Quad}
 use Rattle.datasets.specs.Dataset.{Dataset, IsDataset, quad_order, names_of}
 use Rattle.datasets.specs.Id.{quad_total}
@@ -87,11 +89,8 @@ module _ {K : Type 0} (V : Vocabulary K) where
       ≡ with_next (run_from V i (take n requests) d) (answer_of V (i + n) request (run_from V i (take n requests) d).0)
   goes_on_from i n [] request d e = absurd (let none : None ≡ Some request = e in (cc))
   goes_on_from i zero (r ∷ rs) request d e =
-      let same : r ≡ request = some-is r request e in
+      let same : r ≡ request = same_Some r request e in
       (λ t. let a = answer_of V (sym (add-zero i) t) (same t) d in (a.0, a.1 ∷ []))
-    where
-      some-is : (x y : Request K) → Some x ≡ Some y → x ≡ y
-      some-is x y e = cc
   goes_on_from i (suc n) (r ∷ rs) request d e =
       let first = answer_of V i r d in
       let rest = goes_on_from (i + 1) n rs request first.0 e in

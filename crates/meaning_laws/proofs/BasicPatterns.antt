@@ -12,6 +12,7 @@ use Rattle.std.specs.declared.cmp.Ordering.{Ordering}
 use Rattle.std.specs.declared.cmp.Ordering.TheVariants.{Equal}
 use Rattle.std.specs.Cmp.{IsTotalOrder}
 use Rattle.std.specs.Cmp.Lexicographic.{lists_total, options_total}
+use Rattle.std.proofs.Math.Bool.{or-false, or_assoc}
 use Rattle.sets.specs.Sets.{set_of}
 use Rattle.sets.proofs.SetLaws.{has-set_of, sorted-set_of, sorted-cons, sorted-empty, Contains-from_has, has-from_Contains}
 use Rattle.datasets.specs.declared.quad.Quad.{Quad}
@@ -23,7 +24,7 @@ use Rattle.meaning.specs.Operators.{join}
 use Rattle.meaning.specs.Solutions.{mapping_onto, solutions_among, joined_with, basic_solutions}
 use Rattle.meaning_laws.specs.BasicPatterns.{is_variable, stands_in, IsInstance, IsSolution, AreSolutions, JoinsAreSolutions}
 use Rattle.meaning_laws.proofs.Members.{here, one_member, from_filter_map, to_filter_map, from_flat_map, to_flat_map}
-use Rattle.meaning_laws.proofs.Bindings.{or-false, bound, IsPart, IsBelow, itself, then_part, under_part, nothing_bound, empty_part, whole, length-merge, bound-merge, left_part, right_part, both_parts, compatible_parts, fitted_sound, fitted_complete}
+use Rattle.meaning_laws.proofs.Bindings.{bound, IsPart, IsBelow, itself, then_part, under_part, nothing_bound, empty_part, whole, length-merge, bound-merge, left_part, right_part, both_parts, compatible_parts, fitted_sound, fitted_complete}
 
 -- ---- tests and chains
 
@@ -31,10 +32,6 @@ or-none : (a b c d : Bool) → a ≡ false → (((a || b) || c) || d) ≡ (b || 
 or-none true b c d e = absurd (false≢true (sym e))
 or-none false true c d e = refl
 or-none false false c d e = refl
-
-or-regroup : (a b c : Bool) → (a || (b || c)) ≡ ((a || b) || c)
-or-regroup true b c = refl
-or-regroup false b c = refl
 
 from-chain : {A : Type 0} (h : A → Option A) (o : Option A) (y : A) → option_and_then h o ≡ Some y → (x : A) × (o ≡ Some x) × (h x ≡ Some y)
 from-chain h None y e = absurd (false≢true (ap is_some e))
@@ -238,7 +235,7 @@ module _ {K : Type 0} {R : K → K → Ordering} (o : IsTotalOrder R) (exact : (
               let rest = list_any (stands_in v) ts in
               more.binds v
               ∙ ap (λ r. r || rest) (ap (λ (x : Mapping K). bound x v) (sym p.merged) ∙ merge_binds t s.0 a p.right v a-row s.2)
-              ∙ sym (or-regroup (bound a v) (stands_in v t) rest);
+              ∙ or_assoc (bound a v) (stands_in v t) rest;
           instances =
               All-cons (λ u. Any (IsInstance m u) triples) t ts
               (s.1.0, s.0, s.1.1, s.1.2, instance_of_part t s.0 p.right m (then_part p.right b m right more.part) s.2.instance) more.instances;
@@ -279,7 +276,7 @@ module _ {K : Type 0} {R : K → K → Ordering} (o : IsTotalOrder R) (exact : (
           part = both_parts a c.0 m (rows a k ∙ sym s.row) more.part c.2;
           binds = λ v.
               let rest = list_any (stands_in v) ts in
-              more.binds v ∙ or-regroup (bound a v) (stands_in v t) rest ∙ ap (λ r. r || rest) (sym (merge_binds t q.1 a c.0 v (rows a k) s));
+              more.binds v ∙ sym (or_assoc (bound a v) (stands_in v t) rest) ∙ ap (λ r. r || rest) (sym (merge_binds t q.1 a c.0 v (rows a k) s));
           instances = All-tail (λ u. Any (IsInstance m u) triples) t ts more.instances;
         },
       )

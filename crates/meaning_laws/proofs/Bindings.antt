@@ -1,13 +1,14 @@
 -- What mappings bind: parts of mappings, merges, and the mapping under which a place of a pattern is a term.
-use Rattle.std.proofs.Common.{◌≡◌, ℕ, zero, suc, ◌<◌, Bool, true, false, ◌||◌, [], ◌∷◌, length, Option, Some, None, cond, nat_eq, slice_set, unwrap_or, refl, sym, ap, ◌∙◌, subst, arith}
+use Rattle.std.proofs.Common.{◌≡◌, ℕ, zero, suc, ◌<◌, Bool, true, false, ◌||◌, [], ◌∷◌, length, Option, Some, None, cond, nat_eq, slice_set, refl, sym, ap, ◌∙◌, subst, arith}
 use Rattle.std.specs.Option.{is_some}
 use Rattle.std.proofs.lemmas.Bool.{false≢true, and_parts, and_from, or_right, eqb-true, eqb-false, eq-eqb}
-use Rattle.std.proofs.lemmas.Option.{cond_some}
+use Rattle.std.proofs.lemmas.Option.{cond_some, same_Some}
 use Rattle.std.proofs.lemmas.List.{ext_get_or, get_or-set_same, get_or-set_other, length-set}
 use Rattle.std.specs.declared.cmp.Ordering.{Ordering}
 use Rattle.std.specs.declared.cmp.Ordering.TheVariants.{Equal}
 use Rattle.std.specs.Ordering.{is_eq, eq_by_cmp}
 use Rattle.std.specs.Cmp.{IsTotalOrder, tied_itself}
+use Rattle.std.proofs.Math.Bool.{or-false}
 use Rattle.sets.proofs.SetLaws.{exact_by}
 use Rattle.algebra.specs.declared.pattern.Place.{Place}
 use Rattle.algebra.specs.declared.pattern.Place.TheVariants as place
@@ -16,15 +17,8 @@ use Rattle.meaning_laws.specs.BasicPatterns.{is_variable, term_under}
 
 -- ---- options and tests
 
-some-is : {A : Type 0} {x y : A} → Some x ≡ Some y → x ≡ y
-some-is {x} e = ap (λ o. unwrap_or o x) e
-
 pub none-not : {A P : Type 0} {x : A} → None ≡ Some x → P
 none-not e = absurd (false≢true (ap is_some e))
-
-pub or-false : (a : Bool) → (a || false) ≡ a
-or-false true = refl
-or-false false = refl
 
 -- ---- parts of mappings
 
@@ -128,7 +122,7 @@ module _ {K : Type 0} {R : K → K → Ordering} (o : IsTotalOrder R) (exact : (
       at : (z m n : Option K) → ((x : K) → m ≡ Some x → z ≡ Some x) → ((y : K) → n ≡ Some y → z ≡ Some y) → agree R m n ≡ true
       at z None n f g = refl
       at z (Some x) None f g = refl
-      at z (Some x) (Some y) f g = same x y (some-is (sym (f x refl) ∙ g y refl))
+      at z (Some x) (Some y) f g = same x y (same_Some _ _ (sym (f x refl) ∙ g y refl))
 
   pub right_part : (a b : Mapping K) → length a ≡ length b → compatible R a b ≡ true → IsPart b (merge a b)
   right_part a b e h = record { at = λ v x k. term-merge a b v e ∙ at (term_for a v) (term_for b v) x (agree-at a b v h) k }
@@ -186,7 +180,7 @@ module _ {K : Type 0} {R : K → K → Ordering} (o : IsTotalOrder R) (exact : (
       taken y h u false k = sym (or-false (bound a u))
 
       by : (t : Option K) → term_for a v ≡ t → bound_to R a v x t ≡ Some b → IsFit (place.Variable v) x a b
-      by None h k = subst (IsFit (place.Variable v) x a) (some-is k) (set_fit a v x (below v (eq-eqb v v refl)) h)
+      by None h k = subst (IsFit (place.Variable v) x a) (same_Some _ _ k) (set_fit a v x (below v (eq-eqb v v refl)) h)
       by (Some y) h k =
           let parts = cond_some (eq_by_cmp R x y) a b k in
           same_fit (place.Variable v) x a b parts.1 (λ u. taken y h u (nat_eq v u) refl) (h ∙ ap Some (sym (exact_by o exact x y parts.0)))
@@ -194,7 +188,7 @@ module _ {K : Type 0} {R : K → K → Ordering} (o : IsTotalOrder R) (exact : (
   -- where the place is the term under a mapping that has a, something is found, and that mapping has it too
   pub fitted_complete : (p : Place K) (x : K) (a m : Mapping K) → IsBelow (length a) p → IsPart a m → term_under m p ≡ Some x
       → (b : Mapping K) × (fitted R p x a ≡ Some b) × (length b ≡ length a) × IsPart b m
-  fitted_complete (place.Term y) x a m below h e = (a, ap (λ r. cond r (Some a) None) (same x y (sym (some-is e))), refl, h)
+  fitted_complete (place.Term y) x a m below h e = (a, ap (λ r. cond r (Some a) None) (same x y (sym (same_Some _ _ e))), refl, h)
   fitted_complete (place.Variable v) x a m below h e = by (term_for a v) refl
     where
       lt : v < length a
@@ -209,4 +203,4 @@ module _ {K : Type 0} {R : K → K → Ordering} (o : IsTotalOrder R) (exact : (
 
       by : (t : Option K) → term_for a v ≡ t → (b : Mapping K) × (bound_to R a v x t ≡ Some b) × (length b ≡ length a) × IsPart b m
       by None k = (slice_set a v (Some x), refl, length-set a v (Some x), set_part)
-      by (Some y) k = (a, ap (λ r. cond r (Some a) None) (same x y (some-is (sym e ∙ h.at v y k))), refl, h)
+      by (Some y) k = (a, ap (λ r. cond r (Some a) None) (same x y (same_Some _ _ (sym e ∙ h.at v y k))), refl, h)

@@ -7,10 +7,12 @@ use Rattle.std.specs.declared.cmp.Ordering.{Ordering}
 use Rattle.std.specs.declared.cmp.Ordering.TheVariants.{Equal}
 use Rattle.std.specs.Ordering.{eq_by_cmp}
 use Rattle.std.specs.Cmp.{IsTotalOrder}
-use Rattle.std.proofs.lemmas.Bool.{false≢true, and_from, or_left, or_right}
+use Rattle.std.proofs.lemmas.Bool.{false≢true, and_from, or_left, or_right, or_cases}
 use Rattle.std.proofs.lemmas.List.Kept.{IsStrictlySortedBy-filter}
+use Rattle.std.proofs.Math.Logic.{⊎_elim}
+use Rattle.std.proofs.lemmas.List.Folds.{list_any-append}
 use Rattle.sets.specs.Sets.{with, has, union}
-use Rattle.sets.proofs.SetLaws.{list_any-append, sorted-empty, sorted-with, sorted-set_of, has-with, has-without, exact_by}
+use Rattle.sets.proofs.SetLaws.{sorted-empty, sorted-with, sorted-set_of, has-with, has-without, exact_by}
 use Rattle.datasets.specs.declared.quad.Quad.{Quad}
 use Rattle.datasets.specs.Dataset.{Dataset, IsDataset, quad_order, quads_in, same_graph, is_there, names_of}
 use Rattle.datasets.specs.Id.{quad_total}
@@ -26,17 +28,13 @@ use Rattle.meaning_laws.proofs.Parts.{any-filter, any-set_of, is_of, in_it, has-
 
 -- ---- what holds of some member that a filter keeps
 
-one-of : (a b c : Bool) → (a || b) ≡ true → (a ≡ true → c ≡ true) → (b ≡ true → c ≡ true) → c ≡ true
-one-of true b c h f k = f refl
-one-of false b c h f k = k h
-
 or-nothing : (b : Bool) → not b ≡ true → not (b || false) ≡ true
 or-nothing true h = h
 or-nothing false h = refl
 
 module _ {A : Type 0} (p q : A → Bool) (c : Bool) (each : (x : A) → p x ≡ true → q x ≡ true → c ≡ true) where
   if-kept : (b : Bool) (x : A) (ys : List A) → (b ≡ true → p x ≡ true → c ≡ true) → (list_any p ys ≡ true → c ≡ true) → list_any p (if b then x ∷ ys else ys) ≡ true → c ≡ true
-  if-kept true x ys f k h = one-of (p x) (list_any p ys) c h (f refl) k
+  if-kept true x ys f k h = ⊎_elim (f refl) k (or_cases (p x) (list_any p ys) h)
   if-kept false x ys f k h = k h
 
   any-kept : (xs : List A) → list_any p (filter q xs) ≡ true → c ≡ true
@@ -129,7 +127,7 @@ module _ {K : Type 0} {R : K → K → Ordering} (total : IsTotalOrder R) (exact
   -- what is moved is of the graph that it is moved to
   moved-is : (to : Option K) (qs : List (Quad K)) (h : K) → list_any (in_it R h) (map (in_graph R to) qs) ≡ true → is_of R h to ≡ true
   moved-is to [] h e = absurd (false≢true e)
-  moved-is to (q ∷ qs) h e = one-of (is_of R h to) (list_any (in_it R h) (map (in_graph R to) qs)) (is_of R h to) e (λ k. k) (moved-is to qs h)
+  moved-is to (q ∷ qs) h e = ⊎_elim (λ k. k) (moved-is to qs h) (or_cases (is_of R h to) (list_any (in_it R h) (map (in_graph R to) qs)) e)
 
   joined-dataset : (from to : Option K) (d : Dataset K) (kept : List (Quad K)) → IsDataset R d → ((h : K) → list_any (in_it R h) kept ≡ true → has R d.names h ≡ true)
       → IsDataset R (record { quads = union (quad_order R) kept (moved_to R from to d); names = with_name R to d.names })
@@ -140,9 +138,7 @@ module _ {K : Type 0} {R : K → K → Ordering} (total : IsTotalOrder R) (exact
         let p = in_it R h in
         let moved = moved_to R from to d in
         let some : list_any p (kept ++ moved) ≡ true = any-set_of (quad_order R) p (kept ++ moved) (some-in (union (quad_order R) kept moved) h e) in
-        one-of (list_any p kept) (list_any p moved) (has R (with_name R to d.names) h) (sym (list_any-append p kept moved) ∙ some)
-        (λ k. has-with_name to d.names h (named h k))
-        (λ k. is-with_name to d.names h (moved-is to (quads_in R from d.quads) h k));
+        ⊎_elim (λ k. has-with_name to d.names h (named h k)) (λ k. is-with_name to d.names h (moved-is to (quads_in R from d.quads) h k)) (or_cases (list_any p kept) (list_any p moved) (sym (list_any-append p kept moved) ∙ some));
   }
 
   copied-dataset : (from to : Option K) (d : Dataset K) → IsDataset R d → IsDataset R (copied R from to d)

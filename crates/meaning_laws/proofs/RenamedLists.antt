@@ -1,9 +1,11 @@
 -- A renaming carries tests, choices and what is gathered over lists along. k tells which elements are renamed.
-use Rattle.std.proofs.Common.{◌≡◌, suc, Bool, true, false, ◌&&◌, List, [], ◌∷◌, ◌++◌, length, Option, Some, None, map, refl, sym, ap, ◌∙◌}
+use Rattle.std.proofs.Common.{◌≡◌, Bool, true, false, ◌&&◌, List, [], ◌∷◌, ◌++◌, Option, Some, None, map, refl, sym, ◌∙◌}
 use Rattle.std.specs.Prelude.{cond, filter, filter_map}
 use Rattle.std.specs.List.{list_all, cons_option, flat_map}
 use Rattle.std.specs.Option.{option_map}
 use Rattle.std.proofs.lemmas.Bool.{and_parts, and_from}
+use Rattle.std.proofs.lemmas.List.{map-append}
+use Rattle.sets.proofs.Filters.{each_joined}
 use Rattle.meaning_laws.specs.Renaming.{option_known}
 
 -- ---- choices
@@ -27,23 +29,9 @@ known-if k false x h = refl
 
 -- ---- lists
 
-pub map-append : {A B : Type 0} (f : A → B) (xs ys : List A) → map f (xs ++ ys) ≡ map f xs ++ map f ys
-map-append f [] ys = refl
-map-append f (x ∷ xs) ys = ap (λ zs. f x ∷ zs) (map-append f xs ys)
-
-pub length-map : {A B : Type 0} (f : A → B) (xs : List A) → length (map f xs) ≡ length xs
-length-map f [] = refl
-length-map f (x ∷ xs) = ap suc (length-map f xs)
-
 pub map-cons : {A B : Type 0} (f : A → B) (m : Option A) (xs : List A) → map f (cons_option m xs) ≡ cons_option (option_map f m) (map f xs)
 map-cons f None xs = refl
 map-cons f (Some x) xs = refl
-
-pub all-append : {A : Type 0} (p : A → Bool) (xs ys : List A) → list_all p xs ≡ true → list_all p ys ≡ true → list_all p (xs ++ ys) ≡ true
-all-append p [] ys h k = k
-all-append p (x ∷ xs) ys h k =
-    let parts = and_parts (p x) (list_all p xs) h in
-    and_from (p x) (list_all p (xs ++ ys)) parts.0 (all-append p xs ys parts.1 k)
 
 pub all-cons : {A : Type 0} (p : A → Bool) (m : Option A) (xs : List A) → option_known p m ≡ true → list_all p xs ≡ true
     → list_all p (cons_option m xs) ≡ true
@@ -106,4 +94,4 @@ module _ {A C : Type 0} (k : A → Bool) (j : C → Bool) where
   all-flat_map p e [] h = refl
   all-flat_map p e (x ∷ xs) h =
       let parts = and_parts (k x) (list_all k xs) h in
-      all-append j (p x) (flat_map p xs) (e x parts.0) (all-flat_map p e xs parts.1)
+      each_joined j (p x) (flat_map p xs) (e x parts.0) (all-flat_map p e xs parts.1)

@@ -7,11 +7,13 @@ use Rattle.std.specs.declared.cmp.Ordering.{Ordering}
 use Rattle.std.specs.declared.cmp.Ordering.TheVariants.{Less, Equal, Greater}
 use Rattle.std.specs.Ordering.{is_eq, ordering_then}
 use Rattle.std.proofs.lemmas.Bool.{and_parts, and_from}
+use Rattle.std.proofs.lemmas.List.{map-append}
 use Rattle.sets.specs.Sets.{placed, with, set_of, has, union, without}
+use Rattle.sets.proofs.Filters.{each_joined}
 use Rattle.datasets.specs.declared.quad.Quad.{Quad}
 use Rattle.datasets.specs.Dataset.{quad_order, same_graph, quads_in, graph_name, names_of}
 use Rattle.meaning_laws.specs.Renaming.{renamed_quad, option_known, quad_known}
-use Rattle.meaning_laws.proofs.RenamedLists.{map-append, map-cons, all-append, map-filter, all-filter_map}
+use Rattle.meaning_laws.proofs.RenamedLists.{map-cons, map-filter, all-filter_map}
 
 module _ {A B : Type 0} (R : A → A → Ordering) (S : B → B → Ordering) (f : A → B) (k : A → Bool)
     (o : (x y : A) → k x ≡ true → k y ≡ true → S (f x) (f y) ≡ R x y) where
@@ -55,10 +57,10 @@ module _ {A B : Type 0} (R : A → A → Ordering) (S : B → B → Ordering) (f
       map-with x (set_of R xs) parts.0 (all-set_of xs parts.1) ∙ ap (with S (f x)) (map-set_of xs parts.1)
 
   pub map-union : (xs ys : List A) → list_all k xs ≡ true → list_all k ys ≡ true → map f (union R xs ys) ≡ union S (map f xs) (map f ys)
-  map-union xs ys h h' = map-set_of (xs ++ ys) (all-append k xs ys h h') ∙ ap (set_of S) (map-append f xs ys)
+  map-union xs ys h h' = map-set_of (xs ++ ys) (each_joined k xs ys h h') ∙ ap (set_of S) (map-append f xs ys)
 
   pub all-union : (xs ys : List A) → list_all k xs ≡ true → list_all k ys ≡ true → list_all k (union R xs ys) ≡ true
-  all-union xs ys h h' = all-set_of (xs ++ ys) (all-append k xs ys h h')
+  all-union xs ys h h' = all-set_of (xs ++ ys) (each_joined k xs ys h h')
 
   pub has-map : (xs : List A) (x : A) → list_all k xs ≡ true → k x ≡ true → has S (map f xs) (f x) ≡ has R xs x
   has-map [] x h hx = refl

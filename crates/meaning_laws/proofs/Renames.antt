@@ -4,7 +4,9 @@ use Rattle.std.specs.Prelude.{not, filter_map, if◌then◌else◌}
 use Rattle.std.specs.List.{list_all}
 use Rattle.std.specs.Option.{option_map}
 use Rattle.std.proofs.lemmas.Bool.{and_parts, and_from}
+use Rattle.std.proofs.lemmas.List.{length-map, map-append}
 use Rattle.sets.specs.Sets.{has, union, without}
+use Rattle.sets.proofs.Filters.{each_joined}
 use Rattle.datasets.specs.declared.quad.Quad.{Quad}
 use Rattle.datasets.specs.Dataset.{Dataset, quad_order, names_of}
 use Rattle.algebra.specs.declared.template.Slot.{Slot}
@@ -25,7 +27,7 @@ use Rattle.meaning.specs.declared.reply.Cause.TheVariants.{TooManySolutions}
 use Rattle.meaning.specs.declared.reply.Reply.{Reply}
 use Rattle.meaning.specs.declared.reply.Reply.TheVariants.{Done}
 use Rattle.meaning_laws.specs.Renaming.{renamed_quad, renamed, renamed_slot, renamed_template, renamed_mapping, renamed_operation, renamed_request, option_known, quad_known, dataset_known, slot_known, graph_known, template_known, plan_known, mapping_known, operation_known, request_known, IsRenaming, CarriesRun}
-use Rattle.meaning_laws.proofs.RenamedLists.{some-if, known-if, map-append, length-map, all-append, all-filter, map-filter_map, all-filter_map}
+use Rattle.meaning_laws.proofs.RenamedLists.{some-if, known-if, all-filter, map-filter_map, all-filter_map}
 use Rattle.meaning_laws.proofs.RenamedSets.{map-union, all-union, map-without, quad-order, map-names_of, all-names_of}
 use Rattle.meaning_laws.proofs.RenamedMappings.{term-for, term-for-known}
 use Rattle.meaning_laws.proofs.RenamedGraphs.{renamed_result, result_known, silent-map, silent-known, graphs-map, graphs-known}
@@ -155,7 +157,7 @@ module _ {A B : Type 0} (V : Vocabulary A) (W : Vocabulary B) (f : A → B) (k :
   instances-known i n ts rank [] h hm = refl
   instances-known i n ts rank (m ∷ ms) h hm =
       let parts = and_parts (mapping_known k m) (list_all (mapping_known k) ms) hm in
-      all-append (quad_known k) (filter_map (instance_of V (λ l. V.made i n l rank) m) ts) (instances_from V i n ts (rank + 1) ms)
+      each_joined (quad_known k) (filter_map (instance_of V (λ l. V.made i n l rank) m) ts) (instances_from V i n ts (rank + 1) ms)
       (each-known (λ l. V.made i n l rank) (λ l. r.nodes_known i n l rank) m ts parts.0 h) (instances-known i n ts (rank + 1) ms h parts.1)
 
   -- ---- operations
@@ -196,7 +198,7 @@ module _ {A B : Type 0} (V : Vocabulary A) (W : Vocabulary B) (f : A → B) (k :
       → renamed_result f k (modified V i n gone ts ms d) ≡ modified W i n (map (renamed_template f) gone) (map (renamed_template f) ts) (map (renamed_mapping f) ms) (renamed f d)
   modified-map i n gone ts ms d hg h hm h' =
       unless-map (is_too_many (length ms)) (replaced V d (instances V i n gone ms) (instances V i n ts ms))
-      ∙ (λ j. if is_too_many (sym (length-map (renamed_mapping f) ms) j) then Err TooManySolutions else Ok (after j))
+      ∙ (λ j. if is_too_many (sym (length-map ms (renamed_mapping f)) j) then Err TooManySolutions else Ok (after j))
     where
       after : renamed f (replaced V d (instances V i n gone ms) (instances V i n ts ms))
           ≡ replaced W (renamed f d) (instances W i n (map (renamed_template f) gone) (map (renamed_mapping f) ms)) (instances W i n (map (renamed_template f) ts) (map (renamed_mapping f) ms))
@@ -273,7 +275,7 @@ module _ {A B : Type 0} (V : Vocabulary A) (W : Vocabulary B) (f : A → B) (k :
   count-map d e h h' =
       let dq = and_parts (list_all (quad_known k) d.quads) (list_all k d.names) h in
       let eq = and_parts (list_all (quad_known k) e.quads) (list_all k e.names) h' in
-      sym (length-map (renamed_quad f) (without (quad_order V.order) e.quads d.quads))
+      sym (length-map (without (quad_order V.order) e.quads d.quads) (renamed_quad f))
       ∙ ap length (map-without (quad_order V.order) (quad_order W.order) (renamed_quad f) (quad_known k) quads-order e.quads d.quads eq.0 dq.0)
 
   -- the renamed dataset with the reply

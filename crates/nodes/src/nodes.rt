@@ -49,12 +49,19 @@ fn node_again<'a>(node: &Node<'a>) -> Node<'a>
     }
 }
 
+fn add_node<'a>(found: &mut Vec<Node<'a>>, node: &Node<'a>) -> Result<(), AllocError>
+    ensures { OnOk result (found.new.items ≡ found.old.items ++ node.now ∷ []) }
+{
+    found.push(node_again(node))?;
+    Ok(())
+}
+
 fn add_property<'a>(found: &mut Vec<Node<'a>>, property: &Property<'a>) -> Result<(), AllocError>
     ensures { OnOk result (found.new.items ≡ found.old.items ++ nodes_of_property property.now) }
 {
-    found.push(node_again(&property.verb))?;
+    add_node(found, &property.verb)?;
     for object in property.objects.as_slice() {
-        found.push(node_again(object))?;
+        add_node(found, object)?;
     }
     Ok(())
 }
@@ -62,7 +69,7 @@ fn add_property<'a>(found: &mut Vec<Node<'a>>, property: &Property<'a>) -> Resul
 fn add_subject<'a>(found: &mut Vec<Node<'a>>, same: &SameSubject<'a>) -> Result<(), AllocError>
     ensures { OnOk result (found.new.items ≡ found.old.items ++ nodes_of_subject same.now) }
 {
-    found.push(node_again(&same.subject))?;
+    add_node(found, &same.subject)?;
     for property in same.properties.as_slice() {
         add_property(found, property)?;
     }
@@ -81,10 +88,10 @@ fn add_triples<'a>(found: &mut Vec<Node<'a>>, triples: &[SameSubject<'a>]) -> Re
 fn add_graph<'a>(found: &mut Vec<Node<'a>>, graph: &Option<Node<'a>>) -> Result<(), AllocError>
     ensures { OnOk result (found.new.items ≡ found.old.items ++ option_to_list graph.now) }
 {
-    if let Some(node) = graph {
-        found.push(node_again(node))?;
+    match graph {
+        Some(node) => add_node(found, node),
+        None => Ok(()),
     }
-    Ok(())
 }
 
 fn add_block<'a>(found: &mut Vec<Node<'a>>, block: &Block<'a>) -> Result<(), AllocError>
@@ -103,6 +110,30 @@ fn add_blocks<'a>(found: &mut Vec<Node<'a>>, blocks: &[Block<'a>]) -> Result<(),
     Ok(())
 }
 
+/// Puts an operand onto the stack of what is still to come.
+fn put<'e, 'a>(
+    pending: &mut Vec<&'e Expression<'a>>,
+    operand: &'e Expression<'a>,
+) -> Result<(), AllocError>
+    ensures { OnOk result (pending.new.items ≡ pending.old.items ++ operand.entry ∷ []) }
+{
+    pending.push(operand)?;
+    Ok(())
+}
+
+/// Puts two operands onto the stack, of which the left one comes first.
+fn put_two<'e, 'a>(
+    pending: &mut Vec<&'e Expression<'a>>,
+    left: &'e Expression<'a>,
+    right: &'e Expression<'a>,
+) -> Result<(), AllocError>
+    ensures { OnOk result (pending.new.items
+        ≡ (pending.old.items ++ right.entry ∷ []) ++ left.entry ∷ []) }
+{
+    put(pending, right)?;
+    put(pending, left)
+}
+
 /// Adds the nodes of an expression. Left operands lie as deep as a text is long: what is still to come stands on a stack.
 #[tactic(auto, using(crate::proofs::TreeLaws::pending_push, crate::proofs::TreeLaws::weight_push))]
 fn add_expression<'a>(
@@ -114,21 +145,15 @@ fn add_expression<'a>(
         ++ nodes_of_tree (tree_of expression.now)) }
 {
     let mut pending = Vec::new(alloc);
-    pending.push(expression)?;
+    put(&mut pending, expression)?;
     while let Some(next) = pending.pop() {
         match next {
-            Expression::Value(node) => found.push(node_again(node))?,
-            Expression::Bound(name) => found.push(Node::Variable(name.again()))?,
-            Expression::Not(inner) => pending.push(inner)?,
-            Expression::One(_, inner) => pending.push(inner)?,
-            Expression::Binary(_, left, right) => {
-                pending.push(right)?;
-                pending.push(left)?;
-            }
-            Expression::Two(_, left, right) => {
-                pending.push(right)?;
-                pending.push(left)?;
-            }
+            Expression::Value(node) => add_node(found, node)?,
+            Expression::Bound(name) => add_node(found, &Node::Variable(name.again()))?,
+            Expression::Not(inner) => put(&mut pending, inner)?,
+            Expression::One(_, inner) => put(&mut pending, inner)?,
+            Expression::Binary(_, left, right) => put_two(&mut pending, left, right)?,
+            Expression::Two(_, left, right) => put_two(&mut pending, left, right)?,
         }
     }
     Ok(())
@@ -170,7 +195,7 @@ fn add_element<'a>(
         Element::Optional(group) => add_group(alloc, found, group.as_slice()),
         Element::Minus(group) => add_group(alloc, found, group.as_slice()),
         Element::Graph(node, group) => {
-            found.push(node_again(node))?;
+            add_node(found, node)?;
             add_group(alloc, found, group.as_slice())
         }
         Element::Filter(expression) => add_expression(alloc, found, expression),

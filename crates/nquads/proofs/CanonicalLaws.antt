@@ -1,10 +1,12 @@
 -- The lines of a dataset are those of any lists that make it.
 use Rattle.std.specs.Prelude.{ℕ, Bool, ◌&&◌, ◌||◌, not, map, filter}
-use Rattle.std.proofs.Common.{◌≡◌, true, false, cond, List, [], ◌∷◌, refl, sym, ap, ◌∙◌}
+use Rattle.std.proofs.Common.{◌≡◌, List, [], ◌∷◌, refl, sym, ap, ◌∙◌}
 use Rattle.std.specs.List.{list_any, flat_map}
 use Rattle.std.specs.Ordering.{eq_by_cmp}
+use Rattle.std.proofs.lemmas.List.Folds.{list_any-append}
 use Rattle.sets.specs.Sets.{set_of, has}
-use Rattle.sets.proofs.SetLaws.{list_any-append, has-set_of, sorted-set_of, same_set}
+use Rattle.sets.proofs.SetLaws.{has-set_of, sorted-set_of, same_set}
+use Rattle.sets.proofs.Filters.{any-filter}
 use Rattle.datasets.specs.declared.quad.Quad.{Quad}
 use Rattle.datasets.specs.Dataset.{Dataset, quad_order, names_of}
 use Rattle.terms.specs.declared.term.Term.{Term}
@@ -16,14 +18,6 @@ use Rattle.nquads.specs.Canonical.{quad_text, graph_line, is_empty_graph, lines_
 pub any-map : {A B : Type 0} (p : B → Bool) (f : A → B) (xs : List A) → list_any p (map f xs) ≡ list_any (λ x. p (f x)) xs
 any-map p f [] = refl
 any-map p f (x ∷ xs) = ap (λ b. p (f x) || b) (any-map p f xs)
-
-pub any-filter : {A : Type 0} (p t : A → Bool) (xs : List A) → list_any p (filter t xs) ≡ list_any (λ x. t x && p x) xs
-any-filter p t [] = refl
-any-filter {A} p t (x ∷ xs) =
-    elim (t x) as (λ b. list_any p (cond b (x ∷ filter t xs) (filter t xs)) ≡ ((b && p x) || list_any (λ y. t y && p y) xs)) [
-      | true ↦ ap (λ b. p x || b) (any-filter p t xs)
-      | false ↦ any-filter p t xs
-    ]
 
 -- whether a text is among the lines
 has-lines : (quads : List (Quad Term)) (names : List Term) (tag : ℕ) (t : List ℕ) → has text_cmp (lines_of quads names tag) t

@@ -1,5 +1,5 @@
 -- Reading a text in two pieces, of which the first ends with an LF.
-use Rattle.std.specs.Prelude.{Bool, IfOk, Result, Ok}
+use Rattle.std.specs.Prelude.{Bool}
 use Rattle.std.proofs.Common.{◌≡◌, ℕ, true, false, cond, eqb, List, [], ◌∷◌, ◌++◌, Some, refl, sym, ap, ◌∙◌, subst, append_assoc}
 use Rattle.std.proofs.lemmas.List.{append-nil}
 use Rattle.std.specs.List.{onto_first}
@@ -102,6 +102,3 @@ module _ (read : LinesAreRead) where
           quads = ap (λ (x : Dataset Term). x.quads) both;
           names = ap (λ (x : Dataset Term). x.names) both;
         }
-
-pub at_ok : {A E : Type 0} (P : A → Type 0) {r : Result A E} {x : A} → IfOk r P → r ≡ Ok x → P x
-at_ok P h e = subst (λ r. IfOk r P) e h

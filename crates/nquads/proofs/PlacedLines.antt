@@ -1,11 +1,12 @@
 -- The lines of quads and names by places are those of the quads and names there.
-use Rattle.std.specs.Prelude.{ℕ, Bool, ◌==◌, ◌||◌, ◌&&◌, nat_lt, not, map, filter, slice_index_or, cond}
-use Rattle.std.proofs.Common.{◌≡◌, zero, suc, ◌<◌, true, false, List, [], ◌∷◌, ◌++◌, length, Option, Some, None, refl, sym, ap, ◌∙◌, arith}
+use Rattle.std.specs.Prelude.{ℕ, Bool, ◌==◌, ◌||◌, ◌&&◌, nat_lt, not, map, filter, cond}
+use Rattle.std.proofs.Common.{◌≡◌, true, false, List, [], ◌∷◌, ◌++◌, length, Option, Some, None, refl, sym, ap, ◌∙◌}
 use Rattle.std.specs.List.{list_any, list_all}
 use Rattle.std.specs.Option.{option_map}
 use Rattle.std.specs.Ordering.{eq_by_cmp, is_eq}
 use Rattle.std.specs.Cmp.{tied_itself, both_ways}
 use Rattle.std.proofs.lemmas.Bool.{false≢true, and_parts, ltb-true, eqb-true, eq-eqb}
+use Rattle.std.proofs.lemmas.List.{length-map, get_or-map}
 use Rattle.sets.specs.Sets.{has}
 use Rattle.datasets.specs.declared.quad.Quad.{Quad}
 use Rattle.datasets.specs.Dataset.{names_of}
@@ -20,15 +21,6 @@ use Rattle.terms.specs.Placed.{term_at, quad_at, is_within, is_name_within, is_q
 use Rattle.nquads.specs.Canonical.{graph_text, quad_text, graph_line, is_empty_graph, lines_of}
 use Rattle.nquads.specs.Placed.{text_at, graph_text_at, quad_text_at, graph_line_at, is_name_at, is_in_at}
 
-at_map : {A B : Type 0} (f : A → B) (xs : List A) (i : ℕ) (d : B) (e : A) → i < length xs → slice_index_or (map f xs) i d ≡ f (slice_index_or xs i e)
-at_map f [] i d e h = absurd (omega (arith, h))
-at_map f (x ∷ xs) zero d e h = refl
-at_map f (x ∷ xs) (suc i) d e h = at_map f xs i d e (omega (arith, h))
-
-same_length : {A B : Type 0} (f : A → B) (xs : List A) → length (map f xs) ≡ length xs
-same_length f [] = refl
-same_length f (x ∷ xs) = ap suc (same_length f xs)
-
 kept_alike : {A B C : Type 0} (f : A → C) (g : B → C) (b c : Bool) (x : A) (y : B) (xs : List A) (ys : List B) → b ≡ c → f x ≡ g y → map f xs ≡ map g ys
     → map f (cond b (x ∷ xs) xs) ≡ map g (cond c (y ∷ ys) ys)
 kept_alike f g true true x y xs ys e h t = λ i. h i ∷ t i
@@ -41,7 +33,7 @@ module _ (terms : List Term) (tag : ℕ) where
   texts = map (term_text tag) terms
 
   text_is : (p : ℕ) → is_within terms p ≡ true → text_at texts p ≡ term_text tag (term_at terms p)
-  text_is p h = at_map (term_text tag) terms p [] (term.Made 0 0 0 0) (ltb-true p (length terms) h)
+  text_is p h = get_or-map (term_text tag) terms p (term.Made 0 0 0 0) [] (ltb-true p (length terms) h)
 
   graph_is : (n : Option ℕ) → is_name_within terms n ≡ true → graph_text_at texts n ≡ graph_text tag (option_map (term_at terms) n)
   graph_is None h = refl
@@ -68,7 +60,7 @@ module _ (terms : List Term) (tag : ℕ) where
 
   -- the texts have the places of the terms
   within_is : (p : ℕ) → is_within texts p ≡ is_within terms p
-  within_is p = ap (nat_lt p) (same_length (term_text tag) terms)
+  within_is p = ap (nat_lt p) (length-map terms (term_text tag))
 
   name_within_is : (n : Option ℕ) → is_name_within texts n ≡ is_name_within terms n
   name_within_is None = refl

@@ -1,6 +1,6 @@
 -- Lines that rise are the set of themselves, whatever the order in which they came before.
 use Rattle.std.specs.Prelude.{Bool, ◌&&◌, ◌||◌}
-use Rattle.std.proofs.Common.{◌≡◌, ℕ, ◌+◌, ◌<◌, true, false, cond, List, [], ◌∷◌, ◌++◌, length, get_or, take, map, filter, refl, sym, ap, ◌∙◌, subst, arith}
+use Rattle.std.proofs.Common.{◌≡◌, ℕ, ◌+◌, ◌<◌, true, cond, List, [], ◌∷◌, ◌++◌, length, get_or, take, map, filter, refl, sym, ap, ◌∙◌, subst}
 use Rattle.std.specs.List.{list_any, list_all, flat_map, AllByRecursion}
 use Rattle.std.specs.List.Sorted.{IsPermutation, IsStrictlySortedBy}
 use Rattle.std.specs.declared.cmp.Ordering.{Ordering}
@@ -11,29 +11,31 @@ use Rattle.std.proofs.lemmas.List.{append-nil, append_assoc, map-append, take_mo
 use Rattle.std.proofs.lemmas.Grind.{flat_map-append}
 use Rattle.std.proofs.lemmas.List.Sorted.{list_any-IsPermutation, All-permutation}
 use Rattle.std.proofs.lemmas.List.Sums.{AllPass-from_list_all, list_all-from_AllPass}
+use Rattle.std.proofs.Math.Bool.{or_comm}
+use Rattle.std.proofs.lemmas.List.Elements.{filter-append}
+use Rattle.std.proofs.lemmas.List.Folds.{list_any-append}
+use Rattle.std.proofs.lemmas.Map.Keys.{sorted_tail, sorted_head}
 use Rattle.sets.specs.Sets.{set_of, has}
-use Rattle.sets.proofs.SetLaws.{list_any-append, sorted-empty, sorted-cons, All-tail_of, below_tail, sorted-set_of, has-set_of, same_set}
+use Rattle.sets.proofs.SetLaws.{sorted-empty, sorted-cons, sorted-set_of, has-set_of, same_set}
+use Rattle.sets.proofs.Every.{all_joined}
+use Rattle.sets.proofs.Filters.{any-filter}
 use Rattle.terms.specs.Term.{text_cmp}
 use Rattle.terms.specs.TermLaws.{text_total, text_exact}
 use Rattle.nquads.specs.Canonical.{ended}
 use Rattle.nquads.specs.declared.rising.Rising.{Rising}
 use Rattle.nquads.specs.Rising.{IsRising}
-use Rattle.nquads.proofs.CanonicalLaws.{any-map, any-filter}
+use Rattle.nquads.proofs.CanonicalLaws.{any-map}
 
 pub less_is : (r : Ordering) → is_lt r ≡ true → r ≡ Less
 less_is Less e = refl
 less_is Equal e = absurd (false≢true e)
 less_is Greater e = absurd (false≢true e)
 
-all_push : (p : List ℕ → Type 0) (xs : List (List ℕ)) (y : List ℕ) → AllByRecursion p xs → p y → AllByRecursion p (xs ++ y ∷ [])
-all_push p [] y h k = (k, tt)
-all_push p (x ∷ xs) y h k = (h.0, all_push p xs y h.1 k)
-
 sorted_push : (xs : List (List ℕ)) (y : List ℕ) → IsStrictlySortedBy text_cmp xs → AllByRecursion (λ x. text_cmp x y ≡ Less) xs → IsStrictlySortedBy text_cmp (xs ++ y ∷ [])
 sorted_push [] y s below = sorted-cons text_cmp y [] tt (sorted-empty text_cmp)
 sorted_push (x ∷ xs) y s below =
-    sorted-cons text_cmp x (xs ++ y ∷ []) (all_push (λ z. text_cmp x z ≡ Less) xs y (below_tail text_cmp x xs s) below.0)
-    (sorted_push xs y (All-tail_of text_cmp x xs s) below.1)
+    sorted-cons text_cmp x (xs ++ y ∷ []) (all_joined (λ z. text_cmp x z ≡ Less) xs (y ∷ []) (sorted_head text_cmp x xs s) (below.0, tt))
+    (sorted_push xs y (sorted_tail text_cmp x xs s) below.1)
 
 all_under : (xs : List (List ℕ)) (line above : List ℕ) → text_cmp line above ≡ Less → AllByRecursion (λ x. text_cmp x line ≡ Less) xs → AllByRecursion (λ x. text_cmp x above ≡ Less) xs
 all_under [] line above e h = tt
@@ -50,12 +52,8 @@ rising_more lines made new line lt text last h = record {
   rises = sorted_push lines line h.rises (h.last line lt);
   last = λ above e.
       let under : text_cmp line above ≡ Less = ap (λ t. text_cmp t above) (sym last) ∙ e in
-      all_push (λ x. text_cmp x above ≡ Less) lines line (all_under lines line above under (h.last line lt)) under;
+      all_joined (λ x. text_cmp x above ≡ Less) lines (line ∷ []) (all_under lines line above under (h.last line lt)) (under, tt);
 }
-
-all_both : (p : List ℕ → Type 0) (xs ys : List (List ℕ)) → AllByRecursion p xs → AllByRecursion p ys → AllByRecursion p (xs ++ ys)
-all_both p [] ys h k = k
-all_both p (x ∷ xs) ys h k = (h.0, all_both p xs ys h.1 k)
 
 all_over : (x line : List ℕ) (ys : List (List ℕ)) → text_cmp x line ≡ Less → AllByRecursion (λ y. text_cmp line y ≡ Less) ys → AllByRecursion (λ y. text_cmp x y ≡ Less) ys
 all_over x line [] e h = tt
@@ -67,8 +65,8 @@ sorted_both : (xs : List (List ℕ)) (line : List ℕ) (ys : List (List ℕ)) �
 sorted_both [] line ys s below t = t
 sorted_both (x ∷ xs) line ys s below t =
     sorted-cons text_cmp x (xs ++ line ∷ ys)
-    (all_both (λ y. text_cmp x y ≡ Less) xs (line ∷ ys) (below_tail text_cmp x xs s) (below.0, all_over x line ys below.0 (below_tail text_cmp line ys t)))
-    (sorted_both xs line ys (All-tail_of text_cmp x xs s) below.1 t)
+    (all_joined (λ y. text_cmp x y ≡ Less) xs (line ∷ ys) (sorted_head text_cmp x xs s) (below.0, all_over x line ys below.0 (sorted_head text_cmp line ys t)))
+    (sorted_both xs line ys (sorted_tail text_cmp x xs s) below.1 t)
 
 pub rising_both : (lines others : List (List ℕ)) (line : List ℕ) (low high new : Rising) → text_cmp low.last.items line ≡ Less → new.text.items ≡ low.text.items ++ high.text.items
     → new.last.items ≡ high.last.items → IsRising lines low → IsRising (line ∷ others) high → IsRising (lines ++ line ∷ others) new
@@ -77,14 +75,8 @@ rising_both lines others line low high new lt text last h k = record {
   rises = sorted_both lines line others h.rises (h.last line lt) k.rises;
   last = λ above e.
       let over : AllByRecursion (λ x. text_cmp x above ≡ Less) (line ∷ others) = k.last above (ap (λ t. text_cmp t above) (sym last) ∙ e) in
-      all_both (λ x. text_cmp x above ≡ Less) lines (line ∷ others) (all_under lines line above over.0 (h.last line lt)) over;
+      all_joined (λ x. text_cmp x above ≡ Less) lines (line ∷ others) (all_under lines line above over.0 (h.last line lt)) over;
 }
-
-or_comm : (b c : Bool) → (b || c) ≡ (c || b)
-or_comm true true = refl
-or_comm true false = refl
-or_comm false true = refl
-or_comm false false = refl
 
 -- the text of graphs' lines and then quads' lines that rise
 pub rising_whole : (made : Rising) (graphs quads : List (List ℕ)) → IsRising (([] ++ graphs) ++ quads) made → made.text.items ≡ flat_map ended (set_of text_cmp (quads ++ graphs))
@@ -92,10 +84,6 @@ rising_whole made graphs quads h =
     h.text ∙ ap (flat_map ended) (same_set text_total text_exact (graphs ++ quads) (set_of text_cmp (quads ++ graphs)) h.rises (sorted-set_of text_total (quads ++ graphs))
     (λ t. list_any-append (eq_by_cmp text_cmp t) graphs quads ∙ or_comm (list_any (eq_by_cmp text_cmp t) graphs) (list_any (eq_by_cmp text_cmp t) quads)
     ∙ sym (list_any-append (eq_by_cmp text_cmp t) quads graphs) ∙ sym (has-set_of text_total t (quads ++ graphs))))
-
-pub nothing : (xs : List ℕ) → length xs ≡ 0 → xs ≡ []
-nothing [] e = refl
-nothing (x ∷ xs) e = absurd (omega arith)
 
 pub no_lines : (lines : List (List ℕ)) → flat_map ended lines ≡ [] → lines ≡ []
 no_lines [] e = refl
@@ -136,21 +124,13 @@ map_next f lines xs i x lt is =
     append_assoc lines (map f (take i xs)) (f x ∷ [])
     ∙ ap (λ ys. lines ++ ys) (sym (ap (map f) (take_more xs i x lt ∙ ap (λ y. take i xs ++ y ∷ []) (sym is)) ∙ map-append f (take i xs) (x ∷ [])))
 
-filter_append : {A : Type 0} (p : A → Bool) (xs ys : List A) → filter p (xs ++ ys) ≡ filter p xs ++ filter p ys
-filter_append p [] ys = refl
-filter_append {A} p (x ∷ xs) ys =
-    elim (p x) as (λ b. cond b (x ∷ filter p (xs ++ ys)) (filter p (xs ++ ys)) ≡ cond b (x ∷ filter p xs) (filter p xs) ++ filter p ys) [
-      | true ↦ ap (λ (zs : List A). x ∷ zs) (filter_append p xs ys)
-      | false ↦ filter_append p xs ys
-    ]
-
 filter_one : {A : Type 0} (p : A → Bool) (x : A) (b : Bool) → p x ≡ b → filter p (x ∷ []) ≡ cond b (x ∷ []) []
 filter_one p x b e = ap (λ c. cond c (x ∷ []) []) e
 
 filter_next : {A : Type 0} (p : A → Bool) (xs : List A) (i : ℕ) (x : A) (b : Bool) → i < length xs → x ≡ get_or xs i x → p x ≡ b
     → filter p (take (i + 1) xs) ≡ filter p (take i xs) ++ cond b (x ∷ []) []
 filter_next p xs i x b lt is e =
-    ap (filter p) (take_more xs i x lt ∙ ap (λ y. take i xs ++ y ∷ []) (sym is)) ∙ filter_append p (take i xs) (x ∷ []) ∙ ap (λ ys. filter p (take i xs) ++ ys) (filter_one p x b e)
+    ap (filter p) (take_more xs i x lt ∙ ap (λ y. take i xs ++ y ∷ []) (sym is)) ∙ filter-append p (take i xs) (x ∷ []) ∙ ap (λ ys. filter p (take i xs) ++ ys) (filter_one p x b e)
 
 pub kept_next : {A : Type 0} (f : A → List ℕ) (p : A → Bool) (lines : List (List ℕ)) (xs : List A) (i : ℕ) (x : A) → i < length xs → x ≡ get_or xs i x → p x ≡ true
     → (lines ++ map f (filter p (take i xs))) ++ f x ∷ [] ≡ lines ++ map f (filter p (take (i + 1) xs))

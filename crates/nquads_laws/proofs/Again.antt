@@ -5,6 +5,7 @@ use Rattle.std.specs.List.{list_all, flat_map, AllByRecursion}
 use Rattle.std.specs.Option.{option_map, option_to_list}
 use Rattle.sets.specs.Sets.{set_of}
 use Rattle.sets.proofs.SetLaws.{set_of-set}
+use Rattle.sets.proofs.Every.{all_front, all_back, all_of_flat_map}
 use Rattle.datasets.specs.declared.quad.Quad.{Quad}
 use Rattle.datasets.specs.Dataset.{Dataset, quad_order}
 use Rattle.terms.specs.declared.term.Term.{Term}
@@ -16,7 +17,6 @@ use Rattle.nquads.specs.Spelled.{Spells}
 use Rattle.nquads.specs.Canonical.{canonical}
 use Rattle.nquads_laws.specs.WellFormed.{IsWellFormed, terms_in, terms_of, is_written}
 use Rattle.nquads_laws.specs.Named.{named_term, named_quad, named}
-use Rattle.nquads_laws.proofs.Members.{all_front, all_back, all_of_flat_map}
 use Rattle.nquads_laws.proofs.SpelledAgain.{quads_total, quads_exact, spelled_again}
 use Rattle.nquads_laws.proofs.SpelledForm.{spelled_is_well_formed, spelled_is_written}
 

@@ -1,14 +1,14 @@
 -- What bytes pass which tests.
 use Rattle.std.specs.Prelude.{ℕ, zero, suc, Bool, not, ◌&&◌, ◌||◌, ◌==◌, ◌<◌, ◌/◌, ◌%◌, nat_lt}
-use Rattle.std.proofs.Common.{◌≡◌, true, false, cond, eqb, List, [], ◌∷◌, ◌++◌, map, refl, ap, ◌∙◌, subst, inl, inr, arith}
+use Rattle.std.proofs.Common.{◌≡◌, true, false, cond, eqb, List, [], ◌∷◌, map, refl, ap, inl, inr, arith}
 use Rattle.std.specs.List.{list_all}
 use Rattle.std.specs.Char.{to_ascii_lowercase}
 use Rattle.std.specs.Fmt.{digit_glyph, digits_onto, digits, decimal}
 use Rattle.std.proofs.lemmas.Bool.{eqb-true, and_parts, and_from, or_cases, agree_below, agree_below_at}
 use Rattle.std.proofs.lemmas.Bool.Decides.{nat_tests}
-use Rattle.std.proofs.lemmas.List.Folds.{list_all-append}
-use Rattle.iris.specs.Iri.{is_iri, is_iri_byte, is_scheme_byte, is_letter, is_digit, after_first}
+use Rattle.iris.specs.Iri.{is_iri_byte, is_digit}
 use Rattle.iris.specs.Forms.{is_small_letter, InTag, start, first, dash, later, is_tag_from, is_tag, is_label_byte}
+use Rattle.iris.proofs.ByteLaws.{test_ne}
 use Rattle.nquads_lines.specs.Lines.{is_inner}
 
 -- below 128
@@ -28,26 +28,11 @@ implied false q e h = absurd cc
 by_table : (p q : ℕ → Bool) (b : ℕ) → agree_below (λ x. not (p x) || q x) (λ x. true) 128 ≡ true → b < 128 → p b ≡ true → q b ≡ true
 by_table p q b table low = implied (p b) (q b) (agree_below_at (λ x. not (p x) || q x) (λ x. true) 128 b table low)
 
-other_byte : (p : ℕ → Bool) (c b : ℕ) → p c ≡ false → p b ≡ true → eqb b c ≡ false
-other_byte p c b fails passes = elim (eqb b c) as (λ t. eqb b c ≡ t → t ≡ false) [
-  | true ↦ λ e. absurd (let f : p c ≡ true = subst (λ y. p y ≡ true) (eqb-true b c e) passes in cc)
-  | false ↦ λ e. refl
-] refl
-
 label_low : (b : ℕ) → is_label_byte b ≡ true → b < 128
 label_low b e = grind (arith, nat_tests)
 
-scheme_low : (b : ℕ) → is_scheme_byte b ≡ true → b < 128
-scheme_low b e = grind (arith, nat_tests)
-
 low_low : (b : ℕ) → is_low_byte b ≡ true → b < 128
 low_low b e = grind (arith, nat_tests)
-
-scheme_iri : (b : ℕ) → is_scheme_byte b ≡ true → is_iri_byte b ≡ true
-scheme_iri b e = by_table is_scheme_byte is_iri_byte b refl (scheme_low b e) e
-
-letter_scheme : (b : ℕ) → is_letter b ≡ true → is_scheme_byte b ≡ true
-letter_scheme b e = rw e refl
 
 pub is_lower : (b : ℕ) → is_low_byte b ≡ true → eqb (to_ascii_lowercase b) b ≡ true
 is_lower b e = by_table is_low_byte (λ x. eqb (to_ascii_lowercase x) x) b refl (low_low b e) e
@@ -57,29 +42,7 @@ glyph_digit n low = agree_below_at (λ x. is_digit (digit_glyph false x)) (λ x.
 
 -- ---- of a list
 
-pub all_weaker : (p q : ℕ → Bool) → ((b : ℕ) → p b ≡ true → q b ≡ true) → (bs : List ℕ) → list_all p bs ≡ true → list_all q bs ≡ true
-all_weaker p q f [] e = refl
-all_weaker p q f (b ∷ bs) e = let h = and_parts (p b) (list_all p bs) e in and_from (q b) (list_all q bs) (f b h.0) (all_weaker p q f bs h.1)
-
-pub all_append : (p : ℕ → Bool) (xs ys : List ℕ) → list_all p xs ≡ true → list_all p ys ≡ true → list_all p (xs ++ ys) ≡ true
-all_append p xs ys a b = list_all-append p xs ys ∙ and_from (list_all p xs) (list_all p ys) a b
-
 -- ---- IRIs
-
-after_bytes : (bs : List ℕ) → after_first bs ≡ true → list_all is_iri_byte bs ≡ true
-after_bytes [] e = absurd cc
-after_bytes (b ∷ bs) e =
-    elim (eqb b 58) as (λ t. eqb b 58 ≡ t → cond t (list_all is_iri_byte bs) (is_scheme_byte b && after_first bs) ≡ true → (is_iri_byte b && list_all is_iri_byte bs) ≡ true) [
-      | true ↦ λ t h. and_from (is_iri_byte b) (list_all is_iri_byte bs) (ap is_iri_byte (eqb-true b 58 t)) h
-      | false ↦ λ t h. let g = and_parts (is_scheme_byte b) (after_first bs) h in and_from (is_iri_byte b) (list_all is_iri_byte bs) (scheme_iri b g.0) (after_bytes bs g.1)
-    ] refl e
-
--- each byte of an IRI may stand in one
-pub iri_bytes : (bs : List ℕ) → is_iri bs ≡ true → list_all is_iri_byte bs ≡ true
-iri_bytes [] e = absurd cc
-iri_bytes (b ∷ bs) e =
-    let h = and_parts (is_letter b) (after_first bs) e in
-    and_from (is_iri_byte b) (list_all is_iri_byte bs) (scheme_iri b (letter_scheme b h.0)) (after_bytes bs h.1)
 
 -- ---- tags
 
@@ -140,7 +103,7 @@ pub inner_low : (b : ℕ) → is_low_byte b ≡ true → is_ascii_inner b ≡ tr
 inner_low b e = by_table is_low_byte is_ascii_inner b refl (low_low b e) e
 
 pub inner_iri : (b : ℕ) → is_iri_byte b ≡ true → is_inner b ≡ true
-inner_iri b e = rw (other_byte is_iri_byte 10 b refl e, other_byte is_iri_byte 13 b refl e) refl
+inner_iri b e = rw (test_ne is_iri_byte b 10 refl e, test_ne is_iri_byte b 13 refl e) refl
 
 pub ascii_of_inner : (b : ℕ) → is_ascii_inner b ≡ true → is_ascii b ≡ true
 ascii_of_inner b e = (and_parts (is_ascii b) (is_inner b) e).0

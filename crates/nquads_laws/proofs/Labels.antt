@@ -1,7 +1,7 @@
 -- Labels of made nodes, which tell them apart from each other and from what is written.
 use Rattle.std.specs.Prelude.{ℕ, Bool, ◌<◌, ◌^◌, nat_eq}
 use Rattle.std.proofs.Common.{◌≡◌, true, false, List, [], ◌∷◌, ◌++◌, Option, Some, None, refl, sym, ap, ◌∙◌, append_assoc, arith}
-use Rattle.std.specs.List.{list_all, list_any, flat_map, starts_with, AllByRecursion, Contains}
+use Rattle.std.specs.List.{list_all, flat_map, starts_with, AllByRecursion, Contains}
 use Rattle.std.specs.Option.{ForSome, option_to_list}
 use Rattle.std.specs.Fmt.{decimal}
 use Rattle.std.specs.Cmp.Lexicographic.{pointwise}
@@ -11,6 +11,7 @@ use Rattle.std.proofs.lemmas.Cmp.{nat_list_eq_equiv}
 use Rattle.std.proofs.lemmas.Fmt.{decimal_injective}
 use Rattle.std.proofs.lemmas.List.{append_cancel_left}
 use Rattle.std.proofs.lemmas.List.Elements.{All-contains, All-from_recursion, recursion_from_All}
+use Rattle.sets.proofs.Every.{all_weaker, all_joined, all_flat_map, none_passes}
 use Rattle.iris.specs.Iri.{is_digit}
 use Rattle.iris.specs.Runs.{RunsAreLongest}
 use Rattle.datasets.specs.declared.quad.Quad.{Quad}
@@ -22,7 +23,7 @@ use Rattle.nquads.specs.Tag.{mark_of, has_mark, is_marked, is_taken}
 use Rattle.nquads_laws.specs.WellFormed.{AreMadeNumbers, IsTerm, IsIriTerm, IsQuad, IsWellFormed, terms_in, terms_of}
 use Rattle.nquads_laws.specs.Named.{named_term}
 use Rattle.nquads_laws.proofs.Bytes.{decimal_digits}
-use Rattle.nquads_laws.proofs.Members.{all_both, all_joined, all_flat_map, all_weaker}
+use Rattle.nquads_laws.proofs.Members.{all_both}
 use Rattle.nquads_laws.proofs.LineTexts.{subject_is_term}
 
 -- ---- a label begins with its tag's mark
@@ -33,10 +34,10 @@ after_mark r o l s = decimal r ++ 111 ∷ (decimal o ++ 108 ∷ (decimal l ++ 11
 regrouped : (m a b c d : List ℕ) → m ++ a ++ (111 ∷ []) ++ b ++ (108 ∷ []) ++ c ++ (115 ∷ []) ++ d ≡ m ++ (a ++ 111 ∷ (b ++ 108 ∷ (c ++ 115 ∷ d)))
 regrouped m a b c d = simp append_assoc
 
-label_is : (tag r o l s : ℕ) → made_label tag r o l s ≡ mark_of tag ++ after_mark r o l s
+pub label_is : (tag r o l s : ℕ) → made_label tag r o l s ≡ mark_of tag ++ after_mark r o l s
 label_is tag r o l s = regrouped (mark_of tag) (decimal r) (decimal o) (decimal l) (decimal s)
 
-starts-append : (xs ys : List ℕ) → starts_with nat_eq (xs ++ ys) xs ≡ true
+pub starts-append : (xs ys : List ℕ) → starts_with nat_eq (xs ++ ys) xs ≡ true
 starts-append xs ys = ap (pointwise nat_eq xs) (take-append_seam xs ys) ∙ nat_list_eq_equiv.refl xs
 
 label_marked : (tag r o l s : ℕ) → starts_with nat_eq (made_label tag r o l s) (mark_of tag) ≡ true
@@ -63,14 +64,10 @@ free_in tag q is free =
     let h = or_parts (has_mark (mark_of tag) q.subject) (has_mark (mark_of tag) q.object) free in
     ((subject_is_term q.subject is.subject, h.0), (free_iri tag q.predicate is.predicate, ((is.object, h.1), free_graph tag q.graph is.graph)))
 
-none_marked : {A : Type 0} (p : A → Bool) (xs : List A) → list_any p xs ≡ false → AllByRecursion (λ x. p x ≡ false) xs
-none_marked p [] e = tt
-none_marked p (x ∷ xs) e = let h = or_parts (p x) (list_any p xs) e in (h.0, none_marked p xs h.1)
-
 pub free_quads : (tag : ℕ) (d : Dataset Term) → IsWellFormed d → is_taken d.quads tag ≡ false → AllByRecursion (λ q. AllByRecursion (IsFree tag) (terms_in q)) d.quads
 free_quads tag d is free =
     all_both IsQuad (λ q. is_marked (mark_of tag) q ≡ false) (λ q. AllByRecursion (IsFree tag) (terms_in q)) (free_in tag) d.quads
-    (recursion_from_All IsQuad d.quads is.quads) (none_marked (is_marked (mark_of tag)) d.quads free)
+    (recursion_from_All IsQuad d.quads is.quads) (none_passes (is_marked (mark_of tag)) d.quads free)
 
 free_terms : (tag : ℕ) (d : Dataset Term) → IsWellFormed d → is_taken d.quads tag ≡ false → AllByRecursion (IsFree tag) (terms_of d)
 free_terms tag d is free =

@@ -11,6 +11,7 @@ use Rattle.std.proofs.lemmas.Bool.{or_cases}
 use Rattle.std.proofs.lemmas.List.Elements.{recursion_from_All}
 use Rattle.sets.specs.Sets.{set_of, has}
 use Rattle.sets.proofs.SetLaws.{has-set_of, set_of-set, exact_by}
+use Rattle.sets.proofs.Every.{all_of_map}
 use Rattle.iris.specs.Runs.{RunsAreLongest}
 use Rattle.datasets.specs.declared.quad.Quad.{Quad}
 use Rattle.datasets.specs.Dataset.{Dataset, quad_order}
@@ -20,7 +21,7 @@ use Rattle.terms.specs.TermLaws.{term_total, term_exact}
 use Rattle.nquads.specs.Tag.{is_taken}
 use Rattle.nquads_laws.specs.WellFormed.{IsIriTerm, IsWellFormed, terms_in}
 use Rattle.nquads_laws.specs.Named.{named_term, named_quad, named}
-use Rattle.nquads_laws.proofs.Members.{all_both, all_members, all_of_map, same_sets}
+use Rattle.nquads_laws.proofs.Members.{all_both, all_members, same_sets}
 use Rattle.nquads_laws.proofs.Labels.{IsFree, free_quads, terms_apart}
 use Rattle.nquads_laws.proofs.SpelledAgain.{quads_total, quads_exact, names_named}
 

@@ -8,18 +8,20 @@ use Rattle.std.proofs.lemmas.List.{length-append}
 use Rattle.std.proofs.lemmas.Bool.{eqb-true, ltb-true, and_parts, and_from}
 use Rattle.std.proofs.lemmas.Bool.Decides.{nat_tests}
 use Rattle.std.proofs.lemmas.Str.{IsUtf8-append, IsUtf8-nil, IsUtf8-encode, IsUtf8-take, IsUtf8-drop, encode_ascii, IsCharBoundary-before_ascii, IsCharBoundary-after_ascii}
+use Rattle.sets.proofs.Filters.{each_joined, each_weaker}
 use Rattle.iris.specs.Iri.{is_iri_byte, IsIri}
+use Rattle.iris.proofs.ByteLaws.{iri_bytes}
 use Rattle.terms.specs.Canonical.{escape, iri_text}
 use Rattle.nquads_lines.specs.Lines.{is_inner}
 use Rattle.nquads_lines.specs.Escapes.{is_plain}
-use Rattle.nquads_laws.proofs.Bytes.{is_ascii, is_ascii_inner, all_weaker, all_append, iri_bytes, inner_iri, ascii_of_inner, inner_of_inner}
+use Rattle.nquads_laws.proofs.Bytes.{is_ascii, is_ascii_inner, inner_iri, ascii_of_inner, inner_of_inner}
 
 pub record IsPiece (bs : List ℕ) : Type 0 where
   pub utf8 : IsUtf8 bs
   pub inner : list_all is_inner bs ≡ true
 
 pub piece_append : (xs ys : List ℕ) → IsPiece xs → IsPiece ys → IsPiece (xs ++ ys)
-piece_append xs ys a b = record { utf8 = IsUtf8-append xs ys a.utf8 b.utf8; inner = all_append is_inner xs ys a.inner b.inner }
+piece_append xs ys a b = record { utf8 = IsUtf8-append xs ys a.utf8 b.utf8; inner = each_joined is_inner xs ys a.inner b.inner }
 
 -- ---- ASCII
 
@@ -31,7 +33,7 @@ utf8_ascii [] e = IsUtf8-nil
 utf8_ascii (b ∷ bs) e = let h = and_parts (is_ascii b) (list_all is_ascii bs) e in IsUtf8-append (b ∷ []) bs (utf8_byte b (ltb-true b 128 h.0)) (utf8_ascii bs h.1)
 
 pub piece_ascii : (bs : List ℕ) → list_all is_ascii_inner bs ≡ true → IsPiece bs
-piece_ascii bs e = record { utf8 = utf8_ascii bs (all_weaker is_ascii_inner is_ascii ascii_of_inner bs e); inner = all_weaker is_ascii_inner is_inner inner_of_inner bs e }
+piece_ascii bs e = record { utf8 = utf8_ascii bs (each_weaker is_ascii_inner is_ascii ascii_of_inner bs e); inner = each_weaker is_ascii_inner is_inner inner_of_inner bs e }
 
 -- the parts of a text round an ASCII byte
 pub split_ascii : (front : List ℕ) (b : ℕ) (rest : List ℕ) → b < 128 → IsUtf8 (front ++ b ∷ rest) → IsUtf8 front × IsUtf8 rest
@@ -106,5 +108,5 @@ piece_escaped bs u = record { utf8 = utf8_escaped [] bs u; inner = inner_escaped
 
 pub piece_iri : (i : List ℕ) → IsIri i → IsPiece (iri_text i)
 piece_iri i is =
-    let inside : IsPiece i = record { utf8 = is.utf8; inner = all_weaker is_iri_byte is_inner inner_iri i (iri_bytes i is.form) } in
+    let inside : IsPiece i = record { utf8 = is.utf8; inner = each_weaker is_iri_byte is_inner inner_iri i ((iri_bytes i is.form).0) } in
     piece_append (60 ∷ i) (62 ∷ []) (piece_append (60 ∷ []) i (piece_ascii (60 ∷ []) refl) inside) (piece_ascii (62 ∷ []) refl)

@@ -11,8 +11,10 @@ use Rattle.std.proofs.lemmas.Bool.{or_cases, or_left, or_right, cases_Bool, not_
 use Rattle.std.proofs.lemmas.List.{append-nil}
 use Rattle.std.proofs.lemmas.List.Elements.{recursion_from_All}
 use Rattle.std.proofs.lemmas.Str.{IsUtf8-nil}
+use Rattle.std.proofs.lemmas.List.Folds.{list_any-append}
 use Rattle.sets.specs.Sets.{set_of, has}
-use Rattle.sets.proofs.SetLaws.{list_any-append, has-set_of, exact_by}
+use Rattle.sets.proofs.SetLaws.{has-set_of, exact_by}
+use Rattle.sets.proofs.Every.{all_weaker, all_joined, all_front, all_back, all_map, all_of_map, all_flat_map, all_of_flat_map, all_kept, all_set_of}
 use Rattle.datasets.specs.declared.quad.Quad.{Quad}
 use Rattle.datasets.specs.Dataset.{Dataset, IsDataset, quad_order, names_of}
 use Rattle.datasets.specs.Id.{quad_exact, quad_total}
@@ -27,7 +29,7 @@ use Rattle.nquads.specs.Spelled.{AreLines, none, more, stated, declared, Spells}
 use Rattle.nquads.specs.Canonical.{quad_text, graph_line, is_empty_graph, lines_of, ended, canonical}
 use Rattle.nquads_laws.specs.WellFormed.{IsIriTerm, IsQuad, IsWellFormed}
 use Rattle.nquads_laws.specs.Named.{named_term, named_quad, named}
-use Rattle.nquads_laws.proofs.Members.{all_weaker, all_both, all_joined, all_front, all_back, all_map, all_of_map, all_flat_map, all_of_flat_map, all_kept, all_of_kept, all_set_of, among, all_members, same_sets}
+use Rattle.nquads_laws.proofs.Members.{all_both, all_of_kept, among, all_members, same_sets}
 use Rattle.nquads_laws.proofs.LineTexts.{IsWhole, whole_quad, whole_graph, iri_of}
 
 pub quads_total : IsTotalOrder (quad_order term_order)
@@ -231,7 +233,7 @@ module _
         (all_both IsIriTerm (λ g. has term_order d.names g ≡ true) (λ g. Tells made d.names (graph_line tag g)) graph_tells d.names names (all_members term_total term_exact d.names))))
 
     abbrev tell : AllByRecursion (Tells made d.names) all
-    tell = all_set_of text_cmp (Tells made d.names) texts each_tells
+    tell = all_set_of (Tells made d.names) text_cmp texts each_tells
 
     abbrev said : List Line
     said = said_by made d.names all tell

@@ -10,6 +10,8 @@ use Rattle.std.proofs.lemmas.Bool.{and_parts, false≢true}
 use Rattle.std.proofs.lemmas.List.Elements.{All-from_recursion}
 use Rattle.sets.specs.Sets.{set_of, has}
 use Rattle.sets.proofs.SetLaws.{has-set_of, sorted-set_of}
+use Rattle.sets.proofs.Every.{all_weaker, all_joined, all_flat_map, all_of_flat_map, all_set_of}
+use Rattle.sets.proofs.Filters.{each_weaker}
 use Rattle.iris.specs.Iri.{IsIri}
 use Rattle.iris.specs.Forms.{is_tag, is_label_byte, is_label}
 use Rattle.datasets.specs.declared.quad.Quad.{Quad}
@@ -26,10 +28,10 @@ use Rattle.nquads_lines.specs.Forms.{BlankAt, LiteralAt, SubjectAt, ObjectAt}
 use Rattle.nquads_lines.specs.Line.{GraphAt, Says}
 use Rattle.nquads.specs.Spelled.{AreLines, stated, declared, Spells}
 use Rattle.nquads_laws.specs.WellFormed.{IsTerm, IsSubject, IsIriTerm, IsQuad, IsWellFormed, terms_in, terms_of, is_written}
-use Rattle.nquads_laws.proofs.Bytes.{is_ascii, all_weaker, inner_label, ascii_of_inner}
+use Rattle.nquads_laws.proofs.Bytes.{is_ascii, inner_label, ascii_of_inner}
 use Rattle.nquads_laws.proofs.Pieces.{utf8_ascii}
 use Rattle.nquads_laws.proofs.Utf8Parts.{past, past_all, past_gap, past_iri, string_parts}
-use Rattle.nquads_laws.proofs.Members.{all_weaker as all_then, all_joined, all_flat_map, all_of_flat_map, all_set_of, all_members, among}
+use Rattle.nquads_laws.proofs.Members.{all_members, among}
 use Rattle.nquads_laws.proofs.LineTexts.{subject_is_term}
 use Rattle.nquads_laws.proofs.SpelledAgain.{quads_total, quads_said, names_said, stated-is, declared-is, names_of-is}
 
@@ -44,7 +46,7 @@ label_ascii b e = ascii_of_inner b (inner_label b e)
 blank_is : {text label rest : List ℕ} → BlankAt text label rest → IsUtf8 text → (is_label label ≡ true) × IsUtf8 rest
 blank_is (BlankAt.blank {label} {rest} e stops) u =
     let bytes = (and_parts (nat_lt 0 (length label)) (list_all is_label_byte label) e).1 in
-    (e, past_all label rest (all_weaker is_label_byte is_ascii label_ascii label bytes) (past 58 (label ++ rest) (omega arith) (past 95 (58 ∷ (label ++ rest)) (omega arith) u)))
+    (e, past_all label rest (each_weaker is_label_byte is_ascii label_ascii label bytes) (past 58 (label ++ rest) (omega arith) (past 95 (58 ∷ (label ++ rest)) (omega arith) u)))
 
 record IsWrittenSubject (t : Term) (rest : List ℕ) : Type 0 where
   subject : IsSubject t
@@ -143,12 +145,12 @@ lines_forms (AreLines.more {line} {said} is others) = (line_forms line said is.u
 stated_forms : (said : List Line) → AllByRecursion Forms said → AllByRecursion IsWrittenQuad (stated said)
 stated_forms said each =
     subst (AllByRecursion IsWrittenQuad) (sym (stated-is said))
-    (all_flat_map IsWrittenQuad quads_said said (all_then Forms (λ l. AllByRecursion IsWrittenQuad (quads_said l)) (λ l f. f.quads) said each))
+    (all_flat_map IsWrittenQuad quads_said said (all_weaker Forms (λ l. AllByRecursion IsWrittenQuad (quads_said l)) (λ l f. f.quads) said each))
 
 declared_forms : (said : List Line) → AllByRecursion Forms said → AllByRecursion IsIriTerm (declared said)
 declared_forms said each =
     subst (AllByRecursion IsIriTerm) (sym (declared-is said))
-    (all_flat_map IsIriTerm names_said said (all_then Forms (λ l. AllByRecursion IsIriTerm (names_said l)) (λ l f. f.names) said each))
+    (all_flat_map IsIriTerm names_said said (all_weaker Forms (λ l. AllByRecursion IsIriTerm (names_said l)) (λ l f. f.names) said each))
 
 -- a line declares the names of its quads' graphs
 line_declares : (P : Term → Type 0) (said : Line) → AllByRecursion P (names_said said) → AllByRecursion (λ q. AllByRecursion P (option_to_list q.graph)) (quads_said said)
@@ -160,7 +162,7 @@ stated_declare : (P : Term → Type 0) (said : List Line) → AllByRecursion P (
 stated_declare P said each =
     subst (AllByRecursion (λ q. AllByRecursion P (option_to_list q.graph))) (sym (stated-is said))
     (all_flat_map (λ q. AllByRecursion P (option_to_list q.graph)) quads_said said
-    (all_then (λ l. AllByRecursion P (names_said l)) (λ l. AllByRecursion (λ q. AllByRecursion P (option_to_list q.graph)) (quads_said l)) (line_declares P) said
+    (all_weaker (λ l. AllByRecursion P (names_said l)) (λ l. AllByRecursion (λ q. AllByRecursion P (option_to_list q.graph)) (quads_said l)) (line_declares P) said
     (all_of_flat_map P names_said said (subst (AllByRecursion P) (declared-is said) each))))
 
 -- the names of a set's quads
@@ -168,7 +170,7 @@ set_names : (P : Term → Type 0) (quads : List (Quad Term)) → AllByRecursion 
 set_names P quads each =
     subst (AllByRecursion P) (sym (names_of-is (set_of (quad_order term_order) quads)))
     (all_flat_map P (λ q. option_to_list q.graph) (set_of (quad_order term_order) quads)
-    (all_set_of (quad_order term_order) (λ q. AllByRecursion P (option_to_list q.graph)) quads each))
+    (all_set_of (λ q. AllByRecursion P (option_to_list q.graph)) (quad_order term_order) quads each))
 
 said_dataset : (said : List Line) → IsDataset term_order (record { quads = set_of (quad_order term_order) (stated said); names = set_of term_order (declared said) })
 said_dataset said = record {
@@ -185,14 +187,14 @@ dataset_is text d is = λ i. record { quads = sym is.quads i; names = sym is.nam
 
 set_quads : (text : List ℕ) (d : Dataset Term) → Spells text d → AllByRecursion IsWrittenQuad d.quads
 set_quads text d is =
-    subst (AllByRecursion IsWrittenQuad) (sym is.quads) (all_set_of (quad_order term_order) IsWrittenQuad (stated is.said) (stated_forms is.said (lines_forms is.each)))
+    subst (AllByRecursion IsWrittenQuad) (sym is.quads) (all_set_of IsWrittenQuad (quad_order term_order) (stated is.said) (stated_forms is.said (lines_forms is.each)))
 
 set_graphs : (text : List ℕ) (d : Dataset Term) → Spells text d → AllByRecursion IsIriTerm d.names
-set_graphs text d is = subst (AllByRecursion IsIriTerm) (sym is.names) (all_set_of term_order IsIriTerm (declared is.said) (declared_forms is.said (lines_forms is.each)))
+set_graphs text d is = subst (AllByRecursion IsIriTerm) (sym is.names) (all_set_of IsIriTerm term_order (declared is.said) (declared_forms is.said (lines_forms is.each)))
 
 pub spelled_is_well_formed : (text : List ℕ) (d : Dataset Term) → Spells text d → IsWellFormed d
 spelled_is_well_formed text d is = record {
-  quads = All-from_recursion IsQuad d.quads (all_then IsWrittenQuad IsQuad (λ q w. w.quad) d.quads (set_quads text d is));
+  quads = All-from_recursion IsQuad d.quads (all_weaker IsWrittenQuad IsQuad (λ q w. w.quad) d.quads (set_quads text d is));
   names = All-from_recursion IsIriTerm d.names (set_graphs text d is);
   dataset = subst (IsDataset term_order) (dataset_is text d is) (said_dataset is.said);
 }
@@ -207,5 +209,5 @@ pub spelled_is_written : (text : List ℕ) (d : Dataset Term) → Spells text d 
 spelled_is_written text d is =
     all_joined (λ t. is_written t ≡ true) (flat_map terms_in d.quads) d.names
     (all_flat_map (λ t. is_written t ≡ true) terms_in d.quads
-    (all_then IsWrittenQuad (λ q. AllByRecursion (λ t. is_written t ≡ true) (terms_in q)) (λ q w. w.written) d.quads (set_quads text d is)))
-    (all_then IsIriTerm (λ t. is_written t ≡ true) iri_written d.names (set_graphs text d is))
+    (all_weaker IsWrittenQuad (λ q. AllByRecursion (λ t. is_written t ≡ true) (terms_in q)) (λ q w. w.written) d.quads (set_quads text d is)))
+    (all_weaker IsIriTerm (λ t. is_written t ≡ true) iri_written d.names (set_graphs text d is))

@@ -8,8 +8,10 @@ use Rattle.std.specs.Fmt.{decimal}
 use Rattle.std.specs.Cmp.Lexicographic.{pointwise, same_text}
 use Rattle.std.proofs.lemmas.Bool.{and_parts, and_from, false≢true}
 use Rattle.std.proofs.lemmas.Bool.Decides.{nat_tests}
+use Rattle.sets.proofs.Filters.{each_joined, each_weaker}
 use Rattle.iris.specs.Iri.{is_iri_byte, is_digit, IsIri}
 use Rattle.iris.specs.Forms.{is_tag, is_label_byte, is_label}
+use Rattle.iris.proofs.ByteLaws.{iri_bytes}
 use Rattle.terms.specs.Literal.{LiteralValue, IsLiteral}
 use Rattle.terms.specs.Vocabulary.{xsd_string, lang_string}
 use Rattle.terms.specs.declared.term.Term.{Term}
@@ -19,7 +21,7 @@ use Rattle.nquads_lines.specs.Escapes.{StringAt, IriTextAt, IriAt}
 use Rattle.nquads_lines.specs.Forms.{BlankAt, LiteralAt, SubjectAt, ObjectAt, literal}
 use Rattle.nquads_laws.specs.WellFormed.{IsTerm, IsSubject}
 use Rattle.nquads_laws.specs.Named.{named_term}
-use Rattle.nquads_laws.proofs.Bytes.{all_weaker, all_append, iri_bytes, tag_bytes, lower_same, is_low_byte, inner_label, inner_low, decimal_digits, digit_label, is_ascii_inner}
+use Rattle.nquads_laws.proofs.Bytes.{tag_bytes, lower_same, is_low_byte, inner_label, inner_low, decimal_digits, digit_label, is_ascii_inner}
 use Rattle.nquads_laws.proofs.Pieces.{IsPiece, piece_append, piece_ascii, piece_escaped, piece_iri, by_escape}
 
 -- ---- IRIs
@@ -32,7 +34,7 @@ iri_text_at [] rest e = IriTextAt.close
 iri_text_at (b ∷ i) rest e = let h = and_parts (is_iri_byte b) (list_all is_iri_byte i) e in IriTextAt.plain (h.0) (iri_text_at i rest h.1)
 
 pub iri_front : (i rest : List ℕ) → IsIri i → IriAt (iri_text i ++ rest) i rest
-iri_front i rest is = subst (λ (text : List ℕ). IriAt text i rest) (sym (bracketed i rest)) (IriAt.iri (iri_text_at i rest (iri_bytes i is.form)) is)
+iri_front i rest is = subst (λ (text : List ℕ). IriAt text i rest) (sym (bracketed i rest)) (IriAt.iri (iri_text_at i rest ((iri_bytes i is.form).0)) is)
 
 -- ---- labels
 
@@ -45,11 +47,11 @@ pub made_label-is : (tag r o l s : ℕ)
 made_label-is tag r o l s = regrouped (decimal tag) (decimal r) (decimal o) (decimal l) (decimal s)
 
 decimal_label : (n : ℕ) → list_all is_label_byte (decimal n) ≡ true
-decimal_label n = all_weaker is_digit is_label_byte digit_label (decimal n) (decimal_digits n)
+decimal_label n = each_weaker is_digit is_label_byte digit_label (decimal n) (decimal_digits n)
 
 -- a decimal, a letter and more
 part_label : (n b : ℕ) (rest : List ℕ) → is_label_byte b ≡ true → list_all is_label_byte rest ≡ true → list_all is_label_byte (decimal n ++ b ∷ rest) ≡ true
-part_label n b rest e all = all_append is_label_byte (decimal n) (b ∷ rest) (decimal_label n) (and_from (is_label_byte b) (list_all is_label_byte rest) e all)
+part_label n b rest e all = each_joined is_label_byte (decimal n) (b ∷ rest) (decimal_label n) (and_from (is_label_byte b) (list_all is_label_byte rest) e all)
 
 made_bytes : (tag r o l s : ℕ) → list_all is_label_byte (109 ∷ (decimal tag ++ 114 ∷ (decimal r ++ 111 ∷ (decimal o ++ 108 ∷ (decimal l ++ 115 ∷ decimal s))))) ≡ true
 made_bytes tag r o l s =
@@ -127,7 +129,7 @@ object_front tag (Made r o l s) rest is = ObjectAt.subject (subject_front tag (M
 -- ---- their bytes
 
 piece_label : (b : List ℕ) → is_label b ≡ true → IsPiece (95 ∷ 58 ∷ b)
-piece_label b e = piece_ascii (95 ∷ 58 ∷ b) (all_weaker is_label_byte is_ascii_inner inner_label b (label_bytes b e))
+piece_label b e = piece_ascii (95 ∷ 58 ∷ b) (each_weaker is_label_byte is_ascii_inner inner_label b (label_bytes b e))
 
 piece_suffix : (d : List ℕ) (t : Option (List ℕ)) → IsIri d → ForSome t (λ t. is_tag t ≡ true) → IsPiece (34 ∷ suffix d t)
 piece_suffix d None is tag =
@@ -135,7 +137,7 @@ piece_suffix d None is tag =
       | true ↦ piece_ascii (34 ∷ []) refl
       | false ↦ piece_append (34 ∷ 94 ∷ 94 ∷ []) (iri_text d) (piece_ascii (34 ∷ 94 ∷ 94 ∷ []) refl) (piece_iri d is)
     ]
-piece_suffix d (Some t) is tag = piece_ascii (34 ∷ 64 ∷ t) (all_weaker is_low_byte is_ascii_inner inner_low t (tag_bytes t (tag t refl)))
+piece_suffix d (Some t) is tag = piece_ascii (34 ∷ 64 ∷ t) (each_weaker is_low_byte is_ascii_inner inner_low t (tag_bytes t (tag t refl)))
 
 piece_literal : (l : LiteralValue) → IsLiteral l → IsPiece (literal_text l)
 piece_literal l is =

@@ -7,10 +7,11 @@ use Rattle.std.proofs.lemmas.Bool.{eqb-true, ltb-true, lt-ltb, and_parts}
 use Rattle.std.proofs.lemmas.Bool.Decides.{nat_tests}
 use Rattle.std.proofs.lemmas.List.{append-nil}
 use Rattle.std.proofs.lemmas.Str.{IsUtf8-append, IsUtf8-encode}
+use Rattle.sets.proofs.Filters.{each_weaker}
 use Rattle.iris.specs.Forms.{short_escape}
 use Rattle.nquads_lines.specs.Escapes.{CodeAt, StringAt, IriTextAt, IriAt}
 use Rattle.nquads_lines.specs.Line.{is_blank, Gap}
-use Rattle.nquads_laws.proofs.Bytes.{is_ascii, all_weaker}
+use Rattle.nquads_laws.proofs.Bytes.{is_ascii}
 use Rattle.nquads_laws.proofs.Pieces.{utf8_byte, split_ascii}
 
 -- ---- past ASCII bytes
@@ -35,7 +36,7 @@ blank_ascii : (b : ℕ) → is_blank b ≡ true → is_ascii b ≡ true
 blank_ascii b e = lt-ltb b 128 (blank_low b e)
 
 pub past_gap : (text rest : List ℕ) → Gap text rest → IsUtf8 text → IsUtf8 rest
-past_gap text rest gap u = past_all gap.blanks rest (all_weaker is_blank is_ascii blank_ascii gap.blanks gap.each) (subst IsUtf8 gap.cut u)
+past_gap text rest gap u = past_all gap.blanks rest (each_weaker is_blank is_ascii blank_ascii gap.blanks gap.each) (subst IsUtf8 gap.cut u)
 
 -- ---- escapes
 
@@ -68,10 +69,10 @@ record AroundCode (front : List ℕ) (c : ℕ) (after : List ℕ) : Type 0 where
 around_code : (front : List ℕ) {text after : List ℕ} {c : ℕ} → CodeAt text c after → IsUtf8 (front ++ text) → AroundCode front c after
 around_code front (CodeAt.small hex {rest} long digits scalar) u =
     let h = split_ascii front 92 (117 ∷ (hex ++ rest)) (omega arith) u in
-    record { before = h.0; behind = past_all hex rest (all_weaker is_ascii_hexdigit is_ascii hex_ascii hex digits) (past 117 (hex ++ rest) (omega arith) h.1); scalar = scalar }
+    record { before = h.0; behind = past_all hex rest (each_weaker is_ascii_hexdigit is_ascii hex_ascii hex digits) (past 117 (hex ++ rest) (omega arith) h.1); scalar = scalar }
 around_code front (CodeAt.large hex {rest} long digits scalar) u =
     let h = split_ascii front 92 (85 ∷ (hex ++ rest)) (omega arith) u in
-    record { before = h.0; behind = past_all hex rest (all_weaker is_ascii_hexdigit is_ascii hex_ascii hex digits) (past 85 (hex ++ rest) (omega arith) h.1); scalar = scalar }
+    record { before = h.0; behind = past_all hex rest (each_weaker is_ascii_hexdigit is_ascii hex_ascii hex digits) (past 85 (hex ++ rest) (omega arith) h.1); scalar = scalar }
 
 -- one more byte in front
 shifted : (front : List ℕ) (b : ℕ) (text : List ℕ) → IsUtf8 (front ++ b ∷ text) → IsUtf8 ((front ++ b ∷ []) ++ text)

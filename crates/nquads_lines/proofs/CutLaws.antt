@@ -1,13 +1,13 @@
 -- Where a text may be cut, and what a test of its front tells.
 use Rattle.std.specs.Prelude.{ℕ, ◌<◌, ◌≤◌, ◌+◌, Bool, IsUtf8, length, drop, nat_eq}
-use Rattle.std.proofs.Common.{zero, suc, ◌≡◌, true, false, List, [], ◌∷◌, ◌++◌, refl, sym, ap, ◌∙◌, subst, arith, get_or, take, length-append}
-use Rattle.std.specs.Str.{IsCharBoundary, is_utf8}
+use Rattle.std.proofs.Common.{zero, suc, ◌≡◌, true, false, List, [], ◌∷◌, ◌++◌, sym, ap, ◌∙◌, subst, arith, get_or, take, length-append}
+use Rattle.std.specs.Str.{IsCharBoundary}
 use Rattle.std.specs.Char.{encode_utf8}
 use Rattle.std.specs.List.{prefix_len, starts_with}
 use Rattle.std.proofs.lemmas.List.{take-append-drop}
 use Rattle.std.specs.Cmp.Lexicographic.{same_text}
 use Rattle.std.proofs.lemmas.List.Sums.{prefix_len-le-length, prefix_len_passes, prefix_len_stops}
-use Rattle.std.proofs.lemmas.Str.{IsCharBoundary-after_ascii, IsCharBoundary-before_ascii, IsCharBoundary-start, IsCharBoundary-end, IsUtf8-from_is_utf8, is_utf8-from_IsUtf8, encode_ascii}
+use Rattle.std.proofs.lemmas.Str.{IsCharBoundary-after_ascii, IsCharBoundary-before_ascii, IsCharBoundary-start, IsCharBoundary-end, encode_ascii}
 use Rattle.iris.specs.Iri.{is_iri_byte}
 use Rattle.iris.specs.Forms.{is_label_byte}
 use Rattle.nquads_lines.specs.Escapes.{is_plain}
@@ -16,11 +16,6 @@ use Rattle.nquads_lines.specs.Line.{is_blank, graph_mark}
 use Rattle.nquads_lines.specs.Undone.{is_open}
 use Rattle.nquads_lines.specs.declared.escapes.Quote.{Quote}
 use Rattle.nquads_lines.specs.declared.escapes.Quote.TheVariants.{String, Iri}
-
-pub not_utf8 : (bs : List ℕ) → (IsUtf8 bs → ⊥) → is_utf8 bs ≡ false
-not_utf8 bs h = elim (is_utf8 bs) as (λ b. is_utf8 bs ≡ b → b ≡ false) [ true ↦ λ e. absurd (h (IsUtf8-from_is_utf8 bs e)) | false ↦ λ e. refl ] refl
-
-pub ruleset text_laws = (not_utf8, is_utf8-from_IsUtf8)
 
 -- the first byte is in ASCII
 pub first_cut : (text : List ℕ) → IsUtf8 text → 0 < length text → get_or text 0 0 < 128 → IsCharBoundary text 1

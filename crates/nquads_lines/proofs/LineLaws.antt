@@ -1,5 +1,5 @@
 -- What is read of a line is what it says, and what it says is read.
-use Rattle.std.proofs.Common.{◌≡◌, ℕ, Bool, true, false, cond, eqb, List, [], ◌∷◌, ◌++◌, Option, Some, None, refl, sym, ap, ◌∙◌, subst, drop, length}
+use Rattle.std.proofs.Common.{◌≡◌, ℕ, true, false, cond, eqb, List, [], ◌∷◌, ◌++◌, Option, Some, None, refl, sym, ap, ◌∙◌, subst, drop, length}
 use Rattle.std.specs.Prelude.{nat_eq}
 use Rattle.std.specs.Str.{is_utf8}
 use Rattle.std.specs.List.{list_all, starts_with}
@@ -8,6 +8,7 @@ use Rattle.std.proofs.lemmas.Option.{cond_some, same_Some}
 use Rattle.std.proofs.lemmas.Str.{IsUtf8-from_is_utf8, is_utf8-from_IsUtf8}
 use Rattle.iris.specs.Runs.{run_of, rest_of, Stops, IsRun, RunsAreLongest}
 use Rattle.iris.specs.Bracketed.{◌>>=◌}
+use Rattle.iris.proofs.Options.{bind_some, chosen}
 use Rattle.terms.specs.declared.term.Term.{Term}
 use Rattle.terms.specs.declared.term.Term.TheVariants as term
 use Rattle.nquads_lines.specs.declared.stop.Line.{Line}
@@ -19,12 +20,8 @@ use Rattle.nquads_lines.specs.Undone.{ascii_at, after, iri_at}
 use Rattle.nquads_lines.specs.ReadTerms.{begins_with, subject_at, object_at}
 use Rattle.nquads_lines.specs.Reading.{skip_blanks, begins_comment, ends, graph_at, statement_at, is_empty, declared_at, line_of, LinesAreRead}
 use Rattle.nquads_lines.proofs.CutLaws.{marked}
-use Rattle.nquads_lines.proofs.QuotedLaws.{bind_some, after_found}
+use Rattle.nquads_lines.proofs.QuotedLaws.{after_found}
 use Rattle.nquads_lines.proofs.TermLaws.{iri_found, iri_again, begins_iri, subject_found, subject_again, object_found, object_again}
-
-chosen : {A : Type 0} (b : Bool) (o : Option A) (y : A) → cond b o None ≡ Some y → (b ≡ true) × (o ≡ Some y)
-chosen true o y e = (refl, e)
-chosen false o y e = absurd cc
 
 -- ---- no term begins with a blank or a `#`
 

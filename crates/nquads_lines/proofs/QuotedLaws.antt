@@ -6,23 +6,19 @@ use Rattle.std.specs.Str.{all_scalars}
 use Rattle.std.specs.List.{list_all}
 use Rattle.std.proofs.lemmas.Bool.{eqb-true, and_parts}
 use Rattle.std.proofs.lemmas.Option.{same_Some, cond_some}
-use Rattle.std.proofs.lemmas.List.{append-nil, take-append-drop, length-take-le}
+use Rattle.std.proofs.lemmas.List.{append-nil, take-append-drop, length-take-le, drop_at}
 use Rattle.std.proofs.lemmas.List.Folds.{list_all-append}
-use Rattle.std.proofs.Math.Seq.{drop-append_seam}
 use Rattle.iris.specs.Iri.{is_iri_byte}
 use Rattle.iris.specs.Forms.{short_escape}
 use Rattle.iris.specs.Runs.{run_of, rest_of, Stops, RunsAreLongest}
 use Rattle.iris.specs.Bracketed.{◌>>=◌}
+use Rattle.iris.proofs.Options.{bind_some}
 use Rattle.nquads_lines.specs.Escapes.{hex_value, small, large, StringAt, IriTextAt, close, plain, short, code}
 use Rattle.nquads_lines.specs.Undone.{ascii_at, after, digit_at, digits_at, scalar_of, small_at, large_at, short_of, escape_at, escape_len, closing, is_open, before, quoted_from, quoted_at}
 use Rattle.nquads_lines.specs.declared.escapes.Quote.{Quote}
 use Rattle.nquads_lines.specs.declared.escapes.Quote.TheVariants.{String, Iri}
 
 -- ---- steps that may fail
-
-pub bind_some : {A B : Type 0} (o : Option A) (f : A → Option B) (y : B) → (o >>= f) ≡ Some y → (x : A) × (o ≡ Some x) × (f x ≡ Some y)
-bind_some None f y e = absurd cc
-bind_some (Some x) f y e = (x, refl, e)
 
 abbrev Read : Type 0
 Read = List ℕ × List ℕ
@@ -202,13 +198,10 @@ escape_again q (one {b} {c} {rest} e) =
 escape_again q (four hex {rest} many all is) = rw (ascii_again 117 (hex ++ rest) refl) (four_again hex rest many all is)
 escape_again q (eight hex {rest} many all is) = rw (ascii_again 85 (hex ++ rest) refl) (eight_again hex rest many all is)
 
-behind : (n : ℕ) (hex rest : List ℕ) → length hex ≡ n → drop n (hex ++ rest) ≡ rest
-behind n hex rest many = ap (λ k. drop k (hex ++ rest)) (sym many) ∙ drop-append_seam hex rest
-
 escape_rest : (q : Quote) {text value rest : List ℕ} → EscapeAt q text value rest → drop (escape_len text) text ≡ rest
 escape_rest q (one {b} {c} {rest} e) = rw (apart (short_of q) b c 117 (short_of_none q 117 refl) e, apart (short_of q) b c 85 (short_of_none q 85 refl) e) refl
-escape_rest q (four hex {rest} many all is) = behind 4 hex rest many
-escape_rest q (eight hex {rest} many all is) = behind 8 hex rest many
+escape_rest q (four hex {rest} many all is) = drop_at hex rest 4 many
+escape_rest q (eight hex {rest} many all is) = drop_at hex rest 8 many
 
 -- ---- what is quoted
 

@@ -6,13 +6,15 @@ use Rattle.std.specs.Option.{option_map_or}
 use Rattle.std.specs.List.{list_all}
 use Rattle.std.specs.Str.{is_utf8}
 use Rattle.std.specs.Cmp.Lexicographic.{pointwise, same_text, other_text}
-use Rattle.std.proofs.lemmas.Bool.{eqb-true, and_parts}
+use Rattle.std.proofs.lemmas.Bool.{eqb-true, and_parts, or_cases}
 use Rattle.std.proofs.lemmas.Option.{same_Some, cond_some}
 use Rattle.std.proofs.lemmas.Str.{IsUtf8-from_is_utf8, is_utf8-from_IsUtf8}
+use Rattle.std.proofs.Math.Logic.{⊎_elim}
 use Rattle.iris.specs.Iri.{is_iri, IsIri, is_digit}
 use Rattle.iris.specs.Runs.{run_of, rest_of, Stops, IsRun, RunsAreLongest}
 use Rattle.iris.specs.Forms.{is_tag, is_label, is_label_byte, InTag, start, first, dash, later, is_tag_from, is_small_letter}
 use Rattle.iris.specs.Bracketed.{◌>>=◌, iri_of}
+use Rattle.iris.proofs.Options.{bind_some}
 use Rattle.terms.specs.Vocabulary.{xsd_string, lang_string}
 use Rattle.terms.specs.declared.term.Term.{Term}
 use Rattle.terms.specs.declared.term.Term.TheVariants as term
@@ -22,7 +24,7 @@ use Rattle.nquads_lines.specs.Undone.{ascii_at, after, quoted_at, iri_at}
 use Rattle.nquads_lines.specs.ReadTerms as read
 use Rattle.nquads_lines.specs.ReadTerms.{label_of, blank_at, with_tag, with_type, suffix_at, literal_at, begins_with, subject_at, object_at}
 use Rattle.nquads_lines.specs.declared.escapes.Quote.TheVariants.{String, Iri}
-use Rattle.nquads_lines.proofs.QuotedLaws.{bind_some, after_found, string_found, string_again, iri_text_found, iri_text_again}
+use Rattle.nquads_lines.proofs.QuotedLaws.{after_found, string_found, string_again, iri_text_found, iri_text_again}
 
 abbrev Read : Type 0
 Read = Term × List ℕ
@@ -77,27 +79,23 @@ lower_digit b e = grind (arith, e)
 lower_dash : (b : ℕ) → eqb (to_ascii_lowercase b) 45 ≡ true → is_tag_byte b ≡ true
 lower_dash b e = grind (arith, e)
 
-or_either : (a b c : Bool) → (a ≡ true → c ≡ true) → (b ≡ true → c ≡ true) → (a || b) ≡ true → c ≡ true
-or_either true b c f g e = f refl
-or_either false b c f g e = g e
-
 tag_bytes : (at : InTag) (tag : List ℕ) → is_tag_from at (map to_ascii_lowercase tag) ≡ true → list_all is_tag_byte tag ≡ true
 tag_bytes at [] e = refl
 tag_bytes start (b ∷ bs) e =
     let h = and_parts (is_small_letter (to_ascii_lowercase b)) (is_tag_from first (map to_ascii_lowercase bs)) e in
     rw (lower_tag b h.0) (tag_bytes first bs h.1)
 tag_bytes first (b ∷ bs) e =
-    or_either (is_small_letter (to_ascii_lowercase b) && is_tag_from first (map to_ascii_lowercase bs)) (eqb (to_ascii_lowercase b) 45 && is_tag_from dash (map to_ascii_lowercase bs)) (is_tag_byte b && list_all is_tag_byte bs)
-    (λ l. let h = and_parts (is_small_letter (to_ascii_lowercase b)) (is_tag_from first (map to_ascii_lowercase bs)) l in rw (lower_tag b h.0) (tag_bytes first bs h.1))
-    (λ d. let h = and_parts (eqb (to_ascii_lowercase b) 45) (is_tag_from dash (map to_ascii_lowercase bs)) d in rw (lower_dash b h.0) (tag_bytes dash bs h.1)) e
+    ⊎_elim (λ l. let h = and_parts (is_small_letter (to_ascii_lowercase b)) (is_tag_from first (map to_ascii_lowercase bs)) l in rw (lower_tag b h.0) (tag_bytes first bs h.1))
+    (λ d. let h = and_parts (eqb (to_ascii_lowercase b) 45) (is_tag_from dash (map to_ascii_lowercase bs)) d in rw (lower_dash b h.0) (tag_bytes dash bs h.1))
+    (or_cases (is_small_letter (to_ascii_lowercase b) && is_tag_from first (map to_ascii_lowercase bs)) (eqb (to_ascii_lowercase b) 45 && is_tag_from dash (map to_ascii_lowercase bs)) e)
 tag_bytes dash (b ∷ bs) e =
     let h = and_parts (is_small_letter (to_ascii_lowercase b) || is_digit (to_ascii_lowercase b)) (is_tag_from later (map to_ascii_lowercase bs)) e in
-    rw (or_either (is_small_letter (to_ascii_lowercase b)) (is_digit (to_ascii_lowercase b)) (is_tag_byte b) (lower_tag b) (lower_digit b) h.0) (tag_bytes later bs h.1)
+    rw (⊎_elim (lower_tag b) (lower_digit b) (or_cases (is_small_letter (to_ascii_lowercase b)) (is_digit (to_ascii_lowercase b)) h.0)) (tag_bytes later bs h.1)
 tag_bytes later (b ∷ bs) e =
-    or_either ((is_small_letter (to_ascii_lowercase b) || is_digit (to_ascii_lowercase b)) && is_tag_from later (map to_ascii_lowercase bs)) (eqb (to_ascii_lowercase b) 45 && is_tag_from dash (map to_ascii_lowercase bs)) (is_tag_byte b && list_all is_tag_byte bs)
-    (λ l. let h = and_parts (is_small_letter (to_ascii_lowercase b) || is_digit (to_ascii_lowercase b)) (is_tag_from later (map to_ascii_lowercase bs)) l in
-    rw (or_either (is_small_letter (to_ascii_lowercase b)) (is_digit (to_ascii_lowercase b)) (is_tag_byte b) (lower_tag b) (lower_digit b) h.0) (tag_bytes later bs h.1))
-    (λ d. let h = and_parts (eqb (to_ascii_lowercase b) 45) (is_tag_from dash (map to_ascii_lowercase bs)) d in rw (lower_dash b h.0) (tag_bytes dash bs h.1)) e
+    ⊎_elim (λ l. let h = and_parts (is_small_letter (to_ascii_lowercase b) || is_digit (to_ascii_lowercase b)) (is_tag_from later (map to_ascii_lowercase bs)) l in
+    rw (⊎_elim (lower_tag b) (lower_digit b) (or_cases (is_small_letter (to_ascii_lowercase b)) (is_digit (to_ascii_lowercase b)) h.0)) (tag_bytes later bs h.1))
+    (λ d. let h = and_parts (eqb (to_ascii_lowercase b) 45) (is_tag_from dash (map to_ascii_lowercase bs)) d in rw (lower_dash b h.0) (tag_bytes dash bs h.1))
+    (or_cases ((is_small_letter (to_ascii_lowercase b) || is_digit (to_ascii_lowercase b)) && is_tag_from later (map to_ascii_lowercase bs)) (eqb (to_ascii_lowercase b) 45 && is_tag_from dash (map to_ascii_lowercase bs)) e)
 
 -- ---- where a literal's suffix begins
 
@@ -212,10 +210,6 @@ literal_again runs (tagged tag {text} {l} {rest} string is stops) =
     rw (after_quote text, string_again string, after_at (tag ++ rest)) (with_tag_again runs l tag rest is stops)
 
 -- ---- subjects and objects
-
-begins_is : (c : ℕ) (text : List ℕ) → begins_with c text ≡ true → (t : List ℕ) × (text ≡ c ∷ t)
-begins_is c [] e = absurd cc
-begins_is c (b ∷ bs) e = (bs, ap (λ k. k ∷ bs) (eqb-true b c e))
 
 blank_found : (text : List ℕ) (x : List ℕ × List ℕ) → blank_at text ≡ Some x → RunsAreLongest → BlankAt text x.0 x.1
 unfolding blank_at

@@ -116,7 +116,7 @@ fn after_mark(line: &str) -> Option<&str>
 }
 
 /// The bytes as a text, if they are UTF-8.
-#[tactic(auto, using(crate::proofs::CutLaws::text_laws))]
+#[tactic(auto, using(iris::proofs::TextLaws::text_laws))]
 fn text_of(bytes: &[u8]) -> Option<&str>
     ensures { MatchOption result (is_utf8 bytes.now ≡ false)
         (λ text. (text.now ≡ bytes.now) × (is_utf8 bytes.now ≡ true)) }

@@ -106,7 +106,7 @@ pub fn quoted_at(alloc: Global, quote: Quote, text: &str) -> Result<(String, &st
 }
 
 /// The IRI of a text of bytes that an IRI may hold, if it is one.
-#[tactic(auto, using(crate::proofs::CutLaws::text_laws), unfolding(iris::specs::Bracketed::iri_of))]
+#[tactic(auto, using(iris::proofs::TextLaws::text_laws), unfolding(iris::specs::Bracketed::iri_of))]
 fn iri_of(text: &str) -> Result<IriCow<'_>, Stop>
     requires { list_all is_iri_byte text.now ≡ true }
     ensures { Gives (λ iri. iri) result (iri_of text.now) }
@@ -118,7 +118,7 @@ fn iri_of(text: &str) -> Result<IriCow<'_>, Stop>
 }
 
 /// The IRI of any text, if it is one, in memory of its own.
-#[tactic(auto, using(crate::proofs::CutLaws::text_laws), unfolding(iris::specs::Bracketed::iri_of))]
+#[tactic(auto, using(iris::proofs::TextLaws::text_laws), unfolding(iris::specs::Bracketed::iri_of))]
 fn owned_iri_of<'a>(alloc: Global, text: &str) -> Result<IriCow<'a>, Stop>
     ensures { Gives (λ iri. iri) result (iri_of text.now) }
 {

@@ -1,7 +1,8 @@
 -- The run of the numbers is the run of the terms.
-use Rattle.std.proofs.Common.{◌≡◌, ℕ, zero, suc, ◌+◌, true, Bool, List, [], ◌∷◌, take, map, refl, ap, ◌∙◌}
+use Rattle.std.proofs.Common.{◌≡◌, ℕ, zero, suc, ◌+◌, true, Bool, List, [], ◌∷◌, take, map, refl, ap, ◌∙◌, sym}
 use Rattle.std.specs.List.{list_all}
 use Rattle.std.proofs.lemmas.Bool.{and_parts, and_from}
+use Rattle.std.proofs.lemmas.List.{take-map}
 use Rattle.terms.specs.TermLaws.{term_total, term_exact}
 use Rattle.terms.specs.declared.term.Term.{Term}
 use Rattle.datasets.specs.Dataset.{Dataset, IsDataset}
@@ -13,12 +14,6 @@ use Rattle.meaning_laws.specs.Answers.{IsExactOrder}
 use Rattle.meaning_laws.proofs.Renames.{carries_run}
 use Rattle.meaning_laws.proofs.Answers.{answers_with_datasets}
 use Rattle.numbering.specs.Numbered.{CarriesBlock}
-
-map-take : {A B : Type 0} (f : A → B) (n : ℕ) (xs : List A) → map f (take n xs) ≡ take n (map f xs)
-map-take f zero [] = refl
-map-take f zero (x ∷ xs) = refl
-map-take f (suc n) [] = refl
-map-take f (suc n) (x ∷ xs) = ap (λ zs. f x ∷ zs) (map-take f n xs)
 
 all-take : {A : Type 0} (p : A → Bool) (n : ℕ) (xs : List A) → list_all p xs ≡ true → list_all p (take n xs) ≡ true
 all-take p zero [] h = refl
@@ -39,7 +34,7 @@ carried is_renaming d block b requests n numbered h =
     let run = carries_run (numbers terms) written (term_of terms) (is_known terms) (take n requests) base (is_renaming terms numbered.base.dictionary)
     (all-take (request_known (is_known terms)) n requests numbered.block_known) numbered.base.known in
     let block_is : map (renamed_request (term_of terms)) (take n requests) ≡ take n block =
-    map-take (renamed_request (term_of terms)) n requests ∙ ap (λ (rs : List (Request Term)). take n rs) numbered.block_is in
+    sym (take-map (renamed_request (term_of terms)) n requests) ∙ ap (λ (rs : List (Request Term)). take n rs) numbered.block_is in
     let same : run_from written 0 (map (renamed_request (term_of terms)) (take n requests)) (renamed (term_of terms) base) ≡ run_of_first written n block d =
     λ i. run_from written 0 (block_is i) (numbered.base.dataset_is i) in
     record {

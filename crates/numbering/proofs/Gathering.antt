@@ -4,12 +4,12 @@ use Rattle.std.proofs.Common.{◌≡◌, ℕ, ◌<◌, Bool, true, false, ◌||�
 use Rattle.std.specs.List.{list_all, list_any}
 use Rattle.std.specs.Ordering.{eq_by_cmp}
 use Rattle.std.proofs.lemmas.Bool.{and_parts, and_from}
+use Rattle.sets.proofs.Filters.{each_joined}
 use Rattle.indexmap.specs.IndexSet.{insert_key}
 use Rattle.terms.specs.declared.term.Term.{Term}
 use Rattle.terms.specs.Term.{term_order}
 use Rattle.terms.specs.Hashed.{equal_terms}
 use Rattle.store.proofs.Holding.{all_parts}
-use Rattle.store.proofs.Loops.{all-append}
 use Rattle.numbering.specs.Gathered.{HasTerms}
 use Rattle.numbering.proofs.Places.{loop_item}
 
@@ -37,7 +37,7 @@ module _ (terms : List Term) (i : ℕ) (t : Term) (lt : i < length terms) (is : 
   one_more : (old new : List Term) → ((p : Term → Bool) → list_all p new ≡ true → (list_all p old ≡ true) × (p t ≡ true))
       → HasTerms old (take i terms) → HasTerms new (take (i + 1) terms)
   one_more old new more has =
-      loop_item (HasTerms new) terms i t lt is (λ p h. all-append p (take i terms) (t ∷ []) (has p (more p h).0) (and_from (p t) true (more p h).1 refl))
+      loop_item (HasTerms new) terms i t lt is (λ p h. each_joined p (take i terms) (t ∷ []) (has p (more p h).0) (and_from (p t) true (more p h).1 refl))
 
   -- the next of the terms is there already, or is put in
   pub there_already : (found : List Term) → list_any (eq_by_cmp term_order t) found ≡ true → HasTerms found (take i terms) → HasTerms found (take (i + 1) terms)

@@ -6,6 +6,7 @@ use Rattle.std.specs.Option.{option_map}
 use Rattle.std.proofs.lemmas.Bool.{and_parts, and_from, ltb-true}
 use Rattle.std.proofs.lemmas.List.{append-nil, map-append}
 use Rattle.std.proofs.Math.Seq.{take-suc}
+use Rattle.sets.proofs.Filters.{each_joined}
 use Rattle.terms.specs.declared.term.Term.{Term}
 use Rattle.terms.specs.declared.term.Term.TheVariants as term
 use Rattle.terms.specs.Placed.{term_at, quad_at, is_within, is_name_within, is_quad_within, GoesOn, TermsKeepPlaces}
@@ -15,8 +16,7 @@ use Rattle.datasets.specs.declared.quad.Quad.{Quad}
 use Rattle.dict.specs.Dictionary.{term_of, is_known}
 use Rattle.meaning_laws.specs.Renaming.{renamed_quad}
 use Rattle.numbering.specs.Tables.{ArePlaces, StandFor, NamesStandFor}
-use Rattle.store.proofs.Loops.{all-append}
-use Rattle.store.proofs.Places.{at_map, same_length, all_at}
+use Rattle.store.proofs.Places.{all_at}
 
 -- ---- the places of a dictionary's terms
 
@@ -94,7 +94,7 @@ stand_more keep dict old new on placed after done q quad made is in_new s =
     record {
       each = ap (map (quad_at new)) made ∙ map-append (quad_at new) placed (q ∷ [])
           ∙ (λ i. kept.each i ++ is i ∷ []) ∙ sym (map-append (renamed_quad (term_of dict)) done (quad ∷ []));
-      within = ap (list_all (is_quad_within new)) made ∙ all-append (is_quad_within new) placed (q ∷ []) kept.within (and_from (is_quad_within new q) true in_new refl);
+      within = ap (list_all (is_quad_within new)) made ∙ each_joined (is_quad_within new) placed (q ∷ []) kept.within (and_from (is_quad_within new q) true in_new refl);
     }
 
 pub name_more : (keep : TermsKeepPlaces) (dict old new : List Term) → GoesOn old new → (placed after : List ℕ) (done : List Id) (p : ℕ) (name : Id)
@@ -105,7 +105,7 @@ name_more keep dict old new on placed after done p name made is in_new s =
     record {
       each = ap (map (term_at new)) made ∙ map-append (term_at new) placed (p ∷ [])
           ∙ (λ i. kept.each i ++ is i ∷ []) ∙ sym (map-append (term_of dict) done (name ∷ []));
-      within = ap (list_all (is_within new)) made ∙ all-append (is_within new) placed (p ∷ []) kept.within (and_from (is_within new p) true in_new refl);
+      within = ap (list_all (is_within new)) made ∙ each_joined (is_within new) placed (p ∷ []) kept.within (and_from (is_within new p) true in_new refl);
     }
 
 pub place_more : (keep : TermsKeepPlaces) (done old new : List Term) → GoesOn old new → (places after : List ℕ) (p : ℕ) (t : Term)
@@ -115,7 +115,7 @@ place_more keep done old new on places after p t made is in_new s =
     let kept = places_kept keep old new on done places s in
     record {
       each = ap (map (term_at new)) made ∙ map-append (term_at new) places (p ∷ []) ∙ (λ i. kept.each i ++ is i ∷ []);
-      within = ap (list_all (is_within new)) made ∙ all-append (is_within new) places (p ∷ []) kept.within (and_from (is_within new p) true in_new refl);
+      within = ap (list_all (is_within new)) made ∙ each_joined (is_within new) places (p ∷ []) kept.within (and_from (is_within new p) true in_new refl);
     }
 
 -- ---- loops over a list

@@ -1,9 +1,10 @@
 -- Patterns and expressions that are lists: their terms, and their renaming.
-use Rattle.std.proofs.Common.{◌≡◌, ◌<◌, ◌+◌, ℕ, Bool, true, false, List, [], ◌∷◌, ◌++◌, length, get_or, drop, map, refl, sym, ap, ◌∙◌}
+use Rattle.std.proofs.Common.{◌≡◌, ◌<◌, ◌+◌, ℕ, Bool, true, List, [], ◌∷◌, ◌++◌, length, get_or, drop, map, refl, sym, ap, ◌∙◌}
 use Rattle.std.specs.Prelude.{◌&&◌}
 use Rattle.std.specs.List.{list_all}
 use Rattle.std.proofs.lemmas.Bool.{and_parts, and_from}
 use Rattle.std.specs.Global.{Vec, Box}
+use Rattle.std.proofs.Math.Bool.{and-true, and_assoc}
 use Rattle.algebra.specs.declared.expression.TwoOperator.{TwoOperator}
 use Rattle.algebra.specs.declared.expression.Expression.{Expression as KeptExpression}
 use Rattle.algebra.specs.declared.expression.Expression.TheVariants as kept_expression
@@ -18,22 +19,14 @@ use Rattle.meaning_laws.specs.Renaming.{renamed_expression, renamed_plan, expres
 use Rattle.numbering.specs.Parts.{part_known}
 use Rattle.store.proofs.Loops.{drop_next}
 
-and_true : (b : Bool) → b ≡ (b && true)
-and_true true = refl
-and_true false = refl
-
-and_assoc : (a b c : Bool) → ((a && b) && c) ≡ (a && (b && c))
-and_assoc true b c = refl
-and_assoc false b c = refl
-
 module _ {A : Type 0} (k : A → Bool) where
   one_known : (before : Plan A) (l : Link A) (p : Plan A) → plan_known k (linked before l p) ≡ (plan_known k before && part_known k (l, p))
-  one_known before link.Join p = ap (λ b. plan_known k before && b) (and_true (plan_known k p))
+  one_known before link.Join p = ap (λ b. plan_known k before && b) (sym (and-true (plan_known k p)))
   one_known before (link.LeftJoin es) p = refl
-  one_known before link.Minus p = ap (λ b. plan_known k before && b) (and_true (plan_known k p))
+  one_known before link.Minus p = ap (λ b. plan_known k before && b) (sym (and-true (plan_known k p)))
 
   pub linked_known : (before : Plan A) (parts : List (Link A × Plan A)) → plan_known k (linked_all before parts) ≡ (plan_known k before && list_all (part_known k) parts)
-  linked_known before [] = and_true (plan_known k before)
+  linked_known before [] = sym (and-true (plan_known k before))
   linked_known before (p ∷ ps) =
       linked_known (linked before p.0 p.1) ps ∙ ap (λ b. b && list_all (part_known k) ps) (one_known before p.0 p.1)
       ∙ and_assoc (plan_known k before) (part_known k p) (list_all (part_known k) ps)
@@ -43,7 +36,7 @@ module _ {A : Type 0} (k : A → Bool) where
   filtered_known (e ∷ es) p = refl
 
   united_with_known : (p : Plan A) (ps : List (Plan A)) → plan_known k (united_with p ps) ≡ (plan_known k p && list_all (plan_known k) ps)
-  united_with_known p [] = and_true (plan_known k p)
+  united_with_known p [] = sym (and-true (plan_known k p))
   united_with_known p (q ∷ qs) = united_with_known (Union p q) qs ∙ and_assoc (plan_known k p) (plan_known k q) (list_all (plan_known k) qs)
 
   pub united_known : (ps : List (Plan A)) → plan_known k (united ps) ≡ list_all (plan_known k) ps
@@ -51,7 +44,7 @@ module _ {A : Type 0} (k : A → Bool) where
   united_known (p ∷ ps) = united_with_known p ps
 
   pub chained_known : (e : Expression A) (steps : List (TwoOperator × Expression A)) → expression_known k (chained e steps) ≡ (expression_known k e && list_all (λ (s : TwoOperator × Expression A). expression_known k s.1) steps)
-  chained_known e [] = and_true (expression_known k e)
+  chained_known e [] = sym (and-true (expression_known k e))
   chained_known e (s ∷ ss) = chained_known (Two s.0 e s.1) ss ∙ and_assoc (expression_known k e) (expression_known k s.1) (list_all (λ (s : TwoOperator × Expression A). expression_known k s.1) ss)
 
   -- what is known of a group, of a union and of a chain

@@ -30,19 +30,20 @@ fn terms_of(alloc: Global, block: &Block) -> Result<Vec<Term>, AllocError>
 }
 
 /// A base and a block at numbers, by the dictionary of the terms of the base and of the block's accepted requests. The base's terms have
-/// their numbers from the sort that makes the dictionary, and the base is kept in the orders that the block can use. An error comes only
-/// where memory runs out.
+/// their numbers from the sort that makes the dictionary, and the base is kept in the orders that the block can use. A request at terms is
+/// let go as soon as it has its numbers. An error comes only where memory runs out.
 pub fn number<H: Hands>(
     hands: &H,
     alloc: Global,
     dataset: &DataSet,
-    block: &Block,
+    block: Block,
 ) -> Result<Numbered, AllocError>
     requires { H.Ready }
-    ensures { IfOk result (λ n. IsNumbered dataset.now block.now n.base n.block.items) }
+    ensures { IfOk result (λ n. IsNumbered dataset.now block n.base n.block.items) }
 {
-    let orders = orders_for(alloc, block)?;
-    let base = Base::new(hands, alloc, dataset, terms_of(alloc, block)?, &orders)?;
-    let block = number_requests(alloc, base.terms(), block.as_slice())?;
+    let orders = orders_for(alloc, &block)?;
+    let terms = terms_of(alloc, &block)?;
+    let base = Base::new(hands, alloc, dataset, terms, &orders)?;
+    let block = number_requests(alloc, base.terms(), block.into_vec())?;
     Ok(Numbered { base, block })
 }

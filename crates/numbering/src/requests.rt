@@ -63,7 +63,7 @@ fn number_templates(
     ensures known { IfOk result (λ list. list_all (template_known (is_known dict.now)) list.items
         ≡ true) }
 {
-    let mut list = Vec::new(alloc);
+    let mut list = Vec::with_capacity(alloc, templates.len())?;
     for template in templates {
         list.push(number_template(dict, template))?;
     }
@@ -184,21 +184,21 @@ fn number_request(alloc: Global, dict: &Dict, request: &Checked) -> Result<Reque
     }
 }
 
-/// The numbers of requests whose terms the dictionary holds.
+/// The numbers of requests whose terms the dictionary holds. A request is let go as soon as it has its numbers.
 pub(crate) fn number_requests(
     alloc: Global,
     dict: &Dict,
-    requests: &[Checked],
+    requests: Vec<Checked>,
 ) -> Result<Vec<Request<Id>>, AllocError>
-    requires { list_all (request_known (is_held dict.now)) requests.now ≡ true }
+    requires { list_all (request_known (is_held dict.now)) requests.items ≡ true }
     ensures renamed { IfOk result (λ list. map (renamed_request (term_of dict.now)) list.items
-        ≡ requests.now) }
+        ≡ requests.items) }
     ensures known { IfOk result (λ list. list_all (request_known (is_known dict.now)) list.items
         ≡ true) }
 {
     let mut list = Vec::new(alloc);
     for request in requests {
-        list.push(number_request(alloc, dict, request)?)?;
+        list.push(number_request(alloc, dict, &request)?)?;
     }
     Ok(list)
 }

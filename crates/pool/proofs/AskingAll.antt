@@ -7,7 +7,7 @@ use Rattle.reads.specs.Asking.{AsksAll}
 use Rattle.reads.specs.declared.note.Note.{Note}
 use Rattle.reads.specs.declared.source.Stop.{Stop}
 use Rattle.reads.specs.declared.source.Stop.TheVariants.{Memory}
-use Rattle.reads.proofs.Asking.{Went, went_nowhere, went_on, went_through, went_until}
+use Rattle.reads.proofs.Asking.{Went, went_on, went_through, went_until}
 use Rattle.block_machine.specs.declared.state.Event.{Event}
 use Rattle.block_machine.specs.declared.state.Event.TheVariants.{Read as ReadOf}
 use Rattle.block_machine.specs.declared.state.Status.{Status}
@@ -88,10 +88,6 @@ pub one_less : {A : Type 0} (xs ys : List A) → 0 < length xs → ys ≡ drop 1
 one_less [] ys some rest = absurd (omega (arith, some))
 one_less (x ∷ xs) ys some rest = omega (arith, ap length rest)
 
-pub no_items : {A : Type 0} (xs : List A) → length xs ≡ 0 → xs ≡ []
-no_items [] none = refl
-no_items (x ∷ xs) none = absurd (omega (arith, none))
-
 pub taken_first : {A : Type 0} (xs ys : List A) (x : A) → 0 < length xs → x ≡ slice_index_or xs 0 x → ys ≡ take 0 xs ++ drop (0 + 1) xs → xs ≡ x ∷ ys
 taken_first [] ys x some is rest = absurd (omega (arith, some))
 taken_first (z ∷ zs) ys x some is rest = sym (λ t. is t ∷ rest t)
@@ -105,9 +101,6 @@ pub record Along {E : Type 0} (a : Asker) (made : Result Bool E) (old : Viewed) 
   pub turn : InTurn mid (reading a.place a.incarnation left) replies made a.pass
 
 module _ {E : Type 0} (a : Asker) (made : Result Bool E) where
-  pub along_first : (old : Viewed) (reads : List Read) (replies : List Reply) (notes : List Note) → InTurn old (reading a.place a.incarnation reads) replies made a.pass → Along a made old reads reads replies notes notes
-  along_first old reads replies notes h = record { mid = old; went = went_nowhere (record a { pass = old }) reads notes notes refl; turn = h }
-
   module _ (old : Viewed) (reads left others : List Read) (r : Read) (is : left ≡ r ∷ others) (replies later : List Reply) (reply : Reply) (are : replies ≡ reply ∷ later) (notes ns : List Note)
       (along : Along a made old reads left replies notes ns) where
     turn_is : InTurn along.mid (reading a.place a.incarnation (r ∷ others)) (reply ∷ later) made a.pass

@@ -1,5 +1,5 @@
 -- A pass that made a call is still for its duty.
-use Rattle.std.proofs.Common.{◌≡◌, ◌<◌, ◌≤◌, ℕ, List, [], ◌∷◌, ◌++◌, ◌+◌, length, length-append, take, drop, All, Bool, IfOk, Option, Some, ◌⊎◌, inl, inr, Result, Ok, Err, refl, sym, ap, ◌∙◌, subst, arith}
+use Rattle.std.proofs.Common.{◌≡◌, ◌<◌, ◌≤◌, ℕ, List, [], ◌∷◌, ◌++◌, ◌+◌, length, length-append, take, drop, All, Bool, Option, Some, ◌⊎◌, inl, inr, Result, Ok, Err, refl, sym, ap, ◌∙◌, subst, arith}
 use Rattle.std.proofs.lemmas.List.{take_all}
 use Rattle.std.proofs.lemmas.List.Elements.{All-append, All-take, All-drop}
 use Rattle.datasets.specs.declared.id.Id.{Id}
@@ -42,11 +42,6 @@ still_for d old new event (Err e) h made = seen_for d old new h made.watches.see
 pub still_adds : {E : Type 0} (d : Duty) (old new : Viewed) (events : List Event) (before after : List Told) (made : Result Bool E) → IsPassFor d old
     → Adds old new events before after made → IsPassFor d new
 still_adds d old new events before after made h adds = seen_for d old new h (sees_in_turn old new events adds.replies made adds.in_turn)
-
--- a call changes of a pass only what it has seen
-pub sees_more : {E : Type 0} (old new : Viewed) (event : Event) (r : Result Told E) → Made old new event r → new ≡ record old { seen = new.seen }
-sees_more old new event (Ok reply) made = made.sees
-sees_more old new event (Err e) made = made.watches.sees
 
 -- ---- a run whose reads a pass answers
 
@@ -98,9 +93,6 @@ first_may_begin d e n all some same is h =
 pub others_may_begin : (d e : Duty) (n : ℕ) (all some : List Viewed) → e ≡ d → some ≡ drop n all → MayBegin d all → MayBegin e some
 others_may_begin d e n all some same is h =
     subst (λ (x : Duty). MayBegin x some) (sym same) (record { passes = subst (All (IsPassFor d)) (sym is) (All-drop (IsPassFor d) n all h.passes); size = h.size; short = h.short })
-
-pub at_ok : {T E : Type 0} {r : Result T E} {x : T} (P : T → Type 0) → IfOk r P → r ≡ Ok x → P x
-at_ok P h is = subst (λ s. IfOk s P) is h
 
 pub both_done : (d e f : Duty) (before first second left right all : List Viewed) → e ≡ d → f ≡ d → length first + length second ≡ length before
     → AreDone e first left → AreDone f second right → all ≡ left ++ right → AreDone d before all

@@ -4,10 +4,10 @@ use Rattle.std.specs.Prelude.{IsTrue, ◌↔◌, bytes_eq}
 use Rattle.std.specs.Char.{to_ascii_lowercase}
 use Rattle.std.specs.Cmp.Lexicographic.{bytes_decides}
 use Rattle.std.specs.Bool.{one_answer}
+use Rattle.std.proofs.lemmas.Option.{cond_some}
 use Rattle.lexer.specs.declared.token.Token.{Token}
 use Rattle.lexer.specs.declared.token.Token.TheVariants as token
 use Rattle.productions.specs.Keywords.{is_keyword, keyword_at, ReadsKeyword, keyword}
-use Rattle.productions.proofs.StepLaws.{guard_some}
 
 pub keyword_is : (r : Bool) (w k : List ℕ) → IsTrue r ↔ (map to_ascii_lowercase w ≡ map to_ascii_lowercase k) → r ≡ is_keyword w k
 keyword_is r w k h = one_answer r (is_keyword w k) h (bytes_decides (map to_ascii_lowercase w) (map to_ascii_lowercase k))
@@ -15,7 +15,7 @@ keyword_is r w k h = one_answer r (is_keyword w k) h (bytes_decides (map to_asci
 pub ruleset keywords = (keyword_is)
 
 pub keyword_found : (k : List ℕ) (ts rest : List Token) → keyword_at k ts ≡ Some rest → (w : List ℕ) × (is_keyword w k ≡ true) × (ts ≡ token.Word w ∷ rest)
-keyword_found k (token.Word w ∷ ts) rest e = let g = guard_some (is_keyword w k) ts rest e in (w, g.0, ap (λ (r : List Token). token.Word w ∷ r) g.1)
+keyword_found k (token.Word w ∷ ts) rest e = let g = cond_some (is_keyword w k) ts rest e in (w, g.0, ap (λ (r : List Token). token.Word w ∷ r) g.1)
 keyword_found k ts rest e = absurd cc
 
 -- a word is one of two keywords at most

@@ -1,4 +1,3 @@
-pub mod StepLaws
 pub mod SignLaws
 pub mod KeywordLaws
 pub mod ManyLaws

@@ -1,7 +1,8 @@
 -- Items one after another: reading them, whichever the item and the link are.
 use Rattle.std.proofs.Common.{◌≡◌, ℕ, zero, suc, ◌≤◌, ◌<◌, Bool, true, false, cond, List, [], ◌∷◌, ◌++◌, length, Option, Some, None, refl, sym, ap, ◌∙◌, subst, arith, append_assoc}
+use Rattle.std.proofs.lemmas.Option.{same_Some}
 use Rattle.iris.specs.Bracketed.{◌>>=◌}
-use Rattle.productions.proofs.StepLaws.{bind_some, some_is}
+use Rattle.iris.proofs.Options.{bind_some}
 use Rattle.lexer.specs.declared.token.Token.{Token}
 use Rattle.productions.specs.Many.{Many, last, next, many_from, many}
 
@@ -61,22 +62,6 @@ module _ {A : Type 0} (item : List Token → Option (A × List Token)) (link : L
   no_front None = refl
   no_front (Some x) = refl
 
-  -- reading many takes a token or more
-  pub many_takes : Consumes → (n : ℕ) (ts : List Token) (x : List A × List Token) → many_from item link n ts ≡ Some x → length x.1 < length ts
-  many_takes c zero ts x e = absurd cc
-  many_takes c (suc n) ts x e =
-      let y = bind_some (item ts) (λ x. go_on n x (link x.1).0) x e in
-      let t = c.item_takes ts y.0 y.1 in
-      let l = c.link_takes y.0.1 in
-      elim (link y.0.1).0 as (λ b. go_on n y.0 b ≡ Some x → length x.1 < length ts) [
-        | true ↦ λ h.
-            let xs = bind_some (many_from item link n (link y.0.1).1) (λ xs. Some (y.0.0 ∷ xs.0, xs.1)) x h in
-            let m = many_takes c n (link y.0.1).1 xs.0 xs.1 in
-            let same : length xs.0.1 ≡ length x.1 = ap (λ (p : List A × List Token). length p.1) (some_is (y.0.0 ∷ xs.0.0, xs.0.1) x xs.2) in
-            omega arith
-        | false ↦ λ h. let same : length (link y.0.1).1 ≡ length x.1 = ap (λ (p : List A × List Token). length p.1) (some_is (y.0.0 ∷ [], (link y.0.1).1) x h) in omega arith
-      ] y.2
-
   -- what is left to read, and what was read
   abbrev pub so_far : Bool → List A → List Token → Option (List A × List Token)
   so_far goes_on front ts = cond goes_on (with_front front (many item link ts)) (Some (front, ts))
@@ -107,8 +92,8 @@ module _ {A : Type 0} (item : List Token → Option (A × List Token)) (link : L
       elim (link y.0.1).0 as (λ b. Link y.0.1 b (link y.0.1).1 → go_on n y.0 b ≡ Some x → Many Item Link ts x.0 x.1) [
         | true ↦ λ l h.
             let xs = bind_some (many_from item link n (link y.0.1).1) (λ xs. Some (y.0.0 ∷ xs.0, xs.1)) x h in
-            subst (λ (p : List A × List Token). Many Item Link ts p.0 p.1) (some_is (y.0.0 ∷ xs.0.0, xs.0.1) x xs.2) (next i l (many_found s n (link y.0.1).1 xs.0 xs.1))
-        | false ↦ λ l h. subst (λ (p : List A × List Token). Many Item Link ts p.0 p.1) (some_is (y.0.0 ∷ [], (link y.0.1).1) x h) (last i l)
+            subst (λ (p : List A × List Token). Many Item Link ts p.0 p.1) (same_Some (y.0.0 ∷ xs.0.0, xs.0.1) x xs.2) (next i l (many_found s n (link y.0.1).1 xs.0 xs.1))
+        | false ↦ λ l h. subst (λ (p : List A × List Token). Many Item Link ts p.0 p.1) (same_Some (y.0.0 ∷ [], (link y.0.1).1) x h) (last i l)
       ] (s.link_found y.0.1) y.2
 
   -- where a list may stop, an item may stop, and no next one begins

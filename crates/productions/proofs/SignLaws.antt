@@ -1,12 +1,12 @@
 -- What follows a sign, and whether there is one.
 use Rattle.std.proofs.Common.{◌≡◌, ℕ, zero, suc, true, cond, eqb, List, [], ◌∷◌, Option, Some, None, refl, sym, ap, ◌∙◌}
 use Rattle.std.proofs.lemmas.Bool.{eqb-true}
+use Rattle.std.proofs.lemmas.Option.{same_Some, cond_some}
 use Rattle.lexer.specs.declared.token.Token.{Token}
 use Rattle.lexer.specs.declared.token.Token.TheVariants as token
 use Rattle.lexer.specs.declared.token.Sign.{Sign}
 use Rattle.lexer.specs.declared.token.Sign.TheVariants as signs
 use Rattle.productions.specs.Signs.{sign_number, is_sign, sign_at}
-use Rattle.productions.proofs.StepLaws.{guard_some, some_is}
 
 nth : List Sign → ℕ → Option Sign
 nth [] n = None
@@ -40,29 +40,7 @@ number_again signs.Minus = refl
 number_again signs.Star = refl
 
 same_sign : (s t : Sign) → eqb (sign_number s) (sign_number t) ≡ true → s ≡ t
-same_sign s t e = some_is s t (sym (number_again s) ∙ ap sign_of_number (eqb-true (sign_number s) (sign_number t) e) ∙ number_again t)
-
-number_is : (s : Sign) → eqb (sign_number s) (sign_number s) ≡ true
-number_is signs.OpenBrace = refl
-number_is signs.CloseBrace = refl
-number_is signs.OpenParen = refl
-number_is signs.CloseParen = refl
-number_is signs.Dot = refl
-number_is signs.Semicolon = refl
-number_is signs.Comma = refl
-number_is signs.Carets = refl
-number_is signs.Equal = refl
-number_is signs.NotEqual = refl
-number_is signs.Less = refl
-number_is signs.Greater = refl
-number_is signs.LessEqual = refl
-number_is signs.GreaterEqual = refl
-number_is signs.Ampersands = refl
-number_is signs.Bars = refl
-number_is signs.Bang = refl
-number_is signs.Plus = refl
-number_is signs.Minus = refl
-number_is signs.Star = refl
+same_sign s t e = same_Some s t (sym (number_again s) ∙ ap sign_of_number (eqb-true (sign_number s) (sign_number t) e) ∙ number_again t)
 
 pub is_sign_found : (s : Sign) (t : Token) → is_sign s t ≡ true → t ≡ token.Sign s
 is_sign_found s (token.Sign t) e = ap token.Sign (same_sign t s e)
@@ -71,5 +49,5 @@ is_sign_found s t e = absurd cc
 pub sign_found : (s : Sign) (ts rest : List Token) → sign_at s ts ≡ Some rest → ts ≡ token.Sign s ∷ rest
 sign_found s [] rest e = absurd cc
 sign_found s (t ∷ ts) rest e =
-    let g = guard_some (is_sign s t) ts rest e in
+    let g = cond_some (is_sign s t) ts rest e in
     ap (λ (u : Token). u ∷ ts) (is_sign_found s t g.0) ∙ ap (λ (r : List Token). token.Sign s ∷ r) g.1

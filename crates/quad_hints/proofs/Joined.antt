@@ -1,28 +1,21 @@
 -- Joining the last two of the runs keeps what any test finds.
 use Rattle.std.specs.Prelude.{Bool, ◌||◌}
-use Rattle.std.proofs.Common.{◌≡◌, ℕ, ◌+◌, true, false, suc, zero, List, [], ◌∷◌, ◌++◌, refl, sym, ap, ◌∙◌, length, take, set, get_or, arith}
+use Rattle.std.proofs.Common.{◌≡◌, ℕ, ◌+◌, suc, zero, List, [], ◌∷◌, ◌++◌, sym, ap, ◌∙◌, length, take, set, get_or, arith}
 use Rattle.std.proofs.lemmas.List.Folds.{list_any-append}
 use Rattle.std.specs.List.{list_any}
+use Rattle.std.proofs.Math.Bool.{or-false, or_assoc}
 use Rattle.quad_hints.specs.declared.hint.Hint.{Hint}
 use Rattle.quad_hints.specs.declared.run.Run.{Run}
 use Rattle.quad_hints.specs.HintList.{hints_in}
 use Rattle.quad_hints.specs.Hints.{all_entries}
-
-or_assoc : (a b c : Bool) → ((a || b) || c) ≡ (a || (b || c))
-or_assoc true b c = refl
-or_assoc false b c = refl
-
-or_false : (a : Bool) → (a || false) ≡ a
-or_false true = refl
-or_false false = refl
 
 pub joined_last : (p : Hint → Bool) (r d : Run) (xs : List Run) (n : ℕ) → length xs ≡ n + 2 → list_any p (hints_in r.hints) ≡ (list_any p (hints_in (get_or xs n d).hints) || list_any p (hints_in (get_or xs (n + 1) d).hints))
     → list_any p (all_entries (take (n + 1) (set xs n r))) ≡ list_any p (all_entries xs)
 joined_last p r d [] n e h = absurd (omega arith)
 joined_last p r d (a ∷ []) n e h = absurd (omega arith)
 joined_last p r d (a ∷ b ∷ []) zero e h =
-    list_any-append p (hints_in r.hints) [] ∙ or_false _ ∙ h
-    ∙ sym (list_any-append p (hints_in a.hints) ((hints_in b.hints) ++ []) ∙ ap (λ z. list_any p (hints_in a.hints) || z) (list_any-append p (hints_in b.hints) [] ∙ or_false _))
+    list_any-append p (hints_in r.hints) [] ∙ or-false _ ∙ h
+    ∙ sym (list_any-append p (hints_in a.hints) ((hints_in b.hints) ++ []) ∙ ap (λ z. list_any p (hints_in a.hints) || z) (list_any-append p (hints_in b.hints) [] ∙ or-false _))
 joined_last p r d (a ∷ b ∷ c ∷ xs) zero e h = absurd (omega arith)
 joined_last p r d (a ∷ b ∷ xs) (suc n) e h =
     let count : suc n + 1 ≡ suc (n + 1) = omega arith in
@@ -32,7 +25,7 @@ joined_last p r d (a ∷ b ∷ xs) (suc n) e h =
     ∙ sym (list_any-append p (hints_in a.hints) (all_entries (b ∷ xs)))
 
 all-one_more : (p : Hint → Bool) (xs : List Run) (r : Run) → list_any p (all_entries (xs ++ r ∷ [])) ≡ (list_any p (all_entries xs) || list_any p (hints_in r.hints))
-all-one_more p [] r = list_any-append p (hints_in r.hints) [] ∙ or_false _
+all-one_more p [] r = list_any-append p (hints_in r.hints) [] ∙ or-false _
 all-one_more p (x ∷ xs) r =
     list_any-append p (hints_in x.hints) (all_entries (xs ++ r ∷ [])) ∙ ap (λ z. list_any p (hints_in x.hints) || z) (all-one_more p xs r)
     ∙ sym (or_assoc (list_any p (hints_in x.hints)) _ _) ∙ ap (λ z. z || list_any p (hints_in r.hints)) (sym (list_any-append p (hints_in x.hints) (all_entries xs)))
@@ -47,7 +40,3 @@ pub popped : (p : Hint → Bool) (r d : Run) (xs ys : List Run) (n k : ℕ) → 
     → list_any p (hints_in r.hints) ≡ (list_any p (hints_in (get_or xs n d).hints) || list_any p (hints_in (get_or xs (n + 1) d).hints)) → list_any p (all_entries ys) ≡ list_any p (all_entries xs)
 popped p r d xs ys n k e f l h =
     ap (λ zs. list_any p (all_entries zs)) (e ∙ ap (λ j. take j (set xs n r)) f) ∙ joined_last p r d xs n l h
-
-pub either : (a b : Bool) {X : Type 0} → (a || b) ≡ true → (a ≡ true → X) → (b ≡ true → X) → X
-either true b e f g = f refl
-either false b e f g = g e

@@ -3,7 +3,7 @@ use Rattle.std.specs.Prelude.{Bool, true, false, cond, ◌&&◌, ◌||◌, ◌==
 use Rattle.std.specs.List.{list_any}
 use Rattle.std.proofs.Common.{◌≡◌, ◌+◌, ◌<◌, ℕ, List, [], ◌∷◌, ◌++◌, refl, sym, ap, ◌∙◌, length, drop, get_or}
 use Rattle.std.proofs.lemmas.List.{map-append, append_assoc, drop_more}
-use Rattle.std.proofs.lemmas.Bool.{false≢true}
+use Rattle.std.proofs.lemmas.Bool.{or_right, or_left}
 use Rattle.std.proofs.lemmas.List.Elements.{filter-append}
 use Rattle.std.proofs.lemmas.List.Folds.{list_any-append}
 use Rattle.datasets.specs.declared.id.Id.{Id}
@@ -54,14 +54,6 @@ pub named_any : (p : QuadPattern Id) (j : ℕ) (hs : List Hint) → list_any (λ
 named_any p j [] = refl
 named_any p j (h ∷ hs) =
     head_named j (matches id_order p h.quad) h (kept_by p hs) ∙ ap (λ b. (matches id_order p h.quad && (h.request == j)) || b) (named_any p j hs)
-
-or_right : (a b : Bool) → b ≡ true → (a || b) ≡ true
-or_right true b e = refl
-or_right false b e = e
-
-or_left : (a b : Bool) → a ≡ true → (a || b) ≡ true
-or_left true b e = refl
-or_left false b e = absurd (false≢true e)
 
 -- what was named stays so where more is named
 pub names_kept : (j : ℕ) (found next more : List ℕ) → next ≡ found ++ more → list_any (λ r. r == j) found ≡ true → list_any (λ r. r == j) next ≡ true

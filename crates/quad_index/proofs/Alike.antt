@@ -1,8 +1,8 @@
 -- What is found in another order, sorted back, is what is found in the set.
-use Rattle.std.specs.Prelude.{Bool, ◌&&◌, filter, map}
+use Rattle.std.specs.Prelude.{Bool, ◌&&◌, filter}
 use Rattle.std.specs.List.{list_any, Contains}
-use Rattle.std.proofs.Common.{◌≡◌, ◌+◌, ◌*◌, ◌^◌, ◌<◌, ◌≤◌, ℕ, zero, suc, cond, List, [], ◌∷◌, ◌++◌, sym, subst, ap, ◌∙◌, length, take, get_or, arith}
-use Rattle.std.proofs.lemmas.List.{map-append, take_more, get_or-map, length-map}
+use Rattle.std.proofs.Common.{◌≡◌, ◌+◌, ◌*◌, ◌^◌, ◌<◌, ◌≤◌, ℕ, zero, suc, cond, List, [], ◌∷◌, sym, subst, ap, ◌∙◌, length, get_or, arith}
+use Rattle.std.proofs.lemmas.List.{get_or-map, length-map}
 use Rattle.std.proofs.lemmas.List.Sums.{length-filter}
 use Rattle.std.proofs.lemmas.List.Sorted.{sum_by-IsPermutation}
 use Rattle.std.specs.List.Sorted.{IsPermutation}
@@ -20,12 +20,6 @@ use Rattle.datasets.specs.declared.id.Id.{Id}
 use Rattle.datasets.specs.declared.quad.Quad.{Quad}
 use Rattle.datasets.specs.Dataset.{quad_order}
 use Rattle.datasets.specs.Id.{id_order, id_total, id_exact, quad_total, quad_exact}
-
--- one more element, and what it stands for
-pub one_more : {A B : Type 0} (f : A → B) (done after : List A) (xs : List B) (i : ℕ) (a : A) (x : B) → i < length xs → x ≡ get_or xs i x → after ≡ done ++ a ∷ [] → f a ≡ x → map f done ≡ take i xs
-    → map f after ≡ take (i + 1) xs
-one_more f done after xs i a x lt is made e so_far =
-    ap (map f) made ∙ map-append f done (a ∷ []) ∙ (λ t. so_far t ++ e t ∷ []) ∙ ap (λ y. take i xs ++ y ∷ []) is ∙ sym (take_more xs i x lt)
 
 -- lists that no test tells apart, of which one is a set
 pub sorted_back : (p : Quad Id → Bool) (quads others : List (Quad Id)) → IsStrictlySortedBy (quad_order id_order) quads → ((t : Quad Id → Bool) → list_any t others ≡ list_any t quads)
@@ -53,8 +47,3 @@ kept_first (o ∷ os) n a le h (suc k, lt, is) =
     let count : length (arrangements_of (o ∷ os)) ≡ length (o ∷ os) = length-map (o ∷ os) (λ (x : Order). x.arrangement) in
     let inside : k < length (o ∷ os) = omega arith in
     absurd (h k o (omega arith) (sym (get_or-map (λ (x : Order). x.arrangement) (o ∷ os) k o a inside) ∙ is))
-
--- one more order, and the list of them
-pub arrangement_more : (done after : List Order) (xs : List Arrangement) (i : ℕ) (o : Order) (x : Arrangement) → i < length xs → x ≡ get_or xs i x → after ≡ done ++ o ∷ [] → o.arrangement ≡ x → arrangements_of done ≡ take i xs
-    → arrangements_of after ≡ take (i + 1) xs
-arrangement_more done after xs i o x lt is made e so_far = one_more (λ (y : Order). y.arrangement) done after xs i o x lt is made e so_far

@@ -3,7 +3,6 @@ use Rattle.std.specs.Prelude.{Bool, true, false, ◌&&◌, Option, Some, None, s
 use Rattle.std.proofs.Common.{◌≡◌, ◌<◌, ℕ, zero, suc, List, [], ◌∷◌, refl, sym, ap, ◌∙◌, length, get_or, arith}
 use Rattle.std.proofs.lemmas.Bool.{false≢true, and_parts, and_from}
 use Rattle.std.proofs.lemmas.Nat.{mod_below}
-use Rattle.std.specs.Option.{is_none}
 use Rattle.std.specs.Cmp.Lexicographic.{options_total}
 use Rattle.sets.proofs.SetLaws.{exact_by}
 use Rattle.datasets.specs.declared.id.Id.{Id}
@@ -14,7 +13,7 @@ use Rattle.datasets.specs.declared.read.GraphPlace.TheVariants.{Any, Only}
 use Rattle.datasets.specs.declared.read.QuadPattern.{QuadPattern}
 use Rattle.datasets.specs.Dataset.{matches, free_or, in_place}
 use Rattle.datasets.specs.Id.{id_order, id_total, id_exact, option_exact}
-use Rattle.quad_index.specs.Seen.{slot_of, is_seen, is_graph_seen, lets, lets_graph, passes, names_no_term, binds_no_term}
+use Rattle.quad_index.specs.Seen.{slot_of, is_seen, is_graph_seen, lets, lets_graph, passes}
 
 -- ---- slots
 
@@ -75,17 +74,3 @@ passes_more a b c d a' b' c' d' f g h k p e =
     let third = and_parts (lets c p.object) (lets_graph d p.graph) second.1 in
     and_from _ _ (lets_more a a' f p.subject first.0) (and_from _ _ (lets_more b b' g p.predicate second.0)
     (and_from _ _ (lets_more c c' h p.object third.0) (lets_graph_more d d' k p.graph third.1)))
-
--- ---- no slots
-
-lets_none : (place : Option Id) → lets [] place ≡ is_none place
-lets_none None = refl
-lets_none (Some x) = refl
-
-lets_graph_none : (place : GraphPlace Id) → lets_graph [] place ≡ names_no_term place
-lets_graph_none Any = refl
-lets_graph_none (Only None) = refl
-lets_graph_none (Only (Some x)) = refl
-
-pub passes_none : (p : QuadPattern Id) → passes [] [] [] [] p ≡ binds_no_term p
-passes_none p = λ i. lets_none p.subject i && (lets_none p.predicate i && (lets_none p.object i && lets_graph_none p.graph i))

@@ -1,10 +1,8 @@
 -- Binary search in sorted entries finds what a filter keeps.
 use Rattle.std.specs.Prelude.{Bool, filter, slice_range}
-use Rattle.std.proofs.Common.{◌≡◌, ◌<◌, ◌≤◌, ◌+◌, ◌-◌, ℕ, true, false, cond, List, [], ◌∷◌, inl, inr, refl, sym, ap, ◌∙◌, take, drop, length, get_or, arith}
-use Rattle.std.proofs.lemmas.Bool.{false≢true, cases_lt}
+use Rattle.std.proofs.Common.{◌≡◌, ◌<◌, ◌≤◌, ◌+◌, ◌-◌, ℕ, true, false, List, [], ◌∷◌, inl, inr, refl, sym, ap, ◌∙◌, length, get_or, arith}
+use Rattle.std.proofs.lemmas.Bool.{false≢true, cases_lt, false_from_ne_true}
 use Rattle.std.proofs.lemmas.List.{get_or_default}
-use Rattle.std.proofs.Common.{suc, zero}
-use Rattle.std.proofs.Math.Seq.{take-nil, drop-nil}
 use Rattle.std.proofs.lemmas.List.Sorted.{searchable_from_sorted, IsPartitionedBy-ltb}
 use Rattle.std.specs.List.{AllWithin}
 use Rattle.std.specs.List.Sorted.{IsSortedByKey, IsSortedBy, IsPartitionedBy}
@@ -15,6 +13,7 @@ use Rattle.std.specs.Cmp.{IsTotalOrder, then_total, on_total}
 use Rattle.std.specs.Cmp.Lexicographic.{options_total}
 use Rattle.datasets.specs.Id.{id_total}
 use Rattle.std.specs.Cmp.Derive.{point_total}
+use Rattle.sets.proofs.Filters.{kept_middle}
 use lib.Dec.{ltb}
 use Rattle.quad_index.specs.declared.key.Key.{Key}
 use Rattle.quad_index.specs.declared.key.Depth.{Depth}
@@ -67,11 +66,6 @@ less_at Two a b e = less_two (place_order a.first b.first) (place_order a.second
 less_at Three a b e = less_three (place_order a.first b.first) (place_order a.second b.second) (place_order a.third b.third) (place_order a.fourth b.fourth) e
 less_at Four a b e = e
 
-is_less : (r : Ordering) → is_lt r ≡ true → r ≡ Less
-is_less Less e = refl
-is_less Equal e = absurd (false≢true e)
-is_less Greater e = absurd (false≢true e)
-
 not_less : (r s : Ordering) → (r ≡ Less → s ≡ Less) → is_lt s ≡ false → is_lt r ≡ false
 not_less Less s f e = absurd (false≢true (sym e ∙ ap is_lt (f refl)))
 not_less Equal s f e = refl
@@ -104,46 +98,9 @@ pub front_more : {E : Type 0} (p : E → Bool) (xs : List E) (m : ℕ) (x : E) �
 front_more p xs m x parts lt is h k e low high =
     parts k m e (omega arith) lt (ap p (get_or_default xs m e x lt ∙ sym is) ∙ h)
 
-not_passing : (b : Bool) → (b ≡ true → ⊥) → b ≡ false
-not_passing true f = absurd (f refl)
-not_passing false f = refl
-
 pub back_more : {E : Type 0} (p : E → Bool) (xs : List E) (m : ℕ) (x : E) → IsPartitionedBy p xs → m < length xs → x ≡ get_or xs m x → p x ≡ false → AllWithin (λ e. p e ≡ false) xs m (length xs)
 back_more p xs m x parts lt is h k e low high =
-    not_passing _ (λ t. false≢true (sym h ∙ ap p (is ∙ get_or_default xs m x e lt) ∙ parts m k e low high t))
-
--- ---- what a filter keeps of a list in three parts
-
-module _ {E : Type 0} (t : E → Bool) where
-  keeps : (b : Bool) (x : E) (xs ys : List E) → b ≡ true → xs ≡ ys → cond b (x ∷ xs) xs ≡ x ∷ ys
-  keeps true x xs ys e f = ap (λ zs. x ∷ zs) f
-  keeps false x xs ys e f = absurd (false≢true e)
-
-  leaves : (b : Bool) (x : E) (xs ys : List E) → b ≡ false → xs ≡ ys → cond b (x ∷ xs) xs ≡ ys
-  leaves true x xs ys e f = absurd (false≢true (sym e))
-  leaves false x xs ys e f = f
-
-  kept_all : (xs : List E) → ((k : ℕ) (d : E) → k < length xs → t (get_or xs k d) ≡ true) → filter t xs ≡ xs
-  kept_all [] h = refl
-  kept_all (x ∷ xs) h = keeps (t x) x (filter t xs) xs (h 0 x (omega arith)) (kept_all xs (λ k d lt. h (suc k) d (omega arith)))
-
-  kept_none : (xs : List E) → ((k : ℕ) (d : E) → k < length xs → t (get_or xs k d) ≡ false) → filter t xs ≡ []
-  kept_none [] h = refl
-  kept_none (x ∷ xs) h = leaves (t x) x (filter t xs) [] (h 0 x (omega arith)) (kept_none xs (λ k d lt. h (suc k) d (omega arith)))
-
-  pub kept_middle : (xs : List E) (low high : ℕ) → low ≤ high → high ≤ length xs → AllWithin (λ e. t e ≡ false) xs 0 low → AllWithin (λ e. t e ≡ true) xs low high → AllWithin (λ e. t e ≡ false) xs high (length xs)
-      → slice_range xs low high ≡ filter t xs
-  kept_middle [] low high le lt front middle back = ap (take (high - low)) (drop-nil low) ∙ take-nil (high - low)
-  kept_middle (x ∷ xs) zero zero le lt front middle back =
-      sym (kept_none (x ∷ xs) (λ k d h. back k d (omega arith) h))
-  kept_middle (x ∷ xs) zero (suc high) le lt front middle back =
-      ap (λ n. take n (x ∷ xs)) (let e : suc high - 0 ≡ suc high = omega arith in e) ∙ sym (keeps (t x) x (filter t xs) (take high xs) (middle 0 x (omega arith) (omega arith))
-      (sym (ap (λ n. take n xs) (let e : high ≡ high - 0 = omega arith in e) ∙ kept_middle xs 0 high (omega arith) (omega arith) (λ k d l h. absurd (omega arith)) (λ k d l h. middle (suc k) d (omega arith) (omega arith)) (λ k d l h. back (suc k) d (omega arith) (omega arith)))))
-  kept_middle (x ∷ xs) (suc low) zero le lt front middle back = absurd (omega arith)
-  kept_middle (x ∷ xs) (suc low) (suc high) le lt front middle back =
-      ap (λ n. take n (drop low xs)) (let e : suc high - suc low ≡ high - low = omega arith in e)
-      ∙ kept_middle xs low high (omega arith) (omega arith) (λ k d l h. front (suc k) d (omega arith) (omega arith)) (λ k d l h. middle (suc k) d (omega arith) (omega arith)) (λ k d l h. back (suc k) d (omega arith) (omega arith))
-      ∙ sym (leaves (t x) x (filter t xs) (filter t xs) (front 0 x (omega arith) (omega arith)) refl)
+    false_from_ne_true _ (λ t. false≢true (sym h ∙ ap p (is ∙ get_or_default xs m x e lt) ∙ parts m k e low high t))
 
 -- the places found are in order: an entry at the second and before the first would be both less and greater
 less_than_all : (r : Ordering) → is_before false r ≡ true → is_before true r ≡ false → ⊥

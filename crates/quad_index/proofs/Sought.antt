@@ -1,21 +1,20 @@
 -- What a pattern matches begins as the pattern does, as far as its places are bound in an order.
 use Rattle.std.specs.List.{list_any}
-use Rattle.std.specs.Cmp.{tied_itself}
-use Rattle.std.specs.Cmp.Lexicographic.{options_total}
-use Rattle.sets.proofs.SetLaws.{exact_by}
 use Rattle.std.specs.Prelude.{Bool, filter, ◌&&◌, ◌||◌, Option, Some, None}
 use Rattle.std.proofs.Common.{◌≡◌, true, false, cond, List, [], ◌∷◌, refl, sym, ap, ◌∙◌}
 use Rattle.std.proofs.lemmas.Bool.{false≢true, and_parts, and_from}
 use Rattle.std.specs.declared.cmp.Ordering.{Ordering}
 use Rattle.std.specs.declared.cmp.Ordering.TheVariants.{Less, Equal, Greater}
-use Rattle.std.specs.Ordering.{ordering_then, is_eq, eq_by_cmp}
+use Rattle.std.specs.Ordering.{ordering_then, is_eq}
+use Rattle.std.specs.Cmp.{both_ways, Equal-is}
+use Rattle.sets.proofs.Filters.{filter_twice}
 use Rattle.datasets.specs.declared.id.Id.{Id}
 use Rattle.datasets.specs.declared.quad.Quad.{Quad}
 use Rattle.datasets.specs.declared.read.GraphPlace.{GraphPlace}
 use Rattle.datasets.specs.declared.read.GraphPlace.TheVariants.{Any, Only}
 use Rattle.datasets.specs.declared.read.QuadPattern.{QuadPattern}
-use Rattle.datasets.specs.Dataset.{quad_order, matches, free_or, in_place}
-use Rattle.datasets.specs.Id.{id_order, id_total, id_exact, quad_total, quad_exact}
+use Rattle.datasets.specs.Dataset.{matches, free_or, in_place}
+use Rattle.datasets.specs.Id.{id_order}
 use Rattle.quad_index.specs.declared.key.Key.{Key}
 use Rattle.quad_index.specs.declared.key.Bounds.{Bounds}
 use Rattle.quad_index.specs.declared.key.Arrangement.{Arrangement}
@@ -27,13 +26,8 @@ agrees : Option (Option Id) → Option Id → Bool
 agrees None k = true
 agrees (Some t) k = is_eq (place_order k t)
 
-is_equal : (r : Ordering) → is_eq r ≡ true → r ≡ Equal
-is_equal Less e = absurd (false≢true e)
-is_equal Equal e = refl
-is_equal Greater e = absurd (false≢true e)
-
 then_eq : (r s : Ordering) → is_eq r ≡ true → is_eq s ≡ true → is_eq (ordering_then r s) ≡ true
-then_eq r s e f = ap (λ x. is_eq (ordering_then x s)) (is_equal r e) ∙ f
+then_eq r s e f = ap (λ x. is_eq (ordering_then x s)) ((Equal-is r).0 e) ∙ f
 
 module _ (k : Key) where
   begins : (a b c d : Option (Option Id)) → agrees a k.first ≡ true → agrees b k.second ≡ true → agrees c k.third ≡ true → agrees d k.fourth ≡ true
@@ -155,31 +149,15 @@ module _ (p : QuadPattern Id) (q : Quad Id) where
   matched_in Gpso h e = let found = ends (key_of Gpso q) _ _ _ _ h e in of_each found.2 found.1 found.3 found.0
   matched_in Ospg h e = let found = ends (key_of Ospg q) _ _ _ _ h e in of_each found.1 found.2 found.0 found.3
 
-bool_same : (b c : Bool) → (b ≡ true → c ≡ true) → (c ≡ true → b ≡ true) → b ≡ c
-bool_same true true f g = refl
-bool_same true false f g = sym (f refl)
-bool_same false true f g = g refl
-bool_same false false f g = refl
-
 -- what matches is what begins as the pattern does, in the pattern's order
 pub exact_part : (a : Arrangement) (p : QuadPattern Id) (quads : List (Quad Id)) → a ≡ arrangement_for p → filter (matches id_order p) quads ≡ filter (λ q. is_sought (bounds_of a p) (key_of a q)) quads
 exact_part a p quads e =
     let whole : gapless_in (bounds_of a p) ≡ true = ap (λ b. gapless_in (bounds_of b p)) e ∙ no_gap p.subject p.predicate p.object p.graph in
-    λ i. filter (λ q. bool_same _ _ (sought a p q) (matched_in p q a whole) i) quads
-
--- a filter that passes only what another passes
-passing : {A : Type 0} (p : A → Bool) (b c : Bool) (x : A) (ts xs : List A) → p x ≡ c → (c ≡ true → b ≡ true) → filter p ts ≡ filter p xs → filter p (cond b (x ∷ ts) ts) ≡ cond c (x ∷ filter p xs) (filter p xs)
-passing p true c x ts xs e f h = (λ i. cond (e i) (x ∷ h i) (h i))
-passing p false true x ts xs e f h = absurd (false≢true (f refl))
-passing p false false x ts xs e f h = h
-
-filter_in : {A : Type 0} (p t : A → Bool) → ((x : A) → p x ≡ true → t x ≡ true) → (xs : List A) → filter p (filter t xs) ≡ filter p xs
-filter_in p t h [] = refl
-filter_in p t h (x ∷ xs) = passing p (t x) (p x) x (filter t xs) xs refl (h x) (filter_in p t h xs)
+    λ i. filter (λ q. both_ways _ _ (sought a p q) (matched_in p q a whole) i) quads
 
 pub part_has_all : {E : Type 0} (quad : E → Quad Id) (a : Arrangement) (pattern : QuadPattern Id) (p : E → Bool) → ((e : E) → p e ≡ true → matches id_order pattern (quad e) ≡ true) → (xs : List E)
     → filter p (filter (λ e. is_sought (bounds_of a pattern) (key_of a (quad e))) xs) ≡ filter p xs
-part_has_all quad a pattern p h xs = filter_in p _ (λ e f. sought a pattern (quad e) (h e f)) xs
+part_has_all quad a pattern p h xs = filter_twice p _ (λ e f. sought a pattern (quad e) (h e f)) xs
 
 -- ---- tests that a filter's parts share
 
@@ -193,16 +171,3 @@ any-kept p (x ∷ xs) = kept_head p (p x) x xs refl (any-kept p xs)
 
 pub any_by_part : {A : Type 0} (p : A → Bool) (xs ys : List A) → filter p xs ≡ filter p ys → list_any p xs ≡ list_any p ys
 any_by_part p xs ys e = any-kept p xs ∙ ap (list_any p) e ∙ sym (any-kept p ys)
-
--- the pattern of one quad
-abbrev pub pattern_of : Quad Id → QuadPattern Id
-pattern_of q = record { subject = Some q.subject; predicate = Some q.predicate; object = Some q.object; graph = Only q.graph }
-
-itself : (q : Quad Id) → matches id_order (pattern_of q) q ≡ true
-itself q =
-    let term : (x : Id) → free_or id_order (Some x) x ≡ true = λ x. ap is_eq (tied_itself id_total x) in
-    let graph : in_place id_order (Only q.graph) q.graph ≡ true = ap is_eq (tied_itself (options_total id_total) q.graph) in
-    and_from _ _ (term q.subject) (and_from _ _ (term q.predicate) (and_from _ _ (term q.object) graph))
-
-pub tied_matches : (q e : Quad Id) → eq_by_cmp (quad_order id_order) q e ≡ true → matches id_order (pattern_of q) e ≡ true
-tied_matches q e h = ap (matches id_order (pattern_of q)) (sym (exact_by (quad_total id_total) (quad_exact id_order id_exact) q e h)) ∙ itself q

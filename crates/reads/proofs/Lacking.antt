@@ -10,8 +10,9 @@ use Rattle.std.specs.Cmp.{IsTotalOrder}
 use Rattle.std.proofs.lemmas.List.{append-nil, take_more, take_more_set, drop-drop, drop-set-lt, get_or-drop}
 use Rattle.std.proofs.lemmas.List.Elements.{filter-append}
 use Rattle.std.proofs.Math.Nat.{eq-or-lt_of_le}
+use Rattle.std.proofs.lemmas.Map.Keys.{Less-from_sorted}
 use Rattle.sets.specs.Sets.{has, without}
-use Rattle.sets.proofs.Places.{below_at, lacks}
+use Rattle.sets.proofs.Places.{lacks}
 
 -- ---- where a value would stand in a set
 
@@ -21,7 +22,7 @@ module _ {A : Type 0} {R : A → A → Ordering} (o : IsTotalOrder R) (exact : (
     where
       cases : (k ≡ i - 1) ⊎ (k < i - 1) → R (get_or xs k d) v ≡ Less
       cases (inl e) = ap (λ n. R (get_or xs n d) v) e ∙ low d (omega arith)
-      cases (inr before) = o.trans _ _ v (below_at R xs k (i - 1) d s before (omega arith)) (low d (omega arith))
+      cases (inr before) = o.trans _ _ v (Less-from_sorted R xs k (i - 1) d s before (omega arith)) (low d (omega arith))
 
   above : ((d : A) → i < length xs → R (get_or xs i d) v ≡ Greater) → (k : ℕ) (d : A) → i ≤ k → k < length xs → R (get_or xs k d) v ≡ Greater
   above high k d le h = cases (eq-or-lt_of_le le)
@@ -29,7 +30,7 @@ module _ {A : Type 0} {R : A → A → Ordering} (o : IsTotalOrder R) (exact : (
       cases : (i ≡ k) ⊎ (i < k) → R (get_or xs k d) v ≡ Greater
       cases (inl e) = ap (λ n. R (get_or xs n d) v) (sym e) ∙ high d (omega arith)
       cases (inr behind) =
-          o.antisymm (get_or xs k d) v ∙ ap ordering_reverse (o.trans v (get_or xs i d) (get_or xs k d) (o.antisymm v (get_or xs i d) ∙ ap ordering_reverse (high d (omega arith))) (below_at R xs i k d s behind h))
+          o.antisymm (get_or xs k d) v ∙ ap ordering_reverse (o.trans v (get_or xs i d) (get_or xs k d) (o.antisymm v (get_or xs i d) ∙ ap ordering_reverse (high d (omega arith))) (Less-from_sorted R xs i k d s behind h))
 
   -- it lacks what is above the member before a place, and below the one there
   pub lacks_between : ((d : A) → 0 < i → R (get_or xs (i - 1) d) v ≡ Less) → i ≤ length xs → ((d : A) → i < length xs → R (get_or xs i d) v ≡ Greater) → has R xs v ≡ false

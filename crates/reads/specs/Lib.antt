@@ -5,3 +5,4 @@ pub mod Shared
 pub mod Questions
 pub mod Tells
 pub mod Asking
+pub mod Presence

@@ -9,6 +9,7 @@ mod indexed;
 pub mod lists;
 mod near;
 mod note;
+pub mod presence;
 pub mod same;
 mod scanned;
 mod shared_items;

@@ -3,10 +3,9 @@ use Rattle.std.proofs.Common.{◌≡◌, ℕ, ◌+◌, ◌<◌, ◌≤◌, true,
 use Rattle.std.specs.Prelude.{slice_get}
 use Rattle.std.specs.List.{list_all}
 use Rattle.std.specs.Cmp.Derive.{both_true}
-use Rattle.std.proofs.lemmas.List.{take_more, map-append, length-take-le}
+use Rattle.std.proofs.lemmas.List.{take_more, map-append, length-take-le, length-map}
 use Rattle.std.proofs.lemmas.List.Folds.{list_all-append}
 use Rattle.std.proofs.lemmas.Option.{slice_get_read}
-use Rattle.meaning_laws.proofs.RenamedLists.{length-map}
 use Rattle.terms.specs.declared.term.Term.{Term}
 use Rattle.datasets.specs.declared.id.Id.{Id}
 use Rattle.meaning.specs.Run.{Request}
@@ -22,7 +21,7 @@ use Rattle.replay.specs.Following.{GoesOnBy}
 module _ (terms : List Term) (lines : List Line) (i : ℕ) (lt : i < length lines) where
   -- a journal of the first i lines has i entries
   entries : (history : List Entry) → HasLines terms history (take i lines) → length history ≡ i
-  entries history h = sym (length-map (line_of terms) history) ∙ ap length h.printed ∙ length-take-le i lines (omega (arith, lt))
+  entries history h = sym (length-map history (line_of terms)) ∙ ap length h.printed ∙ length-take-le i lines (omega (arith, lt))
 
 module _ (terms : List Term) (base : View) (block : List (Request Id)) (lines : List Line) where
   -- a book of these terms, base and block whose journal has the first n lines

@@ -1,6 +1,7 @@
 -- Where a machine may reply one thing alone.
 use Rattle.std.proofs.Common.{◌≡◌, ℕ, Bool, true, false, List, Option, Some, None, refl, sym, ap, ◌∙◌, subst}
 use Rattle.std.specs.Prelude.{◌≢◌}
+use Rattle.std.proofs.lemmas.Option.{same_Some}
 use Rattle.reads.specs.Reads.{View, Read, Answer, says}
 use Rattle.delta.specs.declared.finished.Finished.{Finished}
 use Rattle.block_machine.specs.declared.state.Status.{Status}
@@ -15,9 +16,6 @@ use Rattle.journal.specs.declared.lines.Event as told_event
 use Rattle.journal.specs.declared.lines.Event.TheVariants.{Take, Read as ReadOf, Publish, Begin, Check, Commit, GiveUp}
 use Rattle.replay.specs.Lines.{line_reply}
 use Rattle.replay.specs.Following.{whole_event, tells_pass}
-
-pub the_some : {A : Type 0} (x y : A) → Some x ≡ Some y → x ≡ y
-the_some x y e = (cc)
 
 unless_one : (o : Option Reply) (r r' : Reply) (P P' : Type 0) → (P → P' → r' ≡ r) → Unless o r P → Unless o r' P' → r' ≡ r
 unless_one (Some x) r r' P P' f h h' = h' ∙ sym h
@@ -36,13 +34,13 @@ module _ (base : View) (s : State) (w : ℕ) where
 
   -- an event that a line tells whole
   pub whole_one : (t : told_event.Event) (e : Event) → whole_event t ≡ Some e → OneAt e
-  whole_one (Take i) e h = subst OneAt (the_some _ _ h) (λ r r' a a'. take_one (status_of s.slots i) r r' a a')
+  whole_one (Take i) e h = subst OneAt (same_Some _ _ h) (λ r r' a a'. take_one (status_of s.slots i) r r' a a')
   whole_one (ReadOf i n q) e h = absurd (cc)
   whole_one (Publish i n) e h = absurd (cc)
-  whole_one (Begin i n) e h = subst OneAt (the_some _ _ h) (λ r r' a a'. unless_one (executed_refusal (status_of s.slots i) n) r r' _ _ (λ x y. y ∙ sym x) a a')
+  whole_one (Begin i n) e h = subst OneAt (same_Some _ _ h) (λ r r' a a'. unless_one (executed_refusal (status_of s.slots i) n) r r' _ _ (λ x y. y ∙ sym x) a a')
   whole_one (Check i n) e h = absurd (cc)
-  whole_one (Commit i) e h = subst OneAt (the_some _ _ h) (λ r r' a a'. a' ∙ sym a)
-  whole_one (GiveUp i n) e h = subst OneAt (the_some _ _ h) (λ r r' a a'. unless_one (execution_refusal (status_of s.slots i) n w) r r' _ _ (λ x y. y ∙ sym x) a a')
+  whole_one (Commit i) e h = subst OneAt (same_Some _ _ h) (λ r r' a a'. a' ∙ sym a)
+  whole_one (GiveUp i n) e h = subst OneAt (same_Some _ _ h) (λ r r' a a'. unless_one (execution_refusal (status_of s.slots i) n w) r r' _ _ (λ x y. y ∙ sym x) a a')
 
   -- READS
 
@@ -75,7 +73,7 @@ module _ (base : View) (s : State) (w : ℕ) where
   -- CHECKS
 
   blocked_one : (i : ℕ) (note : Noted) (r : Reply) (j : ℕ) → NoteReply base s.slots i (Some note) r → blocker s.slots i note.read ≡ Some j → r ≡ Blocked j
-  blocked_one i note (Blocked k) j h b = ap Blocked (the_some _ _ (sym h ∙ b))
+  blocked_one i note (Blocked k) j h b = ap Blocked (same_Some _ _ (sym h ∙ b))
   blocked_one i note Passed j h b = absurd (let both : None ≡ Some j = sym h.0 ∙ b in (cc))
   blocked_one i note Aborted j h b = absurd (let both : None ≡ Some j = sym h.0 ∙ b in (cc))
   blocked_one i note _ j h b = absurd h

@@ -1,6 +1,7 @@
 -- A step of the book follows a line.
 use Rattle.std.proofs.Common.{◌≡◌, ℕ, Bool, true, false, List, [], ◌∷◌, ◌++◌, Option, Some, None, Ok, Err, IfOk, refl, sym, ap, ◌∙◌, subst}
 use Rattle.std.specs.Prelude.{◌≢◌, Result}
+use Rattle.std.proofs.lemmas.Option.{same_Some}
 use Rattle.terms.specs.declared.term.Term.{Term}
 use Rattle.datasets.specs.declared.read.Read as reading
 use Rattle.dict.specs.Dictionary.{term_of, is_known}
@@ -22,7 +23,7 @@ use Rattle.replay.specs.Lines.{renamed_read, read_known, line_event, line_reply,
 use Rattle.replay.specs.Found.{IsFound}
 use Rattle.replay.specs.Replays.{tells_publication, NoneIsLawful}
 use Rattle.replay.specs.Following.{whole_event, tells_pass, with_entry, Follows}
-use Rattle.replay.proofs.Replies.{the_some, whole_one, read_one, refused_one, check_one}
+use Rattle.replay.proofs.Replies.{whole_one, read_one, refused_one, check_one}
 
 pub both_ok : {A E : Type 0} (r : Result A E) (P Q R : A → Type 0) → ((a : A) → P a → Q a → R a) → IfOk r P → IfOk r Q → IfOk r R
 both_ok (Ok a) P Q R f p q = f a p q
@@ -39,34 +40,34 @@ module _ (terms : List Term) where
   IsFoundRead t o = IsFound (read_known (is_known terms)) (renamed_read (term_of terms)) t o
 
   whole_line : (t : told_event.Event) (e : Event) → whole_event t ≡ Some e → line_event terms e ≡ t
-  whole_line (Take i) e h = ap (line_event terms) (sym (the_some _ _ h))
+  whole_line (Take i) e h = ap (line_event terms) (sym (same_Some _ _ h))
   whole_line (ReadOf i n q) e h = absurd (cc)
   whole_line (Publish i n) e h = absurd (cc)
-  whole_line (Begin i n) e h = ap (line_event terms) (sym (the_some _ _ h))
+  whole_line (Begin i n) e h = ap (line_event terms) (sym (same_Some _ _ h))
   whole_line (Check i n) e h = absurd (cc)
-  whole_line (Commit i) e h = ap (line_event terms) (sym (the_some _ _ h))
-  whole_line (GiveUp i n) e h = ap (line_event terms) (sym (the_some _ _ h))
+  whole_line (Commit i) e h = ap (line_event terms) (sym (same_Some _ _ h))
+  whole_line (GiveUp i n) e h = ap (line_event terms) (sym (same_Some _ _ h))
 
   abbrev IsKeptWhole : Event → Type 0
   IsKeptWhole e = (event_known terms e ≡ true) × ((r : Reply) → kept e r ≡ e)
 
   whole_kept : (t : told_event.Event) (e : Event) → whole_event t ≡ Some e → IsKeptWhole e
-  whole_kept (Take i) e h = subst IsKeptWhole (the_some _ _ h) (refl, λ r. refl)
+  whole_kept (Take i) e h = subst IsKeptWhole (same_Some _ _ h) (refl, λ r. refl)
   whole_kept (ReadOf i n q) e h = absurd (cc)
   whole_kept (Publish i n) e h = absurd (cc)
-  whole_kept (Begin i n) e h = subst IsKeptWhole (the_some _ _ h) (refl, λ r. refl)
+  whole_kept (Begin i n) e h = subst IsKeptWhole (same_Some _ _ h) (refl, λ r. refl)
   whole_kept (Check i n) e h = absurd (cc)
-  whole_kept (Commit i) e h = subst IsKeptWhole (the_some _ _ h) (refl, λ r. refl)
-  whole_kept (GiveUp i n) e h = subst IsKeptWhole (the_some _ _ h) (refl, λ r. refl)
+  whole_kept (Commit i) e h = subst IsKeptWhole (same_Some _ _ h) (refl, λ r. refl)
+  whole_kept (GiveUp i n) e h = subst IsKeptWhole (same_Some _ _ h) (refl, λ r. refl)
 
   whole_back : (e e' : Event) → whole_event (line_event terms e') ≡ Some e → e' ≡ e
-  whole_back e (event.Take i) h = the_some _ _ h
+  whole_back e (event.Take i) h = same_Some _ _ h
   whole_back e (event.Read i n q) h = absurd (cc)
   whole_back e (event.Publish i n f) h = absurd (cc)
-  whole_back e (event.Begin i n) h = the_some _ _ h
+  whole_back e (event.Begin i n) h = same_Some _ _ h
   whole_back e (event.Check i n) h = absurd (cc)
-  whole_back e (event.Commit i) h = the_some _ _ h
-  whole_back e (event.GiveUp i n) h = the_some _ _ h
+  whole_back e (event.Commit i) h = same_Some _ _ h
+  whole_back e (event.GiveUp i n) h = same_Some _ _ h
 
   module _ (i n : ℕ) (t : reading.Read Term) where
     -- an event of the line of a read
@@ -86,7 +87,7 @@ module _ (terms : List Term) where
     read_of : (q : Read) → IsFoundRead t (Some q) → (e : Event) → line_event terms e ≡ ReadOf i n t → event_known terms e ≡ true → e ≡ event.Read i n q
     read_of q found e h k =
         let back = read_back (Some q) found e h k in
-        back.2 ∙ ap (event.Read i n) (sym (the_some _ _ back.1))
+        back.2 ∙ ap (event.Read i n) (sym (same_Some _ _ back.1))
 
   module _ (i n : ℕ) where
     publish_back : (e : Event) → line_event terms e ≡ Publish i n → (f : Option Finished) × (e ≡ event.Publish i n f)

@@ -28,7 +28,7 @@ impl<'n, 'a> Source for Answering<'n, 'a> {
 
     fn ask(&mut self, read: &Read<Id>) -> Result<Answered, Stop> {
         match self.notes.get(self.next) {
-            Some(noted) if same_reads(noted.note.read(), read) => {
+            Some(noted) if same_reads(&noted.note.read(), read) => {
                 self.next += 1;
                 Ok(noted.note.answer(self.alloc)?)
             }

@@ -5,7 +5,7 @@ ghost use Rattle.replay.specs.Kept.{event_of_kept, reply_of_kept, line_of_kept};
 
 use crate::naming::name_read;
 use block_machine::{Event, Reply};
-use book::{Book, JournalEntry, Kept, count};
+use book::{Book, Kept, PackedEntry, Shown, count};
 use dict::Dict;
 use journal::{Event as LineEvent, Line, Reply as LineReply};
 use std::alloc::{AllocError, Global};
@@ -60,6 +60,19 @@ fn event_of(alloc: Global, terms: &Dict, kept: &Kept) -> Result<LineEvent, Alloc
     }
 }
 
+// The event of an entry.
+fn event_of_entry(alloc: Global, terms: &Dict, entry: &PackedEntry) -> Result<LineEvent, AllocError>
+    ensures { IfOk result (λ told. told ≡ event_of_kept terms.now entry.now.kept) }
+{
+    match entry.shown() {
+        Shown::Answered(i, n, read, _) => {
+            Ok(LineEvent::Read(i, n, name_read(alloc, terms, &read)?))
+        }
+        Shown::Passed(i, n) => Ok(LineEvent::Check(i, n)),
+        Shown::Whole(kept) => event_of(alloc, terms, kept),
+    }
+}
+
 // The reply of what a journal keeps.
 fn reply_of(kept: &Kept) -> LineReply
     ensures { result ≡ reply_of_kept kept.now }
@@ -71,14 +84,25 @@ fn reply_of(kept: &Kept) -> LineReply
     }
 }
 
+// The reply of an entry.
+fn reply_of_entry(entry: &PackedEntry) -> LineReply
+    ensures { result ≡ reply_of_kept entry.now.kept }
+{
+    match entry.shown() {
+        Shown::Answered(_, _, _, count) => LineReply::Answered(count),
+        Shown::Passed(_, _) => LineReply::Passed,
+        Shown::Whole(kept) => reply_of(kept),
+    }
+}
+
 // The line of an entry.
-fn line_of(alloc: Global, terms: &Dict, entry: &JournalEntry) -> Result<Line, AllocError>
+fn line_of(alloc: Global, terms: &Dict, entry: &PackedEntry) -> Result<Line, AllocError>
     ensures { IfOk result (λ line. line ≡ line_of_kept terms.now entry.now) }
 {
     Ok(Line {
-        worker: entry.worker,
-        event: event_of(alloc, terms, &entry.kept)?,
-        reply: reply_of(&entry.kept),
+        worker: entry.worker(),
+        event: event_of_entry(alloc, terms, entry)?,
+        reply: reply_of_entry(entry),
     })
 }
 
@@ -86,7 +110,7 @@ fn line_of(alloc: Global, terms: &Dict, entry: &JournalEntry) -> Result<Line, Al
 fn entry_lines(
     alloc: Global,
     terms: &Dict,
-    journal: &[JournalEntry],
+    journal: &[PackedEntry],
 ) -> Result<Vec<Line>, AllocError>
     ensures { IfOk result (λ lines. lines.items ≡ map (line_of_kept terms.now) journal.now) }
 {

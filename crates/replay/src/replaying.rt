@@ -48,6 +48,10 @@ pub fn replay<'a>(
     ensures fault { IfErr result (IsFault terms.now base.now block.now lines.now) }
 {
     let mut book = Book::new(alloc, terms, base, block)?;
-    follow_lines(alloc, &mut book, lines)?;
+    let followed = follow_lines(alloc, &mut book, lines);
+    if let Err(fault) = followed {
+        drop(book);
+        return Err(fault);
+    }
     Ok(book)
 }

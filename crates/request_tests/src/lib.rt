@@ -9,6 +9,8 @@ mod group_patterns;
 #[cfg(test)]
 mod numbers;
 #[cfg(test)]
+mod presence;
+#[cfg(test)]
 mod texts;
 #[cfg(test)]
 mod tokens;

@@ -30,7 +30,7 @@ fn base(alloc: Global) -> Result<DataSet, BaseFault> {
 }
 
 /// Whether the base comes to its numbers.
-fn comes_to_numbers(alloc: Global, block: &Block) -> Result<bool, BaseFault> {
+fn comes_to_numbers(alloc: Global, block: Block) -> Result<bool, BaseFault> {
     let dataset = base(alloc)?;
     let numbered = number(&Alone, alloc, &dataset, block)?;
     let copy = numbered.base.dataset().copied(alloc)?;
@@ -38,28 +38,27 @@ fn comes_to_numbers(alloc: Global, block: &Block) -> Result<bool, BaseFault> {
 }
 
 // To numbers and back.
-fn back(alloc: Global, dataset: &DataSet, block: &Block) -> Result<DataSet, AllocError> {
+fn back(alloc: Global, dataset: &DataSet, block: Block) -> Result<DataSet, AllocError> {
     let _ = dataset.parts();
     let numbered = number(&Alone, alloc, dataset, block)?;
     let dataset = numbered.base.dataset().copied(alloc)?;
     named(alloc, numbered.base.terms(), &dataset)
 }
 
-fn text_back(alloc: Global, dataset: &DataSet, block: &Block) -> Result<Vec<u8>, AllocError> {
+fn text_back(alloc: Global, dataset: &DataSet, block: Block) -> Result<Vec<u8>, AllocError> {
     let again = back(alloc, dataset, block)?;
     canonical_text(alloc, &again, 1)
 }
 
 /// Whether the base, to numbers and back, has its text again.
-fn comes_back(alloc: Global, block: &Block) -> Result<bool, BaseFault> {
+fn comes_back(alloc: Global, block: Block) -> Result<bool, BaseFault> {
     let dataset = base(alloc)?;
     Ok(text_back(alloc, &dataset, block)?.as_slice() == BASE.as_bytes())
 }
 
 #[test]
 fn to_numbers_and_back(rt: HostRuntime) -> Result<(), Fail> {
-    let block = split(rt.alloc(), b"INSERT")?;
-    assert!(rt; comes_to_numbers(rt.alloc(), &block)?);
-    assert!(rt; comes_back(rt.alloc(), &block)?);
+    assert!(rt; comes_to_numbers(rt.alloc(), split(rt.alloc(), b"INSERT")?)?);
+    assert!(rt; comes_back(rt.alloc(), split(rt.alloc(), b"INSERT")?)?);
     Ok(())
 }

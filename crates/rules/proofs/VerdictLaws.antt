@@ -1,6 +1,6 @@
 -- The first fault of a reading, and what it says of the text.
-use Rattle.std.proofs.Common.{◌≡◌, ℕ, ◌+◌, ◌++◌, length-append, ◌<◌, ◌≤◌, ◌^◌, Bool, true, false, List, [], ◌∷◌, length, Option, Some, None, Result, Ok, Err, refl, sym, ap, ◌∙◌, subst, suc, add-one, arith, eqb, cond, inl, inr}
-use Rattle.std.proofs.lemmas.Bool.{cases_order, or_parts, cases_lt, lt-ltb}
+use Rattle.std.proofs.Common.{◌≡◌, ℕ, ◌+◌, ◌++◌, length-append, ◌<◌, ◌≤◌, ◌^◌, true, false, List, [], ◌∷◌, length, Option, Some, None, Result, Ok, Err, refl, sym, ap, ◌∙◌, subst, suc, add-one, arith, eqb, cond, inl, inr}
+use Rattle.std.proofs.lemmas.Bool.{cases_order, or_parts, cases_lt, lt-ltb, both_ways}
 use Rattle.std.specs.Prelude.{nat_lt, IfOk}
 use Rattle.std.specs.declared.alloc.AllocError.{AllocError}
 use Rattle.terms.specs.declared.term.Term.{Term}
@@ -109,14 +109,11 @@ holds_means : {k : Refusal} {text : List ℕ} (s : Syntax) → Reads text s → 
 holds_means s reads one (no_reading none) = absurd (none s reads)
 holds_means s reads one (fault {k} {text} {s = t} other e) = subst (λ (t : Syntax). has_fault k t ≡ true) (one t other) e
 
-clash : (b : Bool) → b ≡ true → b ≡ false → ⊥
-clash b t f = absurd cc
-
 verdict_is : (text : List ℕ) (s : Syntax) → IsParsed text (Some s) → (r : Result (List (Operation Term)) Refusal) → IsVerdict s r → IsChecked text r
 verdict_is text s parsed (Ok operations) v = record { syntax = s; reads = parsed.0; free = v.0; is = v.1 }
 verdict_is text s parsed (Err k) v = record {
   holds = fault parsed.0 v.0;
-  first = λ j lt holds. clash (has_fault j s) (holds_means s parsed.0 parsed.1 holds) (v.1 j lt);
+  first = λ j lt holds. both_ways (has_fault j s) (v.1 j lt) (holds_means s parsed.0 parsed.1 holds);
 }
 
 pub verdict_checked : (text : List ℕ) (o : Option Syntax) (s : Syntax) (r : Result (Result (List (Operation Term)) Refusal) AllocError) → IsParsed text o → o ≡ Some s → IfOk r (IsVerdict s) → IfOk r (IsChecked text)
@@ -135,7 +132,7 @@ judged_is : (text : List ℕ) (s : Syntax) → IsParsed text (Some s) → (r : O
 judged_is text s parsed None v = (translated s.steps, record { syntax = s; reads = parsed.0; free = v; is = refl })
 judged_is text s parsed (Some k) v = record {
   holds = fault parsed.0 v.0;
-  first = λ j lt holds. clash (has_fault j s) (holds_means s parsed.0 parsed.1 holds) (v.1 j lt);
+  first = λ j lt holds. both_ways (has_fault j s) (v.1 j lt) (holds_means s parsed.0 parsed.1 holds);
 }
 
 pub verdict_judged : (text : List ℕ) (o : Option Syntax) (s : Syntax) (r : Result (Option Refusal) AllocError) → IsParsed text o → o ≡ Some s → IfOk r (IsFirstFault s) → IfOk r (IsJudged text)
@@ -180,7 +177,7 @@ kind_is refusal.Limit = refl
 -- where a text has at most one reading
 module _ (one_reading : (text : List ℕ) (s t : Syntax) → Reads text s → Reads text t → s ≡ t) where
   not_both : (text : List ℕ) (update : List (Operation Term)) (k : Refusal) → IsAccepted text update → IsRefusal text k → ⊥
-  not_both text update k a r = clash (has_fault k a.syntax) (holds_means a.syntax a.reads (λ other reads. one_reading text other a.syntax reads a.reads) r.holds) (a.free k)
+  not_both text update k a r = both_ways (has_fault k a.syntax) (a.free k) (holds_means a.syntax a.reads (λ other reads. one_reading text other a.syntax reads a.reads) r.holds)
 
   -- a text is at most one request
   pub one_answer : (text : List ℕ) (c d : Result (List (Operation Term)) Refusal) → IsChecked text c → IsChecked text d → c ≡ d

@@ -52,6 +52,13 @@ impl Block {
         self.requests.as_slice()
     }
 
+    /// Its requests, to be taken one by one. It takes no memory.
+    pub fn into_vec(self) -> Vec<Checked>
+        ensures { result.items ≡ self }
+    {
+        self.requests.into_vec()
+    }
+
     /// All terms of its accepted requests, in order, where they lie. An error comes only where a growth was refused.
     pub fn terms(&self, alloc: Global) -> Result<Vec<TermRef<'_>>, AllocError>
         ensures { IfOk result (λ terms. terms.items ≡ terms_of self.now) }

@@ -167,10 +167,6 @@ module _ (s : State) (slots : List Slot) (front : ℕ) (slots_are : slots ≡ s.
       let same : ◌≡◌ {A = List Slot × ℕ} (slots, front) (s.slots, s.front) = λ t. (slots_are t, front_is t) in
       subst (λ (p : List Slot × ℕ). can ≡ (is_executed (slot_at p.0 p.1).status && is_stamped p.0 p.1 (slot_at p.0 p.1).stamp)) same is
 
-  -- nothing is next where no request has work
-  pub next_none : ((j : ℕ) → has_work s.slots j ≡ false) → IsNext s None
-  next_none idle = first_is_next s closed can own not_can None tt (λ e j above. idle_none s.slots j (idle j))
-
   -- the work of the least request that has any is next
   pub next_some : (place : ℕ) (found : Task) → IsLeastWork s.slots place → task_at slots place ≡ Some found → IsNext s (Some found)
   next_some place found least work =
@@ -182,10 +178,3 @@ module _ (s : State) (slots : List Slot) (front : ℕ) (slots_are : slots ≡ s.
         none = λ j above below. idle_none s.slots j (least.none j below);
       } in
       first_is_next s closed can own not_can (Some found) first (λ e. absurd (none-some found (sym e)))
-
--- ---- what can be done for a request with work
-
-pub settled : (i n : ℕ) (has : Bool) (found : Task) → (has ≡ true → found ≡ task.Check i n) → (has ≡ false → found ≡ task.Begin i n) → (stamped : Bool) → (has || not stamped) ≡ true → settling i n has stamped ≡ Some found
-settled i n true found check begin stamped e = ap (λ t. Some t) (sym (check refl))
-settled i n false found check begin false e = ap (λ t. Some t) (sym (begin refl))
-settled i n false found check begin true e = absurd (false≢true e)

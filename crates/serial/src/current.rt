@@ -60,7 +60,7 @@ impl<'a> Current<'a> {
         ensures { IfOk result (λ dataset. dataset ≡ self.entry) }
     {
         let dataset = self.base.copied(alloc)?;
-        self.changes.apply(alloc, dataset)
+        self.changes.into_applied(alloc, dataset)
     }
 }
 

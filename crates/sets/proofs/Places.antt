@@ -1,8 +1,7 @@
 -- Places in a set.
 use Rattle.std.specs.Prelude.{◌⊎◌, Result, Ok, Err, IfNone}
 use Rattle.std.specs.Result.{result_ok}
-use Rattle.std.proofs.Common.{◌≡◌, ℕ, zero, suc, ◌<◌, ◌≤◌, false, ◌||◌, List, [], ◌∷◌, length, Some, get_or, inl, inr, refl, sym, ap, ◌∙◌, arith, slice_get}
-use Rattle.std.specs.List.{AllByRecursion, HoldsAt}
+use Rattle.std.proofs.Common.{◌≡◌, ℕ, zero, suc, ◌<◌, ◌≤◌, false, ◌||◌, List, [], ◌∷◌, length, get_or, inl, inr, refl, sym, ap, ◌∙◌, arith}
 use Rattle.std.specs.List.Sorted.{IsStrictlySortedBy, IsNonDecreasingBy, IsPartitionPoint, IsBinarySearchResult}
 use Rattle.std.specs.declared.cmp.Ordering.{Ordering}
 use Rattle.std.specs.declared.cmp.Ordering.TheVariants.{Less, Equal, Greater}
@@ -10,21 +9,8 @@ use Rattle.std.specs.Ordering.{eq_by_cmp, is_eq, ordering_index, ordering_revers
 use Rattle.std.specs.Cmp.{IsTotalOrder, alike_right}
 use Rattle.std.proofs.lemmas.Bool.{cases_lt}
 use Rattle.std.proofs.Math.Nat.{eq-or-lt_of_le}
+use Rattle.std.proofs.lemmas.Map.Keys.{Less-from_sorted}
 use Rattle.sets.specs.Sets.{has}
-use Rattle.sets.proofs.SetLaws.{below_tail, All-tail_of}
-
-all_at : {A : Type 0} (P : A → Type 0) (xs : List A) (i : ℕ) (d : A) → AllByRecursion P xs → i < length xs → P (get_or xs i d)
-all_at P [] i d h lt = absurd (omega (arith, lt))
-all_at P (x ∷ xs) zero d h lt = h.0
-all_at P (x ∷ xs) (suc i) d h lt = all_at P xs i d h.1 (omega (arith, lt))
-
-module _ {A : Type 0} (R : A → A → Ordering) where
-  -- of two places in a set, the lower has the lower value
-  pub below_at : (xs : List A) (i j : ℕ) (d : A) → IsStrictlySortedBy R xs → i < j → j < length xs → R (get_or xs i d) (get_or xs j d) ≡ Less
-  below_at [] i j d s lt h = absurd (omega (arith, h))
-  below_at (x ∷ xs) i zero d s lt h = absurd (omega (arith, lt))
-  below_at (x ∷ xs) zero (suc j) d s lt h = all_at (λ y. R x y ≡ Less) xs j d (below_tail R x xs s) (omega (arith, h))
-  below_at (x ∷ xs) (suc i) (suc j) d s lt h = below_at xs i j d (All-tail_of R x xs s) (omega (arith, lt)) (omega (arith, h))
 
 module _ {A : Type 0} {R : A → A → Ordering} (o : IsTotalOrder R) (exact : (x y : A) → R x y ≡ Equal → x ≡ y) (x : A) where
   -- what is below a value that is at most x is below x
@@ -48,7 +34,7 @@ module _ {A : Type 0} {R : A → A → Ordering} (o : IsTotalOrder R) (exact : (
   rises xs s i j d le h = cases (eq-or-lt_of_le le)
     where
       cases : (i ≡ j) ⊎ (i < j) → ordering_index (R (get_or xs i d) x) ≤ ordering_index (R (get_or xs j d) x)
-      cases (inr lt) = index_below (get_or xs i d) (get_or xs j d) (below_at R xs i j d s lt h) (R (get_or xs j d) x) refl
+      cases (inr lt) = index_below (get_or xs i d) (get_or xs j d) (Less-from_sorted R xs i j d s lt h) (R (get_or xs j d) x) refl
       cases (inl e) = let same : ordering_index (R (get_or xs i d) x) ≡ ordering_index (R (get_or xs j d) x) = ap (λ k. ordering_index (R (get_or xs k d) x)) e in (omega (arith, same))
 
   none_at : (xs : List A) → ((k : ℕ) (d : A) → k < length xs → eq_by_cmp R x (get_or xs k d) ≡ false) → has R xs x ≡ false
@@ -65,11 +51,6 @@ module _ {A : Type 0} {R : A → A → Ordering} (o : IsTotalOrder R) (exact : (
         | inl lt ↦ ap is_eq (o.antisymm x (get_or xs k d) ∙ ap ordering_reverse (p.0 k d (omega arith) lt))
         | inr ge ↦ ap is_eq (o.antisymm x (get_or xs k d) ∙ ap ordering_reverse (p.1 k d ge h))
       ]
-
-  pub found_at : (xs : List A) (i : ℕ) → i < length xs → HoldsAt (λ y. R y x ≡ Equal) xs i → slice_get xs i ≡ Some x
-  found_at [] i h at = absurd (omega (arith, h))
-  found_at (y ∷ ys) zero h at = ap Some (exact y x (at y))
-  found_at (y ∷ ys) (suc i) h at = found_at ys i (omega (arith, h)) at
 
   -- what a search says of a set that it found nothing in
   pub absent : (xs : List A) (r : Result ℕ ℕ) → IsBinarySearchResult (λ y. R y x) xs r → IsStrictlySortedBy R xs → IfNone (result_ok r) (has R xs x ≡ false)

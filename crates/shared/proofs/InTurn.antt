@@ -110,10 +110,6 @@ own_entry : (w v : ℕ) (e : Event) (r : Reply) → w ≡ v → of_worker owner 
 own_entry w v e r same = rw (eq-eqb w v same) refl
 
 module _ (p : Viewed) (book : Run) (is_about : (history_of book).subject ≡ p.subject) where
-  pub went_none : {E : Type 0} (rs : List Reply) → Went {E = E} p book book [] rs rs (Ok true)
-  went_none rs =
-      record { subject = is_about; goes_on = ([], sym (append-nil book.history), refl); adds = record { replies = []; added = sym (append-nil rs); in_turn = (refl, refl) } }
-
   -- a growth was refused
   pub went_nowhere : {E : Type 0} (book' : Run) (e : Event) (rs qs : List Reply) (made : Result Bool E) (x : E) → made ≡ Err x → book' ≡ book → qs ≡ rs → Went p book book' (e ∷ []) rs qs made
   went_nowhere {E} book' e rs qs made x failed same kept =

@@ -1,6 +1,7 @@
 -- A pass that took the book and gave it back with one more entry.
 use Rattle.std.proofs.Common.{◌≡◌, ℕ, eqb, false, List, [], ◌∷◌, ◌++◌, length, length-append, refl, sym, ap, subst, ◌∙◌, arith, append-nil, Some, Result, Ok, Err, IfOk, OnErr}
 use Rattle.std.proofs.lemmas.List.Elements.{filter-append}
+use Rattle.std.proofs.lemmas.List.{nil_from_length}
 use Rattle.block_machine.specs.declared.state.Entry.{Entry}
 use Rattle.block_machine.specs.declared.state.Event.{Event}
 use Rattle.block_machine.specs.declared.state.Event.TheVariants.{Publish}
@@ -11,18 +12,15 @@ use Rattle.book.specs.Run.{Run, state_of, setting_of, IsSoundEvent}
 use Rattle.blocklock.specs.History.{of_worker}
 use Rattle.blocklock.specs.Passes.{Takes, Watches}
 use Rattle.shared.specs.declared.kept.Subject.{Subject}
-use Rattle.shared.specs.Calls.{Viewed, owner, history_of, run_of, entry, Answers, Unmade, Made, Has}
+use Rattle.shared.specs.Calls.{Viewed, owner, history_of, run_of, entry, Answers, Unmade, Made}
 
 -- the earlier journal's entries of the worker are all of the later one's, so what lies between has none
 pub none_between : (w : ℕ) (before between : List Entry) → of_worker owner w (before ++ between) ≡ of_worker owner w before → of_worker owner w between ≡ []
-none_between w before between e = empty (of_worker owner w before) (of_worker owner w between) (sym (filter-append (λ x. eqb (owner x) w) before between) ∙ e)
-  where
-    nothing : (ys : List Entry) → length ys ≡ 0 → ys ≡ []
-    nothing [] e = refl
-    nothing (y ∷ ys) e = absurd (omega arith)
-
-    empty : (xs ys : List Entry) → xs ++ ys ≡ xs → ys ≡ []
-    empty xs ys e = nothing ys (omega (arith, ap length e, length-append xs ys))
+none_between w before between e =
+    let first = of_worker owner w before in
+    let later = of_worker owner w between in
+    let same : first ++ later ≡ first = sym (filter-append (λ x. eqb (owner x) w) before between) ∙ e in
+    nil_from_length later (omega (arith, ap length same, length-append first later))
 
 module _ (old mid : Viewed) (book : Run) (takes : Takes owner old (history_of book) mid) where
   worker : mid.worker ≡ old.worker
@@ -33,14 +31,6 @@ module _ (old mid : Viewed) (book : Run) (takes : Takes owner old (history_of bo
 
   seen : mid.seen ≡ old.seen ++ takes.includes.begins.0
   seen = ap (λ (p : Viewed). p.seen) takes.sees ∙ takes.includes.begins.1
-
-  -- the pass that took a book has it
-  pub has : Has mid book
-  has = record {
-    holds = ap (λ (p : Viewed). p.holds) takes.sees;
-    subject = takes.includes.subject ∙ sym subject;
-    journal = ap (λ (p : Viewed). p.seen) takes.sees;
-  }
 
   -- what is sound for the subject is sound for the book
   pub sound_there : (event : Event) → IsSoundEvent (run_of old.subject old.seen) event → IsSoundEvent book event

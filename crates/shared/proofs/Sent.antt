@@ -2,8 +2,9 @@
 use mathlib.Core.List.{[], ◌∷◌}
 use denote.RattleType.{RattleType}
 use denote.Struct.Tuple.{Tuple}
-use Rattle.std.proofs.Crossing.{crosses, Box-sync, Vec-sync}
+use Rattle.std.proofs.Crossing.{crosses, Box-send, Box-sync, Vec-sync}
 use Rattle.std.proofs.MapsCrossing as maps
+use Rattle.std.specs.contracts.boxed.Box as Box
 use Rattle.std.specs.contracts.vec.Vec as Vec
 use Rattle.std.specs.contracts.alloc.Global as Global
 use Rattle.std.specs.contracts.impls.GlobalAllocator.TheImpl.{ghosts}
@@ -62,6 +63,8 @@ use Rattle.version_overlay.specs.contracts.generation.Generation as Generation
 use Rattle.version_overlay.specs.contracts.spoken.Spoken as Spoken
 use Rattle.version_overlay.specs.contracts.level.Level as Level
 use Rattle.version_overlay.specs.contracts.settled.Settled as Settled
+use Rattle.version_overlay.specs.contracts.whole_note.WholeNote as WholeNote
+use Rattle.version_overlay.specs.contracts.lean_note.Form as NoteForm
 use Rattle.version_overlay.specs.contracts.lean_note.LeanNote as LeanNote
 use Rattle.quad_index.proofs.key.Arrangement.TheSendSync as arrangement
 use Rattle.quad_hints.specs.contracts.run.Run as Run
@@ -88,6 +91,8 @@ use Rattle.block_machine.specs.contracts.slots.Slots as Slots
 use Rattle.block_machine.specs.contracts.machine.Machine as Machine
 use Rattle.book.specs.contracts.journal_entry.Kept as KeptEvent
 use Rattle.book.specs.contracts.journal_entry.JournalEntry as JournalEntry
+use Rattle.book.specs.contracts.packed_entry.Form as EntryForm
+use Rattle.book.specs.contracts.packed_entry.PackedEntry as PackedEntry
 use Rattle.book.specs.contracts.book.Book as Book
 use Rattle.blocklock.proofs.Sent.{lock, pass}
 use Rattle.blocklock.specs.contracts.pass.Pass as Pass
@@ -129,9 +134,6 @@ module _ (T : RattleType) (s : IsSync T) where
 
   pub modify : IsSync (Modify.the_field T).row
   modify = let p = pattern in let t = templates in search sendable depth 20
-
-  pub the_modify : IsSync (Modify.the_row T)
-  the_modify = let m = modify in search sendable
 
   operation : IsSync (Operation.the_row T)
   operation = let m = modify in let g = graphs.the_field_sync T s in search sendable depth 20
@@ -320,6 +322,21 @@ kept_event = let e = event in let r = reply in let q = read in let d = delta in 
 journal_entry : IsSend (JournalEntry.the_row)
 journal_entry = let k = kept_event in search (sendable, crosses) depth 20
 
+known_quad_field : IsSend (KnownQuad.the_field).row
+known_quad_field = search (sendable, crosses) depth 20
+
+entry_form : IsSend (EntryForm.the_field).row
+entry_form = let k = known_quad_field in let e = journal_entry in search (sendable, crosses) depth 20
+
+packed_entry : IsSend (PackedEntry.the_row)
+packed_entry = let f = entry_form in search (sendable, crosses) depth 20
+
+boxed_entry : IsSend (Box.the_row JournalEntry.the_row Global.the_row ghosts)
+boxed_entry = Box-send JournalEntry.the_row journal_entry
+
+spare : IsSend (Option.the_field (Box.the_row JournalEntry.the_row Global.the_row ghosts)).row
+spare = option.the_field_send (Box.the_row JournalEntry.the_row Global.the_row ghosts) boxed_entry
+
 forgotten : IsSend (Option.the_field Answered.the_row).row
 forgotten = option.the_field_send Answered.the_row answered
 
@@ -332,8 +349,14 @@ found_by = option.the_field_send (Items.the_row Delta.the_row) deltas
 -- ---- the book, shared
 
 module _ (a : NamedLft) where
+  whole_note : IsSend (WholeNote.the_row a)
+  whole_note = let r = read in let f = forgotten in let b = found_by in let v = indexed_view in search (sendable, crosses) depth 20
+
+  note_form : IsSend (NoteForm.the_field a).row
+  note_form = let k = known_quad_field in let w = whole_note in search (sendable, crosses) depth 20
+
   lean_note : IsSend (LeanNote.the_row a)
-  lean_note = let r = read in let f = forgotten in let b = found_by in let v = indexed_view in search (sendable, crosses) depth 20
+  lean_note = let f = note_form in search (sendable, crosses) depth 20
 
   noted : IsSend (Noted.the_row a)
   noted = let n = lean_note in search (sendable, crosses) depth 20
@@ -354,7 +377,7 @@ module _ (a : NamedLft) where
   machine = let s = slots in let t = tree in search (sendable, crosses) depth 20
 
   book : IsSend (Book.the_row a)
-  book = let r = requests in let d = dict in let v = indexed_view in let m = machine in let e = journal_entry in search (sendable, crosses) depth 20
+  book = let r = requests in let d = dict in let v = indexed_view in let m = machine in let e = packed_entry in let s = spare in search (sendable, crosses) depth 20
 
   kept : IsSend (Kept.the_row a)
   kept = let b = book in search (sendable, crosses) depth 20

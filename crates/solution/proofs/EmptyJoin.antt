@@ -1,19 +1,14 @@
 -- A join with the empty mapping alone.
 use Rattle.std.specs.Prelude.{ℕ, ◌<◌, ◌≤◌, cond, length, nat_le, filter_map}
 use Rattle.std.specs.List.{list_all, flat_map, cons_option}
-use Rattle.std.proofs.lemmas.Bool.{false≢true, leb-true}
-use Rattle.std.proofs.Common.{◌≡◌, true, false, Bool, ◌&&◌, zero, suc, List, [], ◌∷◌, ◌++◌, Option, Some, None, refl, sym, ap, ◌∙◌, append-nil, arith, get_or}
+use Rattle.std.proofs.lemmas.Bool.{false≢true, leb-true, and_parts}
+use Rattle.std.proofs.Common.{◌≡◌, true, zero, suc, List, [], ◌∷◌, ◌++◌, Option, Some, None, refl, sym, ap, ◌∙◌, append-nil, arith, get_or}
 use Rattle.sets.specs.Sets.{set_of}
 use Rattle.datasets.specs.declared.id.Id.{Id}
 use Rattle.datasets.specs.Id.{id_order}
 use Rattle.meaning.specs.Mapping.{Mapping, mapping_cmp, compatible, merge, joined}
 use Rattle.meaning.specs.Operators.{join}
 use Rattle.solution.specs.Sharing.{binds_none}
-
-both : (a b : Bool) → (a && b) ≡ true → (a ≡ true) × (b ≡ true)
-both true true h = (refl, refl)
-both true false h = absurd (false≢true h)
-both false b h = absurd (false≢true h)
 
 -- the empty mapping is compatible with each mapping that is not wider
 fits_all : (a b : Mapping Id) → binds_none a ≡ true → compatible id_order a b ≡ true
@@ -36,7 +31,7 @@ joins_all : (a : Mapping Id) (bs : List (Mapping Id)) → binds_none a ≡ true 
     → filter_map (joined id_order a) bs ≡ bs
 joins_all a [] h w = refl
 joins_all a (b ∷ bs) h w =
-    let parts = both (nat_le (length b) (length a)) (list_all (λ b. nat_le (length b) (length a)) bs) w in
+    let parts = and_parts (nat_le (length b) (length a)) (list_all (λ b. nat_le (length b) (length a)) bs) w in
     (λ i. cons_option (cond (fits_all a b h i) (Some (gives_back a b h (leb-true (length b) (length a) parts.0) i)) None) (joins_all a bs h parts.1 i))
 
 only_one : (xs : List (Mapping Id)) (x : Mapping Id) → 1 ≤ length xs → length xs < 2 → x ≡ get_or xs 0 x → xs ≡ x ∷ []

@@ -3,6 +3,7 @@ use Rattle.std.specs.Prelude.{ℕ, Bool, not, is_some, cond, ◌<◌, ◌≤◌,
 use Rattle.std.specs.List.{AllByRecursion, list_all}
 use Rattle.std.proofs.lemmas.Bool.{false≢true}
 use Rattle.std.proofs.Common.{◌≡◌, true, false, ◌&&◌, ◌||◌, zero, suc, List, [], ◌∷◌, ◌++◌, Option, Some, None, refl, sym, ◌∙◌, subst, arith}
+use Rattle.sets.proofs.SetLaws.{or_and_parts}
 use Rattle.datasets.specs.declared.id.Id.{Id}
 use Rattle.datasets.specs.Id.{id_order}
 use Rattle.meaning.specs.Mapping.{Mapping, term_for, compatible, are_bound, shares}
@@ -23,12 +24,6 @@ narrow_more (x ∷ ms) m before now le own h =
     (now_first, narrow_more ms m before now le own h.1)
 
 -- ---- Bool
-
-either_false : (x y z : Bool) → ((x || y) && z) ≡ false → ((x && z) ≡ false) × ((y && z) ≡ false)
-either_false true y true h = absurd (false≢true (sym h))
-either_false true true false h = (refl, refl)
-either_false true false false h = (refl, refl)
-either_false false y z h = (refl, h)
 
 other_false : (x y z : Bool) → (x && (y || z)) ≡ false → ((x && y) ≡ false) × ((x && z) ≡ false)
 other_false false y z h = (refl, refl)
@@ -63,7 +58,7 @@ pub share_nothing : (left right : List (Mapping Id)) (n : ℕ) → Narrow n left
 share_nothing [] right n narrow h = tt
 share_nothing (a ∷ left) right n narrow h =
     let first : length a ≤ n = narrow.0 in
-    let parted = λ (v : ℕ) (lt : v < n). either_false (is_some (term_for a v)) (is_bound_among left v) (is_bound_among right v) (h v lt) in (
+    let parted = λ (v : ℕ) (lt : v < n). or_and_parts (is_some (term_for a v)) (is_bound_among left v) (is_bound_among right v) (h v lt) in (
       shares_none_of a right (λ v lt. (parted v (omega arith)).0),
       share_nothing left right n narrow.1 (λ v lt. (parted v lt).1),
     )

@@ -1,15 +1,14 @@
 -- Binary search in sorted values finds what a filter keeps.
-use Rattle.std.specs.Prelude.{Bool, filter, slice_range}
-use Rattle.std.proofs.Common.{◌≡◌, ◌<◌, ◌≤◌, ◌-◌, ℕ, suc, zero, true, false, cond, List, [], ◌∷◌, inl, inr, refl, sym, ap, ◌∙◌, take, drop, length, get_or, arith}
+use Rattle.std.specs.Prelude.{filter, slice_range}
+use Rattle.std.proofs.Common.{◌≡◌, ◌<◌, ◌≤◌, ◌-◌, ℕ, true, false, List, inl, inr, refl, sym, ◌∙◌, length, arith}
 use Rattle.std.proofs.lemmas.Bool.{false≢true, cases_lt}
-use Rattle.std.proofs.Math.Seq.{take-nil, drop-nil}
 use Rattle.std.proofs.lemmas.List.Sorted.{searchable_from_sorted, IsPartitionedBy-ltb}
-use Rattle.std.specs.List.{AllWithin}
 use Rattle.std.specs.List.Sorted.{IsSortedByKey, IsPartitionedBy, IsPartitionPoint}
 use Rattle.std.specs.Cmp.{IsTotalOrder}
 use Rattle.std.specs.Ordering.{is_eq, is_lt, is_le, ordering_index}
 use Rattle.std.specs.declared.cmp.Ordering.{Ordering}
 use Rattle.std.specs.declared.cmp.Ordering.TheVariants.{Less, Equal, Greater}
+use Rattle.sets.proofs.Filters.{kept_middle}
 use lib.Dec.{ltb}
 
 less_is : (r : Ordering) → is_lt r ≡ ltb (ordering_index r) 1
@@ -32,39 +31,6 @@ module _ {K : Type 0} {R : K → K → Ordering} (o : IsTotalOrder R) {E : Type 
   up_to_partitioned =
       let parts = IsPartitionedBy-ltb (λ (e : E). ordering_index (R (key e) x)) xs 2 (searchable_from_sorted o key xs x s) in
       λ i j e le lt h. up_to_is _ ∙ parts i j e le lt (sym (up_to_is _) ∙ h)
-
--- ---- what a filter keeps of a list in three parts
-
-module _ {E : Type 0} (t : E → Bool) where
-  keeps : (b : Bool) (x : E) (xs ys : List E) → b ≡ true → xs ≡ ys → cond b (x ∷ xs) xs ≡ x ∷ ys
-  keeps true x xs ys e f = ap (λ zs. x ∷ zs) f
-  keeps false x xs ys e f = absurd (false≢true e)
-
-  leaves : (b : Bool) (x : E) (xs ys : List E) → b ≡ false → xs ≡ ys → cond b (x ∷ xs) xs ≡ ys
-  leaves true x xs ys e f = absurd (false≢true (sym e))
-  leaves false x xs ys e f = f
-
-  kept_all : (xs : List E) → ((k : ℕ) (d : E) → k < length xs → t (get_or xs k d) ≡ true) → filter t xs ≡ xs
-  kept_all [] h = refl
-  kept_all (x ∷ xs) h = keeps (t x) x (filter t xs) xs (h 0 x (omega arith)) (kept_all xs (λ k d lt. h (suc k) d (omega arith)))
-
-  kept_none : (xs : List E) → ((k : ℕ) (d : E) → k < length xs → t (get_or xs k d) ≡ false) → filter t xs ≡ []
-  kept_none [] h = refl
-  kept_none (x ∷ xs) h = leaves (t x) x (filter t xs) [] (h 0 x (omega arith)) (kept_none xs (λ k d lt. h (suc k) d (omega arith)))
-
-  pub kept_middle : (xs : List E) (low high : ℕ) → low ≤ high → high ≤ length xs → AllWithin (λ e. t e ≡ false) xs 0 low → AllWithin (λ e. t e ≡ true) xs low high → AllWithin (λ e. t e ≡ false) xs high (length xs)
-      → slice_range xs low high ≡ filter t xs
-  kept_middle [] low high le lt front middle back = ap (take (high - low)) (drop-nil low) ∙ take-nil (high - low)
-  kept_middle (x ∷ xs) zero zero le lt front middle back =
-      sym (kept_none (x ∷ xs) (λ k d h. back k d (omega arith) h))
-  kept_middle (x ∷ xs) zero (suc high) le lt front middle back =
-      ap (λ n. take n (x ∷ xs)) (let e : suc high - 0 ≡ suc high = omega arith in e) ∙ sym (keeps (t x) x (filter t xs) (take high xs) (middle 0 x (omega arith) (omega arith))
-      (sym (ap (λ n. take n xs) (let e : high ≡ high - 0 = omega arith in e) ∙ kept_middle xs 0 high (omega arith) (omega arith) (λ k d l h. absurd (omega arith)) (λ k d l h. middle (suc k) d (omega arith) (omega arith)) (λ k d l h. back (suc k) d (omega arith) (omega arith)))))
-  kept_middle (x ∷ xs) (suc low) zero le lt front middle back = absurd (omega arith)
-  kept_middle (x ∷ xs) (suc low) (suc high) le lt front middle back =
-      ap (λ n. take n (drop low xs)) (let e : suc high - suc low ≡ high - low = omega arith in e)
-      ∙ kept_middle xs low high (omega arith) (omega arith) (λ k d l h. front (suc k) d (omega arith) (omega arith)) (λ k d l h. middle (suc k) d (omega arith) (omega arith)) (λ k d l h. back (suc k) d (omega arith) (omega arith))
-      ∙ sym (leaves (t x) x (filter t xs) (filter t xs) (front 0 x (omega arith) (omega arith)) refl)
 
 -- the places found are in order: a value at the second and before the first would be both less and greater
 less_than_all : (r : Ordering) → is_lt r ≡ true → is_le r ≡ false → ⊥

@@ -6,6 +6,8 @@ use Rattle.std.proofs.lemmas.Bool.{ltb-true, lt-ltb}
 use Rattle.std.proofs.Common.{ℕ, ◌≡◌, suc, List, [], ◌∷◌, ◌++◌, Some, None, zero, length, get_or, drop, refl, sym, ap, ◌∙◌, append_assoc, subst, arith}
 use Rattle.std.specs.declared.cmp.Ordering.{Ordering}
 use Rattle.std.specs.declared.cmp.Ordering.TheVariants.{Less, Equal, Greater}
+use Rattle.std.proofs.Math.Bool.{or_comm}
+use Rattle.std.proofs.lemmas.List.Elements.{filter-append}
 use Rattle.sets.specs.Sets.{placed, with, set_of, has, union}
 use Rattle.sets.proofs.SetLaws.{has-set_of, has-union, has-filter, sorted-set_of, same_set}
 use Rattle.datasets.specs.declared.id.Id.{Id}
@@ -38,16 +40,10 @@ behind_fewer (x ∷ xs) ys =
     let first = with_more x (set (xs ++ ys)) in
     omega arith
 
-either_way : (a b : Bool) → (a || b) ≡ (b || a)
-either_way true true = refl
-either_way true false = refl
-either_way false true = refl
-either_way false false = refl
-
 turned : (xs ys : Mappings) → set (xs ++ ys) ≡ set (ys ++ xs)
 turned xs ys =
     same_set mapping_total mapping_exact _ _ (sorted-set_of mapping_total (xs ++ ys)) (sorted-set_of mapping_total (ys ++ xs))
-    (λ q. has-union mapping_total q xs ys ∙ either_way (has (mapping_cmp id_order) xs q) (has (mapping_cmp id_order) ys q) ∙ sym (has-union mapping_total q ys xs))
+    (λ q. has-union mapping_total q xs ys ∙ or_comm (has (mapping_cmp id_order) xs q) (has (mapping_cmp id_order) ys q) ∙ sym (has-union mapping_total q ys xs))
 
 pub before_fewer : (xs ys : Mappings) → length (set xs) ≤ length (set (xs ++ ys))
 before_fewer xs ys = subst (λ (zs : Mappings). length (set xs) ≤ length zs) (turned ys xs) (behind_fewer ys xs)
@@ -69,17 +65,9 @@ set_filtered test xs =
 -- ---- filters within a flat map
 
 module _ (test : Mapping Id → Bool) where
-  cond_append : (b : Bool) (x : Mapping Id) (xs ys : Mappings) → cond b (x ∷ (xs ++ ys)) (xs ++ ys) ≡ cond b (x ∷ xs) xs ++ ys
-  cond_append true x xs ys = refl
-  cond_append false x xs ys = refl
-
-  pub filter_append : (xs ys : Mappings) → filter test (xs ++ ys) ≡ filter test xs ++ filter test ys
-  filter_append [] ys = refl
-  filter_append (x ∷ xs) ys = ap (λ z. cond (test x) (x ∷ z) z) (filter_append xs ys) ∙ cond_append (test x) x (filter test xs) (filter test ys)
-
   pub filter_flat_map : (f : Mapping Id → Mappings) (xs : Mappings) → flat_map (λ a. filter test (f a)) xs ≡ filter test (flat_map f xs)
   filter_flat_map f [] = refl
-  filter_flat_map f (x ∷ xs) = ap (λ z. filter test (f x) ++ z) (filter_flat_map f xs) ∙ sym (filter_append (f x) (flat_map f xs))
+  filter_flat_map f (x ∷ xs) = ap (λ z. filter test (f x) ++ z) (filter_flat_map f xs) ∙ sym (filter-append test (f x) (flat_map f xs))
 
 -- the merges that pass a test, as a set
 pub merges_are : (test : Mapping Id → Bool) (f : Mapping Id → Mappings) (xs all : Mappings) → set (flat_map f xs) ≡ all → set (flat_map (λ a. filter test (f a)) xs) ≡ filter test all

@@ -6,13 +6,15 @@ use Rattle.std.specs.Option.{option_cmp}
 use Rattle.std.specs.Ordering.{is_eq, ordering_reverse, ordering_then, eq_by_cmp}
 use Rattle.std.specs.declared.cmp.Ordering.TheVariants.{Equal}
 use Rattle.std.proofs.lemmas.Bool.{false≢true}
-use Rattle.std.proofs.Common.{◌≡◌, true, false, ◌&&◌, ◌||◌, zero, suc, List, [], ◌∷◌, ◌++◌, Option, Some, None, refl, sym, ap, ◌∙◌, subst}
+use Rattle.std.proofs.Common.{◌≡◌, true, false, ◌&&◌, ◌||◌, zero, suc, List, [], ◌∷◌, Option, Some, None, refl, sym, ap, ◌∙◌, subst}
+use Rattle.std.proofs.lemmas.List.Folds.{list_any-append}
 use Rattle.datasets.specs.declared.id.Id.{Id}
 use Rattle.datasets.specs.Id.{id_order, id_total}
 use Rattle.meaning.specs.Mapping.{Mapping, mapping_cmp, term_for, agree, compatible, merge, shares, joined}
 use Rattle.meaning.specs.Operators.{join, minus, diff}
 use Rattle.sets.specs.Sets.{set_of, has}
-use Rattle.sets.proofs.SetLaws.{list_any-append, has-set_of, sorted-set_of, same_set}
+use Rattle.sets.proofs.SetLaws.{has-set_of, sorted-set_of, same_set}
+use Rattle.sets.proofs.Filters.{any-filter}
 use Rattle.solution.specs.MappingOrder.{mapping_total, mapping_exact}
 use Rattle.solution.specs.Lookups.{order_at, tied, binds, near_bound, near, HasAll}
 
@@ -59,26 +61,10 @@ parts_of false true false w = refl
 parts_of false false u w = refl
 
 module _ {A : Type 0} where
-  any_cond : (q : A → Bool) (b : Bool) (x : A) (us : List A) → list_any q (cond b (x ∷ us) us) ≡ ((b && q x) || list_any q us)
-  any_cond q true x us = refl
-  any_cond q false x us = refl
-
-  any_filter : (t q : A → Bool) (xs : List A) → list_any q (filter t xs) ≡ list_any (λ x. t x && q x) xs
-  any_filter t q [] = refl
-  any_filter t q (x ∷ xs) = any_cond q (t x) x (filter t xs) ∙ ap (λ z. (t x && q x) || z) (any_filter t q xs)
-
   any_parts : (t q : A → Bool) (xs : List A) → (list_any (λ x. t x && q x) xs || list_any (λ x. not (t x) && q x) xs) ≡ list_any q xs
   any_parts t q [] = refl
   any_parts t q (x ∷ xs) =
       parts_of (t x) (q x) (list_any (λ x. t x && q x) xs) (list_any (λ x. not (t x) && q x) xs) ∙ ap (λ z. q x || z) (any_parts t q xs)
-
-  pub all_append : (t : A → Bool) (xs ys : List A) → list_all t (xs ++ ys) ≡ (list_all t xs && list_all t ys)
-  all_append t [] ys = refl
-  all_append t (x ∷ xs) ys = ap (λ z. t x && z) (all_append t xs ys) ∙ both_of (t x) (list_all t xs) (list_all t ys)
-    where
-      both_of : (x y z : Bool) → (x && (y && z)) ≡ ((x && y) && z)
-      both_of true y z = refl
-      both_of false y z = refl
 
 -- ---- what is near has all
 
@@ -94,16 +80,16 @@ module _ (vs : List ℕ) (found loose all : List (Mapping Id)) (same : (q : Mapp
 
   near_bound_has : (b : Bool) → binds vs a ≡ b → list_any q (cond b (tied vs found a) found) ≡ list_any (λ x. binds vs x && q x) all
   near_bound_has true h =
-      any_filter (λ x. is_eq (order_at vs x a)) q found
+      any-filter q (λ x. is_eq (order_at vs x a)) found
       ∙ same (λ x. is_eq (order_at vs x a) && q x)
-      ∙ any_filter (binds vs) (λ x. is_eq (order_at vs x a) && q x) all
+      ∙ any-filter (λ x. is_eq (order_at vs x a) && q x) (binds vs) all
       ∙ (λ i. list_any (λ x. given_ties (binds vs x) (is_eq (order_at vs x a)) (compatible id_order a x) (p x) (λ k c. ap is_eq (tied_all vs a x h k c)) i) all)
-  near_bound_has false h = same q ∙ any_filter (binds vs) q all
+  near_bound_has false h = same q ∙ any-filter q (binds vs) all
 
   near_has : list_any q (near vs found loose a) ≡ list_any q all
   near_has =
       list_any-append q (near_bound vs found a) loose
-      ∙ (λ i. near_bound_has (binds vs a) refl i || (ap (list_any q) others ∙ any_filter (λ m. not (binds vs m)) q all) i)
+      ∙ (λ i. near_bound_has (binds vs a) refl i || (ap (list_any q) others ∙ any-filter q (λ m. not (binds vs m)) all) i)
       ∙ any_parts (binds vs) q all
 
 pub has_all : (vs : List ℕ) (found loose all : List (Mapping Id)) → ((q : Mapping Id → Bool) → list_any q found ≡ list_any q (filter (binds vs) all))

@@ -4,6 +4,7 @@ use Rattle.std.proofs.Common.{◌≡◌, ℕ, zero, suc, ◌<◌, true, List, []
 use Rattle.std.specs.List.{list_all}
 use Rattle.std.specs.Option.{option_map}
 use Rattle.std.proofs.lemmas.Bool.{and_parts, and_from, ltb-true}
+use Rattle.std.proofs.lemmas.List.{length-map, get_or-map}
 use Rattle.terms.specs.declared.term.Term.{Term}
 use Rattle.terms.specs.declared.term.Term.TheVariants as term
 use Rattle.terms.specs.Placed.{term_at, quad_at, is_within, is_name_within, is_quad_within}
@@ -14,15 +15,6 @@ use Rattle.dict.specs.Dictionary.{term_of, is_known}
 use Rattle.meaning_laws.specs.Renaming.{renamed_quad, quad_known, option_known}
 use Rattle.store.specs.Tables.{number_at, numbers_at}
 
-pub at_map : {A B : Type 0} (f : A → B) (xs : List A) (i : ℕ) (d : A) (e : B) → i < length xs → slice_index_or (map f xs) i e ≡ f (slice_index_or xs i d)
-at_map f [] i d e h = absurd (omega (arith, h))
-at_map f (x ∷ xs) zero d e h = refl
-at_map f (x ∷ xs) (suc i) d e h = at_map f xs i d e (omega (arith, h))
-
-pub same_length : {A B : Type 0} (f : A → B) (xs : List A) → length (map f xs) ≡ length xs
-same_length f [] = refl
-same_length f (x ∷ xs) = ap suc (same_length f xs)
-
 pub all_at : {A : Type 0} (p : A → Bool) (xs : List A) (i : ℕ) (d : A) → list_all p xs ≡ true → i < length xs → p (slice_index_or xs i d) ≡ true
 all_at p [] i d h lt = absurd (omega (arith, lt))
 all_at p (x ∷ xs) zero d h lt = (and_parts (p x) (list_all p xs) h).0
@@ -31,11 +23,11 @@ all_at p (x ∷ xs) (suc i) d h lt = all_at p xs i d (and_parts (p x) (list_all 
 -- ---- the numbers of a list of terms, by its places
 module _ (dict terms : List Term) (ids : List Id) (are : map (term_of dict) ids ≡ terms) (known : list_all (is_known dict) ids ≡ true) where
   within_is : (p : ℕ) → is_within ids p ≡ is_within terms p
-  within_is p = ap (nat_lt p) (sym (same_length (term_of dict) ids) ∙ ap length are)
+  within_is p = ap (nat_lt p) (sym (length-map ids (term_of dict)) ∙ ap length are)
 
   number_is : (p : ℕ) → is_within terms p ≡ true → term_of dict (number_at ids p) ≡ term_at terms p
   number_is p h =
-      sym (at_map (term_of dict) ids p (Known 0) (term.Made 0 0 0 0) (ltb-true p (length ids) (within_is p ∙ h))) ∙ ap (λ ts. term_at ts p) are
+      sym (get_or-map (term_of dict) ids p (Known 0) (term.Made 0 0 0 0) (ltb-true p (length ids) (within_is p ∙ h))) ∙ ap (λ ts. term_at ts p) are
 
   number_known : (p : ℕ) → is_within terms p ≡ true → is_known dict (number_at ids p) ≡ true
   number_known p h = all_at (is_known dict) ids p (Known 0) known (ltb-true p (length ids) (within_is p ∙ h))

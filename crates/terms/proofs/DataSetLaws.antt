@@ -9,8 +9,12 @@ use Rattle.std.specs.declared.cmp.Ordering.TheVariants.{Less, Equal, Greater}
 use Rattle.std.specs.Ordering.{eq_by_cmp}
 use Rattle.std.specs.Cmp.{IsTotalOrder}
 use Rattle.std.proofs.lemmas.List.{append-nil}
+use Rattle.std.proofs.lemmas.Bool.{or_right, or_left, or_cases}
+use Rattle.std.proofs.Math.Logic.{⊎_elim}
+use Rattle.std.proofs.lemmas.List.Folds.{list_any-append}
+use Rattle.std.proofs.Math.Bool.{or_self_left}
 use Rattle.sets.specs.Sets.{placed, with, set_of, has}
-use Rattle.sets.proofs.SetLaws.{list_any-append, has-with, has-set_of, sorted-set_of, sorted-with, same_set}
+use Rattle.sets.proofs.SetLaws.{has-with, has-set_of, sorted-set_of, sorted-with, same_set, or_swap}
 use Rattle.datasets.specs.declared.quad.Quad.{Quad}
 use Rattle.datasets.specs.Dataset.{Dataset, IsDataset, quad_order, names_of}
 use Rattle.datasets.specs.Id.{quad_exact, quad_total}
@@ -25,23 +29,6 @@ or_last true false = refl
 or_last false true = refl
 or_last false false = refl
 
-or_swap : (a b c : Bool) → (a || (b || c)) ≡ (b || (a || c))
-or_swap true true c = refl
-or_swap true false c = refl
-or_swap false b c = refl
-
-or_twice : (a c : Bool) → (a || c) ≡ (a || (a || c))
-or_twice true c = refl
-or_twice false c = refl
-
-or_either : (a b c : Bool) → (a ≡ true → c ≡ true) → (b ≡ true → c ≡ true) → (a || b) ≡ true → c ≡ true
-or_either true b c f g e = f refl
-or_either false b c f g e = g e
-
-or_right : (a b : Bool) → b ≡ true → (a || b) ≡ true
-or_right true b e = refl
-or_right false b e = e
-
 module _ {A : Type 0} {R : A → A → Ordering} (o : IsTotalOrder R) (exact : (x y : A) → R x y ≡ Equal → x ≡ y) where
   -- the set of a list with one more is the set with that one put in
   pub set_of-push : (xs : List A) (x : A) → set_of R (xs ++ x ∷ []) ≡ with R x (set_of R xs)
@@ -53,7 +40,7 @@ module _ {A : Type 0} {R : A → A → Ordering} (o : IsTotalOrder R) (exact : (
   any_placed : (p : A → Bool) (r : Ordering) (x y : A) (ys further : List A) → R x y ≡ r → list_any p further ≡ (p x || list_any p ys)
       → list_any p (placed r x y ys further) ≡ (p x || (p y || list_any p ys))
   any_placed p Less x y ys further e h = refl
-  any_placed p Equal x y ys further e h = or_twice (p y) (list_any p ys) ∙ ap (λ z. p z || (p y || list_any p ys)) (sym (exact x y e))
+  any_placed p Equal x y ys further e h = sym (or_self_left (p y) (list_any p ys)) ∙ ap (λ z. p z || (p y || list_any p ys)) (sym (exact x y e))
   any_placed p Greater x y ys further e h = ap (λ b. p y || b) h ∙ or_swap (p y) (p x) (list_any p ys)
 
   -- whether a member passes a test
@@ -100,19 +87,13 @@ sorted-with_name : (n : Option Term) (names : List Term) → IsStrictlySortedBy 
 sorted-with_name None names s = s
 sorted-with_name (Some n) names s = sorted-with term_total n names s
 
-or_left : (a b : Bool) → a ≡ true → (a || b) ≡ true
-or_left true b e = refl
-or_left false b e = absurd cc
-
 pub IsDataset-with_quad : (q : Quad Term) (d : Dataset Term) → IsDataset term_order d → IsDataset term_order (with_quad q d)
 IsDataset-with_quad q d is = record {
   quads = sorted-with quads_total q d.quads is.quads;
   names = sorted-with_name q.graph d.names is.names;
   named = λ g h. has-with_name q.graph d.names g
-      ∙ or_either (is_named g q.graph) (has term_order (names_of d.quads) g) (is_named g q.graph || has term_order d.names g)
-      (or_left (is_named g q.graph) (has term_order d.names g)) (λ e. or_right (is_named g q.graph) (has term_order d.names g) (is.named g e))
-      (ap (λ b. is_named g q.graph || b) (any_named g d.quads) ∙ sym (any-with quads_total quads_exact (in_named g) q d.quads)
-      ∙ sym (any_named g (with (quad_order term_order) q d.quads)) ∙ h);
+      ∙ ⊎_elim (or_left (is_named g q.graph) (has term_order d.names g)) (λ e. or_right (is_named g q.graph) (has term_order d.names g) (is.named g e)) (or_cases (is_named g q.graph) (has term_order (names_of d.quads) g) (ap (λ b. is_named g q.graph || b) (any_named g d.quads) ∙ sym (any-with quads_total quads_exact (in_named g) q d.quads)
+      ∙ sym (any_named g (with (quad_order term_order) q d.quads)) ∙ h));
 }
 
 pub IsDataset-with_graph : (g : Term) (d : Dataset Term) → IsDataset term_order d → IsDataset term_order (with_graph g d)

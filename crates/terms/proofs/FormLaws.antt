@@ -6,6 +6,8 @@ use Rattle.std.proofs.lemmas.Bool.{eqb-true, and_parts, false≢true}
 use Rattle.std.proofs.lemmas.Str.{IsUtf8-string_bytes}
 use Rattle.std.specs.Option.{option_map_or}
 use Rattle.std.specs.Cmp.Lexicographic.{pointwise, same_text, other_text}
+use Rattle.std.proofs.lemmas.Option.{same_Some}
+use Rattle.std.proofs.Math.Bool.{or-false}
 use Rattle.iris.specs.Iri.{is_digit, IsIri}
 use Rattle.iris.specs.Forms.{InTag, start, first, dash, later, is_small_letter, is_tag_from, is_tag}
 use Rattle.terms.specs.Literal.{LiteralValue, IsLiteral}
@@ -19,12 +21,8 @@ use Rattle.terms.specs.Tag.{next_place, is_last}
 no_dash : (p : ℕ → Bool) (b : ℕ) → p 45 ≡ false → p b ≡ true → eqb b 45 ≡ false
 no_dash p b not_dash passes = elim (eqb b 45) as (λ t. eqb b 45 ≡ t → t ≡ false) [ true ↦ λ e. absurd (let f : p 45 ≡ true = subst (λ y. p y ≡ true) (eqb-true b 45 e) passes in cc) | false ↦ λ e. refl ] refl
 
-or_none : (x : Bool) → (x || false) ≡ x
-or_none true = refl
-or_none false = refl
-
 either : (p : ℕ → Bool) (b : ℕ) (x y : Bool) → p 45 ≡ false → p b ≡ true → (x || (eqb b 45 && y)) ≡ x
-either p b x y not_dash passes = rw (no_dash p b not_dash passes) (or_none x)
+either p b x y not_dash passes = rw (no_dash p b not_dash passes) (or-false x)
 
 in_part : (p : ℕ → Bool) (at next : InTag) (b : ℕ) (bs : List ℕ) → p 45 ≡ false
     → ((p b && is_tag_from next bs) || (eqb b 45 && is_tag_from dash bs)) ≡ option_map_or (λ t. is_tag_from t bs) (cond (p b) (Some next) (cond (eqb b 45) (Some dash) None)) false
@@ -61,9 +59,6 @@ pub ruleset tag_steps = (tag_goes_on, tag_stops, tag_end)
 
 -- ---- literals
 
-some_same : (x y : List ℕ) → Some x ≡ Some y → x ≡ y
-some_same x y e = cc
-
 other : (d : List ℕ) → not (pointwise nat_eq d lang_string) ≡ true → pointwise nat_eq d lang_string ≡ false
 other d = elim (pointwise nat_eq d lang_string) as (λ b. not b ≡ true → b ≡ false) [ true ↦ λ h. absurd (false≢true h) | false ↦ λ h. refl ]
 
@@ -83,7 +78,7 @@ fits_then l (Some tag) e text iri fits =
     record {
       lexical = text;
       datatype = iri;
-      tag = rw e (λ t same. subst (λ t. is_tag t ≡ true) (some_same tag t same) h.1);
+      tag = rw e (λ t same. subst (λ t. is_tag t ≡ true) (same_Some tag t same) h.1);
       tagged = rw e ((λ some. same_text l.datatype lang_string (sym h.0)), λ same. refl);
     }
 

@@ -8,7 +8,7 @@ use Rattle.std.proofs.lemmas.Map.Keys.{IsDistinct-head, IsDistinct-tail}
 use Rattle.std.specs.Option.{option_map, option_to_list}
 use Rattle.std.proofs.lemmas.Bool.{false≢true, ltb-true, lt-ltb, and_parts, and_from}
 use Rattle.std.proofs.lemmas.List.{append-nil, append_assoc, map-append, get_or_append_left}
-use Rattle.std.proofs.lemmas.List.Folds.{list_all-append}
+use Rattle.sets.proofs.Filters.{each_joined, each_weaker}
 use Rattle.datasets.specs.declared.quad.Quad.{Quad}
 use Rattle.datasets.specs.Dataset.{IsDataset}
 use Rattle.terms.specs.declared.term.Term.{Term}
@@ -34,15 +34,6 @@ map_alike f g p each (x ∷ xs) h =
     let rest : map f xs ≡ map g xs = map_alike f g p each xs parts.1 in
     λ i. first i ∷ rest i
 
-pub all_alike : {A : Type 0} (p q : A → Bool) → ((x : A) → p x ≡ true → q x ≡ true) → (xs : List A) → list_all p xs ≡ true → list_all q xs ≡ true
-all_alike p q each [] h = refl
-all_alike p q each (x ∷ xs) h =
-    let parts = and_parts (p x) (list_all p xs) h in
-    and_from (q x) (list_all q xs) (each x parts.0) (all_alike p q each xs parts.1)
-
-pub all_push : {A : Type 0} (p : A → Bool) (xs ys : List A) → list_all p xs ≡ true → list_all p ys ≡ true → list_all p (xs ++ ys) ≡ true
-all_push p xs ys hx hy = list_all-append p xs ys ∙ and_from (list_all p xs) (list_all p ys) hx hy
-
 -- ---- going on
 
 pub stays : (old new : List Term) → new ≡ old → GoesOn old new
@@ -57,9 +48,6 @@ inserted old new t false e = (t ∷ [], e)
 
 pub stored : (terms : List Term) (place : ℕ) (t : Term) → slice_get terms place ≡ Some t → place < length terms → term_at terms place ≡ t
 stored terms place t e h = at_place terms place (term.Made 0 0 0 0) t e h
-
-pub within : (terms : List Term) (place : ℕ) → place < length terms → is_within terms place ≡ true
-within terms place h = lt-ltb place (length terms) h
 
 module _ (old new : List Term) (on : GoesOn old new) where
   pub term_kept : (place : ℕ) → is_within old place ≡ true → term_at new place ≡ term_at old place
@@ -109,7 +97,7 @@ module _ (old new : List Term) (on : GoesOn old new) where
 
   pub lists_kept : (quads : List (Quad ℕ)) (names : List ℕ) → AreWithin old quads names → AreWithin new quads names
   lists_kept quads names h =
-      (all_alike (is_quad_within old) (is_quad_within new) quad_within_kept quads h.0, all_alike (is_within old) (is_within new) within_kept names h.1)
+      (each_weaker (is_quad_within old) (is_quad_within new) quad_within_kept quads h.0, each_weaker (is_within old) (is_within new) within_kept names h.1)
 
 -- four places found one after another
 pub four_places : (a b c d e : List Term) → GoesOn a b → GoesOn b c → GoesOn c d → GoesOn d e → (q : Quad ℕ) (t : Quad Term)
@@ -154,8 +142,8 @@ quad_added_within terms quads names q h w =
     let s = and_parts (is_within terms q.subject) _ w in
     let p = and_parts (is_within terms q.predicate) _ s.1 in
     let o = and_parts (is_within terms q.object) _ p.1 in (
-      all_push (is_quad_within terms) quads (q ∷ []) h.0 (and_from (is_quad_within terms q) true w refl),
-      all_push (is_within terms) names (option_to_list q.graph) h.1 (names_within terms q.graph o.1),
+      each_joined (is_quad_within terms) quads (q ∷ []) h.0 (and_from (is_quad_within terms q) true w refl),
+      each_joined (is_within terms) names (option_to_list q.graph) h.1 (names_within terms q.graph o.1),
     )
 
 pub name_added : (terms : List Term) (quads : List (Quad ℕ)) (names : List ℕ) (place : ℕ) (t : Term) → term_at terms place ≡ t
@@ -167,7 +155,7 @@ name_added terms quads names place t e =
 
 pub name_added_within : (terms : List Term) (quads : List (Quad ℕ)) (names : List ℕ) (place : ℕ) → AreWithin terms quads names → is_within terms place ≡ true
     → AreWithin terms quads (names ++ place ∷ [])
-name_added_within terms quads names place h w = (h.0, all_push (is_within terms) names (place ∷ []) h.1 (and_from (is_within terms place) true w refl))
+name_added_within terms quads names place h w = (h.0, each_joined (is_within terms) names (place ∷ []) h.1 (and_from (is_within terms place) true w refl))
 
 -- ---- what the type keeps
 

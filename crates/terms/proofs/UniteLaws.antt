@@ -10,8 +10,10 @@ use Rattle.std.specs.Cmp.{IsTotalOrder}
 use Rattle.std.proofs.lemmas.Bool.{and_parts, and_from, ltb-true}
 use Rattle.std.proofs.lemmas.List.{map-append, length-map}
 use Rattle.std.proofs.lemmas.Simd.{map-map}
+use Rattle.std.proofs.lemmas.List.Folds.{list_any-append}
 use Rattle.sets.specs.Sets.{set_of, has, union}
-use Rattle.sets.proofs.SetLaws.{list_any-append, has-set_of, has-union, sorted-set_of, same_set}
+use Rattle.sets.proofs.SetLaws.{has-set_of, has-union, sorted-set_of, same_set}
+use Rattle.sets.proofs.Filters.{each_joined, each_weaker}
 use Rattle.datasets.specs.declared.quad.Quad.{Quad}
 use Rattle.datasets.specs.Dataset.{Dataset, IsDataset, quad_order}
 use Rattle.terms.specs.declared.term.Term.{Term}
@@ -20,7 +22,7 @@ use Rattle.terms.specs.TermLaws.{term_total, term_exact}
 use Rattle.terms.specs.DataSet.{in_named, dataset_of, united, ListsUnite}
 use Rattle.terms.specs.Placed.{term_at, quad_at, is_within, is_name_within, is_quad_within, AreWithin, AreAt, GoesOn, dataset_at, quad_of_places}
 use Rattle.terms.proofs.DataSetLaws.{quads_total, quads_exact, any_named, IsDataset-of}
-use Rattle.terms.proofs.PlacedLaws.{IsPlaced, map_alike, all_alike, all_push, term_kept, within_kept, lists_kept, dataset_kept}
+use Rattle.terms.proofs.PlacedLaws.{IsPlaced, map_alike, term_kept, within_kept, lists_kept, dataset_kept}
 
 -- ---- sets of lists, one behind the other
 
@@ -74,25 +76,6 @@ module _ (terms others : List Term) (places : List ℕ) (at : AreAt terms places
   -- as many places as terms
   pub place_within : (i : ℕ) → is_within others i ≡ true → is_within places i ≡ true
   place_within i h = ap (nat_lt i) as_long ∙ h
-
-  pub name_within : (n : Option ℕ) → is_name_within others n ≡ true → is_name_within places n ≡ true
-  name_within None h = refl
-  name_within (Some i) h = place_within i h
-
-  pub quad_within : (q : Quad ℕ) → is_quad_within others q ≡ true → is_quad_within places q ≡ true
-  quad_within q h =
-      let s = and_parts (is_within others q.subject) _ h in
-      let p = and_parts (is_within others q.predicate) _ s.1 in
-      let o = and_parts (is_within others q.object) _ p.1 in
-      and_from (is_within places q.subject) _ (place_within q.subject s.0)
-      (and_from (is_within places q.predicate) _ (place_within q.predicate p.0)
-      (and_from (is_within places q.object) _ (place_within q.object o.0) (name_within q.graph o.1)))
-
-  pub all_quads_within : (quads : List (Quad ℕ)) → list_all (is_quad_within others) quads ≡ true → list_all (is_quad_within places) quads ≡ true
-  all_quads_within = all_alike (is_quad_within others) (is_quad_within places) quad_within
-
-  pub all_names_within : (names : List ℕ) → list_all (is_within others) names ≡ true → list_all (is_within places) names ≡ true
-  all_names_within = all_alike (is_within others) (is_within places) place_within
 
   moved : (i : ℕ) → is_within others i ≡ true → (term_at terms (slice_index places i) ≡ term_at others i) × (is_within terms (slice_index places i) ≡ true)
   moved i h = let m = at_moved terms places i (ltb-true i (length places) (place_within i h)) at.1 in (m.0 ∙ ap (λ ts. term_at ts i) at.0, m.1)
@@ -150,8 +133,8 @@ module _ (old new : List Term) (on : GoesOn old new) (quads more quads' : List (
       let kept = lists_kept old new on quads names h.1 in (
         subst (IsDataset term_order) (sym united_dataset) (IsDataset-united (dataset_at old quads names) d h.0 is_dataset),
         (
-          ap (list_all (is_quad_within new)) qs ∙ all_push (is_quad_within new) quads more kept.0 within.0,
-          ap (list_all (is_within new)) ns ∙ all_push (is_within new) names others kept.1 within.1,
+          ap (list_all (is_quad_within new)) qs ∙ each_joined (is_quad_within new) quads more kept.0 within.0,
+          ap (list_all (is_within new)) ns ∙ each_joined (is_within new) names others kept.1 within.1,
         ),
       )
 
@@ -167,4 +150,4 @@ module _ (old new : List Term) (on : GoesOn old new) (places : List ℕ) (place 
 
   pub one_more_within : is_within new place ≡ true → list_all (is_within new) (places ++ place ∷ []) ≡ true
   one_more_within h =
-      all_push (is_within new) places (place ∷ []) (all_alike (is_within old) (is_within new) (within_kept old new on) places within) (and_from (is_within new place) true h refl)
+      each_joined (is_within new) places (place ∷ []) (each_weaker (is_within old) (is_within new) (within_kept old new on) places within) (and_from (is_within new place) true h refl)

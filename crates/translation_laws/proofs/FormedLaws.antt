@@ -5,6 +5,7 @@ use Rattle.std.specs.List.{AllByRecursion}
 use Rattle.std.specs.Option.{ForSome}
 use Rattle.std.proofs.lemmas.Bool.{false≢true, and_parts}
 use Rattle.std.proofs.lemmas.List.Elements.{All-from_recursion, recursion_from_All}
+use Rattle.sets.proofs.Every.{all_weaker}
 use Rattle.datasets.specs.Dataset.{Dataset, IsDataset}
 use Rattle.terms.specs.declared.term.Term.{Term}
 use Rattle.terms.specs.declared.term.Term.TheVariants.{Iri, Literal, Blank, Made}
@@ -15,8 +16,8 @@ use Rattle.meaning.specs.Run.{Request, answer_of, run_from, run}
 use Rattle.meaning_laws.specs.Answers.{IsExactOrder, AnswersWithDatasets}
 use Rattle.dict.specs.Dictionary.{written}
 use Rattle.nquads_laws.specs.WellFormed.{IsTerm, IsIriTerm, IsSubject, IsQuad, IsWellFormed}
+use Rattle.nquads_laws.proofs.LineTexts.{subject_is_term}
 use Rattle.translation_laws.specs.Formed.{IsFormedRequest}
-use Rattle.translation_laws.proofs.SolutionLaws.{all_weaker}
 use Rattle.translation_laws.proofs.KeptLaws.{IsKept, IsBrought, run_kept}
 
 -- ---- kinds of terms
@@ -26,12 +27,6 @@ iri_is_term (Iri i) h = h
 iri_is_term (Literal l) h = absurd h
 iri_is_term (Blank b) h = absurd h
 iri_is_term (Made r o l s) h = absurd h
-
-subject_is_term : (t : Term) → IsSubject t → IsTerm t
-subject_is_term (Iri i) h = h
-subject_is_term (Literal l) h = absurd h
-subject_is_term (Blank b) h = h
-subject_is_term (Made r o l s) h = h
 
 as_iri : (t : Term) → IsTerm t → is_iri t ≡ true → IsIriTerm t
 as_iri (Iri i) h e = h

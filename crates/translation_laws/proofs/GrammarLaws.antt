@@ -1,7 +1,8 @@
 -- No blank node stands in a group that is read.
-use Rattle.std.proofs.Common.{◌≡◌, ℕ, zero, suc, Bool, true, false, not, ◌&&◌, List, [], ◌∷◌, map, refl}
-use Rattle.std.proofs.lemmas.Bool.{false≢true}
+use Rattle.std.proofs.Common.{◌≡◌, ℕ, zero, suc, true, false, not, List, [], ◌∷◌, map, refl}
+use Rattle.std.proofs.lemmas.Bool.{false≢true, and_parts}
 use Rattle.std.specs.List.{AllByRecursion, flat_map, list_all}
+use Rattle.sets.proofs.Every.{all_joined}
 use Rattle.lexer.specs.declared.token.Token.{Token}
 use Rattle.lexer.specs.declared.token.Token.TheVariants as token
 use Rattle.lexer.specs.declared.token.Sign.TheVariants as signs
@@ -19,7 +20,6 @@ use Rattle.triples.specs.Reads.{ReadsGraphName, ReadsVerb, ReadsProperty, proper
 use Rattle.groups.specs.Reads.{is_label, property_unlabelled, are_properties_unlabelled, same_unlabelled, are_unlabelled, ReadsFront, triples, no_triples, UnionLink, ReadsPart, union, optional, minus, in_graph, filter, ReadsParts, close, part, ReadsBraces, braces, ReadsGroup}
 use Rattle.faults.specs.Faults.{is_blank}
 use Rattle.nodes.specs.Nodes.{nodes_of_property, nodes_of_subject, nodes_of_triples, nodes_of_tree, nodes_of_part, nodes_of_parts, nodes_of_groups}
-use Rattle.translation_laws.proofs.NodeLaws.{all_joined}
 
 abbrev pub IsUnblank : Node → Type 0
 IsUnblank n = is_blank n ≡ false
@@ -30,10 +30,6 @@ AreUnblank = AllByRecursion IsUnblank
 -- all that a production reads is so
 abbrev Keeps : {A : Type 0} → (A → Type 0) → Production A → Type 0
 Keeps {A} Q P = (ts : List Token) (x : A) (rest : List Token) → P ts x rest → Q x
-
-and_both : (a b : Bool) → (a && b) ≡ true → (a ≡ true) × (b ≡ true)
-and_both true b e = (refl, e)
-and_both false b e = absurd (false≢true e)
 
 -- ---- triples
 
@@ -55,7 +51,7 @@ node_unblank (node.Literal l) e = refl
 objects_unblank : (ns : List Node) → list_all (λ x. not (is_label x)) ns ≡ true → AreUnblank ns
 objects_unblank [] e = tt
 objects_unblank (n ∷ ns) e =
-    let h = and_both (not (is_label n)) (list_all (λ x. not (is_label x)) ns) e in
+    let h = and_parts (not (is_label n)) (list_all (λ x. not (is_label x)) ns) e in
     (node_unblank n h.0, objects_unblank ns h.1)
 
 abbrev PropertyUnblank : Property → Type 0
@@ -69,10 +65,10 @@ PropertiesUnblank ps = are_properties_unlabelled ps ≡ true → AreUnblank (fla
 
 properties_unblank : Keeps PropertiesUnblank (Many ReadsProperty PropertyLink)
 properties_unblank _ _ _ (last {ts} {r} {s} {x} i l) = λ e.
-    let h = and_both (property_unlabelled x) true e in
+    let h = and_parts (property_unlabelled x) true e in
     all_joined IsUnblank (nodes_of_property x) [] (property_unblank ts x r i h.0) tt
 properties_unblank _ _ _ (next {ts} {r} {u} {s} {x} {xs} i l m) = λ e.
-    let h = and_both (property_unlabelled x) (are_properties_unlabelled xs) e in
+    let h = and_parts (property_unlabelled x) (are_properties_unlabelled xs) e in
     all_joined IsUnblank (nodes_of_property x) (flat_map nodes_of_property xs) (property_unblank ts x r i h.0) (properties_unblank u xs s m h.1)
 
 abbrev SameUnblank : SameSubject → Type 0
@@ -80,7 +76,7 @@ SameUnblank x = same_unlabelled x ≡ true → AreUnblank (nodes_of_subject x)
 
 same_unblank : Keeps SameUnblank ReadsSame
 same_unblank _ _ _ (same {ts} {r} {s} {x} {ps} subject properties) = λ e.
-    let h = and_both (not (is_label x)) (are_properties_unlabelled ps) e in
+    let h = and_parts (not (is_label x)) (are_properties_unlabelled ps) e in
     (node_unblank x h.0, properties_unblank r ps s properties h.1)
 
 abbrev TriplesUnblank : List SameSubject → Type 0
@@ -88,10 +84,10 @@ TriplesUnblank xs = are_unlabelled xs ≡ true → AreUnblank (nodes_of_triples 
 
 triples_unblank : Keeps TriplesUnblank (Many ReadsSame TripleLink)
 triples_unblank _ _ _ (last {ts} {r} {s} {x} i l) = λ e.
-    let h = and_both (same_unlabelled x) true e in
+    let h = and_parts (same_unlabelled x) true e in
     all_joined IsUnblank (nodes_of_subject x) [] (same_unblank ts x r i h.0) tt
 triples_unblank _ _ _ (next {ts} {r} {u} {s} {x} {xs} i l m) = λ e.
-    let h = and_both (same_unlabelled x) (are_unlabelled xs) e in
+    let h = and_parts (same_unlabelled x) (are_unlabelled xs) e in
     all_joined IsUnblank (nodes_of_subject x) (nodes_of_triples xs) (same_unblank ts x r i h.0) (triples_unblank u xs s m h.1)
 
 -- ---- expressions

@@ -5,6 +5,7 @@ use Rattle.std.specs.List.{AllByRecursion}
 use Rattle.std.specs.Ordering.{eq_by_cmp}
 use Rattle.std.proofs.lemmas.Bool.{ltb-false}
 use Rattle.sets.specs.Sets.{has, union, without, with}
+use Rattle.sets.proofs.Every.{all_joined, all_with, all_set_of, all_kept, all_weaker}
 use Rattle.datasets.specs.declared.quad.Quad.{Quad}
 use Rattle.datasets.specs.Dataset.{Dataset, quad_order, quads_in, same_graph, is_there, graph_name, names_of}
 use Rattle.algebra.specs.declared.pattern.Place.{Place}
@@ -34,9 +35,8 @@ use Rattle.dict.specs.Dictionary.{written}
 use Rattle.nquads_laws.specs.WellFormed.{AreMadeNumbers}
 use Rattle.translation_laws.specs.Each.{EachOfSlot, EachOfQuad}
 use Rattle.translation_laws.specs.Formed.{EachOfGraphs, EachBrought}
-use Rattle.translation_laws.proofs.NodeLaws.{all_joined}
 use Rattle.translation_laws.proofs.LabelLaws.{IsNumber}
-use Rattle.translation_laws.proofs.SolutionLaws.{all_with, all_set, all_filter, all_weaker, if_chosen, all_found, solutions_kept}
+use Rattle.translation_laws.proofs.SolutionLaws.{if_chosen, all_found, solutions_kept}
 
 -- what holds of terms (T), of names of graphs (G) and of quads (Q) is so of what is made of these
 pub record IsKept (T G : Term → Type 0) (Q : Quad Term → Type 0) : Type 0 where
@@ -156,26 +156,26 @@ module _ (T G : Term → Type 0) (Q : Quad Term → Type 0) (kept : IsKept T G Q
 
   replaced_kept : (d : Dataset Term) (deleted inserted : List (Quad Term)) → AreKept d → AllByRecursion Q inserted → AreKept (replaced written d deleted inserted)
   replaced_kept d deleted inserted h k = (
-    all_set Q (quad_order term_order) (without (quad_order term_order) d.quads deleted ++ inserted)
-        (all_joined Q (without (quad_order term_order) d.quads deleted) inserted (all_filter Q _ d.quads h.0) k),
-    all_set G term_order (d.names ++ names_of inserted) (all_joined G d.names (names_of inserted) h.1 (all_found Q G graph_name graph_of_quad inserted k)),
+    all_set_of Q (quad_order term_order) (without (quad_order term_order) d.quads deleted ++ inserted)
+        (all_joined Q (without (quad_order term_order) d.quads deleted) inserted (all_kept Q _ d.quads h.0) k),
+    all_set_of G term_order (d.names ++ names_of inserted) (all_joined G d.names (names_of inserted) h.1 (all_found Q G graph_name graph_of_quad inserted k)),
   )
 
   -- ---- operations on graphs
 
   without_kept : (g : Option Term) (names : List Term) → AllByRecursion G names → AllByRecursion G (without_name term_order g names)
   without_kept None names h = h
-  without_kept (Some g) names h = all_filter G _ names h
+  without_kept (Some g) names h = all_kept G _ names h
 
   named_kept : (g : Option Term) (names : List Term) → IfSome g G → AllByRecursion G names → AllByRecursion G (with_name term_order g names)
   named_kept None names hg h = h
   named_kept (Some g) names hg h = all_with G term_order g names hg h
 
   outside_kept : (g : Option Term) (quads : List (Quad Term)) → AllByRecursion Q quads → AllByRecursion Q (outside term_order g quads)
-  outside_kept g quads h = all_filter Q _ quads h
+  outside_kept g quads h = all_kept Q _ quads h
 
   inside_kept : (g : Option Term) (quads : List (Quad Term)) → AllByRecursion Q quads → AllByRecursion Q (quads_in term_order g quads)
-  inside_kept g quads h = all_filter Q _ quads h
+  inside_kept g quads h = all_kept Q _ quads h
 
   moved_kept : (to : Option Term) (quads : List (Quad Term)) → IfSome to G → AllByRecursion Q quads → AllByRecursion Q (map (in_graph term_order to) quads)
   moved_kept to [] ht h = tt
@@ -188,7 +188,7 @@ module _ (T G : Term → Type 0) (Q : Quad Term → Type 0) (kept : IsKept T G Q
   joined_kept : (from to : Option Term) (kept : List (Quad Term)) (d : Dataset Term) → IfSome to G → AllByRecursion Q kept → AreKept d
       → AllByRecursion Q (union (quad_order term_order) kept (moved_to term_order from to d)) × AllByRecursion G (with_name term_order to d.names)
   joined_kept from to kept d ht k h = (
-    all_set Q (quad_order term_order) (kept ++ moved_to term_order from to d)
+    all_set_of Q (quad_order term_order) (kept ++ moved_to term_order from to d)
         (all_joined Q kept (moved_to term_order from to d) k (moved_kept to (quads_in term_order from d.quads) ht (inside_kept from d.quads h.0))),
     named_kept to d.names ht h.1,
   )

@@ -4,6 +4,7 @@ use Rattle.std.specs.Prelude.{IfSome}
 use Rattle.std.specs.List.{AllByRecursion, list_any}
 use Rattle.std.proofs.lemmas.Bool.{false≢true, or_parts}
 use Rattle.std.proofs.lemmas.List.Elements.{recursion_from_All}
+use Rattle.sets.proofs.Every.{all_weaker}
 use Rattle.datasets.specs.declared.quad.Quad.{Quad}
 use Rattle.datasets.specs.Dataset.{Dataset}
 use Rattle.terms.specs.declared.term.Term.{Term}
@@ -12,7 +13,6 @@ use Rattle.meaning.specs.Run.{Request}
 use Rattle.nquads.specs.Tag.{has_mark, is_marked}
 use Rattle.nquads_laws.specs.WellFormed.{IsIriTerm, IsQuad, IsWellFormed}
 use Rattle.rules.specs.Refusal.{IsChecked}
-use Rattle.translation_laws.proofs.SolutionLaws.{all_weaker}
 use Rattle.translation_laws.proofs.TermLaws.{IsWritten}
 use Rattle.translation_laws.proofs.WrittenLaws.{request_brought}
 use Rattle.translation_laws.proofs.KeptLaws.{IsKept, IsBrought}

@@ -1,7 +1,8 @@
 -- What holds of each node of a group or of quads holds of each term and variable of their pattern and of their template.
-use Rattle.std.proofs.Common.{ℕ, List, [], ◌∷◌, ◌++◌, map, Option, Some, None}
+use Rattle.std.proofs.Common.{ℕ, List, [], ◌∷◌, map, Option, Some, None}
 use Rattle.std.specs.Prelude.{IfSome}
 use Rattle.std.specs.List.{AllByRecursion, flat_map}
+use Rattle.sets.proofs.Every.{all_joined, all_front, all_back}
 use Rattle.terms.specs.declared.term.Term.{Term}
 use Rattle.algebra.specs.Expressions.{Expression}
 use Rattle.algebra.specs.Plans.{Plan, Union, nothing, filtered, united, united_with}
@@ -21,19 +22,6 @@ use Rattle.nodes.specs.Nodes.{nodes_of_property, nodes_of_subject, nodes_of_trip
 use Rattle.group_translation.specs.Triples.{of_property, of_subject, of_triples, place_of, pattern_of, patterns_of, slot_of, graph_of, quad_of, quads_of_block, template_of}
 use Rattle.group_translation.specs.Groups.{value_of, translated_tree, filter_of, filters_of, with_part, with_parts, translated_groups, translated_group, block_in, with_block, with_blocks, quads_pattern}
 use Rattle.translation_laws.specs.Each.{EachOfPlace, EachOfTriple, EachOfExpression, EachOfPlan, EachOfSlot, EachOfQuad}
-
-module _ {A : Type 0} (P : A → Type 0) where
-  pub all_joined : (xs ys : List A) → AllByRecursion P xs → AllByRecursion P ys → AllByRecursion P (xs ++ ys)
-  all_joined [] ys h k = k
-  all_joined (x ∷ xs) ys h k = (h.0, all_joined xs ys h.1 k)
-
-  pub all_front : (xs ys : List A) → AllByRecursion P (xs ++ ys) → AllByRecursion P xs
-  all_front [] ys h = tt
-  all_front (x ∷ xs) ys h = (h.0, all_front xs ys h.1)
-
-  pub all_back : (xs ys : List A) → AllByRecursion P (xs ++ ys) → AllByRecursion P ys
-  all_back [] ys h = h
-  all_back (x ∷ xs) ys h = all_back xs ys h.1
 
 module _ {A B : Type 0} (P : A → Type 0) (Q : B → Type 0) (f : A → List B) (each : (x : A) → P x → AllByRecursion Q (f x)) where
   pub all_gathered : (xs : List A) → AllByRecursion P xs → AllByRecursion Q (flat_map f xs)

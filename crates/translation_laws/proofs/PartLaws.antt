@@ -3,6 +3,7 @@ use Rattle.std.proofs.Common.{◌≡◌, ℕ, zero, suc, ◌+◌, ◌≤◌, tru
 use Rattle.std.proofs.lemmas.List.{length-append}
 use Rattle.std.specs.Prelude.{Bool, IsUtf8}
 use Rattle.std.specs.List.{AllByRecursion, flat_map}
+use Rattle.sets.proofs.Every.{all_joined}
 use Rattle.iris.specs.Iri.{IsIri}
 use Rattle.iris.specs.Forms.{is_tag}
 use Rattle.lexer.specs.declared.token.Token.{Token}
@@ -39,7 +40,6 @@ use Rattle.groups.specs.Reads.{ReadsFront, UnionLink, ReadsPart, ReadsParts, Rea
 use Rattle.grammar.specs.Reads as grammar
 use Rattle.grammar.specs.Reads.{ReadsSilent, ReadsGraph, ReadsTarget, ReadsPlace, ReadsTransfer, ReadsWith, ReadsChange, ReadsOperation, ReadsRequest, most_nested}
 use Rattle.nodes.specs.Nodes.{nodes_of_property, nodes_of_subject, nodes_of_triples, nodes_of_block, nodes_of_blocks, nodes_of_tree, nodes_of_part, nodes_of_parts, nodes_of_groups, nodes_of_target, nodes_of_place, nodes_of_with, nodes_of_operation}
-use Rattle.translation_laws.proofs.NodeLaws.{all_joined}
 
 -- ---- the parts of nodes
 

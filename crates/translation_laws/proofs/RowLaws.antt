@@ -5,6 +5,7 @@ use Rattle.std.specs.Prelude.{IfSome}
 use Rattle.std.specs.List.{AllByRecursion}
 use Rattle.std.specs.declared.cmp.Ordering.{Ordering}
 use Rattle.std.specs.Ordering.{eq_by_cmp}
+use Rattle.sets.proofs.Every.{all_by}
 use Rattle.datasets.specs.Dataset.{Dataset}
 use Rattle.datasets.specs.declared.quad.Quad.{Quad}
 use Rattle.algebra.specs.declared.pattern.Place.{Place}
@@ -14,7 +15,7 @@ use Rattle.meaning.specs.Vocabulary.{Vocabulary}
 use Rattle.meaning.specs.Mapping.{Mapping, term_for, merge, bound_to, fitted}
 use Rattle.meaning.specs.Solutions.{solutions}
 use Rattle.meaning_laws.proofs.Bindings.{length-merge}
-use Rattle.translation_laws.proofs.SolutionLaws.{all_by, if_chosen, solutions_kept}
+use Rattle.translation_laws.proofs.SolutionLaws.{if_chosen, solutions_kept}
 
 module _ {K : Type 0} (R : K → K → Ordering) (width : ℕ) where
   abbrev IsRow : Mapping K → Type 0

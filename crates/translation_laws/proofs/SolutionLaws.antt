@@ -3,8 +3,8 @@ use Rattle.std.proofs.Common.{ℕ, Bool, true, false, cond, List, [], ◌∷◌,
 use Rattle.std.specs.Prelude.{IfSome, filter_map, option_and_then}
 use Rattle.std.specs.List.{AllByRecursion, cons_option}
 use Rattle.std.specs.declared.cmp.Ordering.{Ordering}
-use Rattle.std.specs.declared.cmp.Ordering.TheVariants.{Less, Equal, Greater}
-use Rattle.sets.specs.Sets.{placed, with, set_of, has}
+use Rattle.sets.specs.Sets.{has}
+use Rattle.sets.proofs.Every.{all_joined, all_set_of, all_kept}
 use Rattle.datasets.specs.Dataset.{Dataset, quads_in, same_graph}
 use Rattle.datasets.specs.declared.quad.Quad.{Quad}
 use Rattle.algebra.specs.declared.pattern.Place.{Place}
@@ -15,36 +15,11 @@ use Rattle.algebra.specs.Plans.{Plan, Basic, Join, LeftJoin, Union, Minus, Filte
 use Rattle.meaning.specs.Mapping.{Mapping, empty_mapping, merge, mapping_cmp, fitted, compatible, joined}
 use Rattle.meaning.specs.Operators.{join, union_of, diff}
 use Rattle.meaning.specs.Solutions.{mapping_onto, solutions_among, joined_with, passes_all, solutions}
-use Rattle.translation_laws.proofs.NodeLaws.{all_joined, all_gathered}
+use Rattle.translation_laws.proofs.NodeLaws.{all_gathered}
 
 -- ---- what holds of all members holds of all members of lists made of them
 
 module _ {A : Type 0} (P : A → Type 0) where
-  all_placed : (r : Ordering) (x y : A) (ys further : List A) → P x → P y → AllByRecursion P ys → AllByRecursion P further → AllByRecursion P (placed r x y ys further)
-  all_placed Less x y ys further hx hy h k = (hx, (hy, h))
-  all_placed Equal x y ys further hx hy h k = (hy, h)
-  all_placed Greater x y ys further hx hy h k = (hy, k)
-
-  pub all_with : (R : A → A → Ordering) (x : A) (ys : List A) → P x → AllByRecursion P ys → AllByRecursion P (with R x ys)
-  all_with R x [] hx h = (hx, tt)
-  all_with R x (y ∷ ys) hx h = all_placed (R x y) x y ys (with R x ys) hx h.0 h.1 (all_with R x ys hx h.1)
-
-  pub all_set : (R : A → A → Ordering) (xs : List A) → AllByRecursion P xs → AllByRecursion P (set_of R xs)
-  all_set R [] h = tt
-  all_set R (x ∷ xs) h = all_with R x (set_of R xs) h.0 (all_set R xs h.1)
-
-  pub all_filter : (p : A → Bool) (xs : List A) → AllByRecursion P xs → AllByRecursion P (filter p xs)
-  all_filter p [] h = tt
-  all_filter p (x ∷ xs) h = at (p x) (all_filter p xs h.1)
-    where
-      at : (b : Bool) → AllByRecursion P (filter p xs) → AllByRecursion P (cond b (x ∷ filter p xs) (filter p xs))
-      at true k = (h.0, k)
-      at false k = k
-
-  pub all_by : ((x : A) → P x) → (xs : List A) → AllByRecursion P xs
-  all_by each [] = tt
-  all_by each (x ∷ xs) = (each x, all_by each xs)
-
   pub all_chosen : (b : Bool) (xs : List A) → AllByRecursion P xs → AllByRecursion P (cond b xs [])
   all_chosen true xs h = h
   all_chosen false xs h = tt
@@ -65,10 +40,6 @@ module _ {A : Type 0} (P : A → Type 0) where
       at None e rest = rest
       at (Some y) e rest = (e, rest)
 
-pub all_weaker : {A : Type 0} (P Q : A → Type 0) → ((x : A) → P x → Q x) → (xs : List A) → AllByRecursion P xs → AllByRecursion Q xs
-all_weaker P Q each [] h = tt
-all_weaker P Q each (x ∷ xs) h = (each x h.0, all_weaker P Q each xs h.1)
-
 -- ---- solutions
 
 module _ {K : Type 0} (R : K → K → Ordering) (width : ℕ) (T : K → Type 0) (P : Mapping K → Type 0) (empty : P (empty_mapping width))
@@ -87,17 +58,17 @@ module _ {K : Type 0} (R : K → K → Ordering) (width : ℕ) (T : K → Type 0
       (if_then P (fitted R t.predicate q.predicate) subject (λ m. fits t.predicate q.predicate m h.1) (fits t.subject q.subject (empty_mapping width) h.0 empty))
 
   among_kept : (t : TriplePattern K) (triples : List (Quad K)) → AllByRecursion EachOfTerms triples → Are (solutions_among R width t triples)
-  among_kept t triples h = all_set P (mapping_cmp R) _ (all_found EachOfTerms P (mapping_onto R width t) (onto_kept t) triples h)
+  among_kept t triples h = all_set_of P (mapping_cmp R) _ (all_found EachOfTerms P (mapping_onto R width t) (onto_kept t) triples h)
 
   pair_kept : (a b : Mapping K) → P a → P b → IfSome (joined R a b) P
   pair_kept a b ha hb = if_chosen P (compatible R a b) (merge a b) (merges a b ha hb)
 
   join_kept : (xs ys : List (Mapping K)) → Are xs → Are ys → Are (join R xs ys)
   join_kept xs ys hx hy =
-      all_set P (mapping_cmp R) _ (all_gathered P P (λ a. filter_map (joined R a) ys) (λ a ha. all_found P P (joined R a) (λ b hb. pair_kept a b ha hb) ys hy) xs hx)
+      all_set_of P (mapping_cmp R) _ (all_gathered P P (λ a. filter_map (joined R a) ys) (λ a ha. all_found P P (joined R a) (λ b hb. pair_kept a b ha hb) ys hy) xs hx)
 
   union_kept : (xs ys : List (Mapping K)) → Are xs → Are ys → Are (union_of R xs ys)
-  union_kept xs ys hx hy = all_set P (mapping_cmp R) (xs ++ ys) (all_joined P xs ys hx hy)
+  union_kept xs ys hx hy = all_set_of P (mapping_cmp R) (xs ++ ys) (all_joined P xs ys hx hy)
 
   basic_kept : (found : List (Mapping K)) (ts : List (TriplePattern K)) (triples : List (Quad K)) → Are found → AllByRecursion EachOfTerms triples
       → Are (joined_with R width found ts triples)
@@ -108,20 +79,20 @@ module _ {K : Type 0} (R : K → K → Ordering) (width : ℕ) (T : K → Type 0
   module _ (passes : Expression K → Mapping K → Bool) (d : Dataset K) (quads : AllByRecursion EachOfTerms d.quads) (names : AllByRecursion T d.names) where
     pub solutions_kept : (p : Plan K) (graph : Option K) → Are (solutions R passes width p d graph)
     solutions_kept (Basic ts) graph =
-        basic_kept (empty_mapping width ∷ []) ts (quads_in R graph d.quads) (empty, tt) (all_filter EachOfTerms (λ q. same_graph R q.graph graph) d.quads quads)
+        basic_kept (empty_mapping width ∷ []) ts (quads_in R graph d.quads) (empty, tt) (all_kept EachOfTerms (λ q. same_graph R q.graph graph) d.quads quads)
     solutions_kept (Join a b) graph = join_kept (solutions R passes width a d graph) (solutions R passes width b d graph) (solutions_kept a graph) (solutions_kept b graph)
     solutions_kept (LeftJoin a b es) graph =
         let xs = solutions R passes width a d graph in
         let ys = solutions R passes width b d graph in
         let hx = solutions_kept a graph in
         let test = passes_all passes es in
-        union_kept (filter test (join R xs ys)) (diff R test xs ys) (all_filter P test (join R xs ys) (join_kept xs ys hx (solutions_kept b graph))) (all_filter P _ xs hx)
+        union_kept (filter test (join R xs ys)) (diff R test xs ys) (all_kept P test (join R xs ys) (join_kept xs ys hx (solutions_kept b graph))) (all_kept P _ xs hx)
     solutions_kept (Union a b) graph = union_kept (solutions R passes width a d graph) (solutions R passes width b d graph) (solutions_kept a graph) (solutions_kept b graph)
-    solutions_kept (Minus a b) graph = all_filter P _ (solutions R passes width a d graph) (solutions_kept a graph)
-    solutions_kept (Filter es a) graph = all_filter P (passes_all passes es) (solutions R passes width a d graph) (solutions_kept a graph)
+    solutions_kept (Minus a b) graph = all_kept P _ (solutions R passes width a d graph) (solutions_kept a graph)
+    solutions_kept (Filter es a) graph = all_kept P (passes_all passes es) (solutions R passes width a d graph) (solutions_kept a graph)
     solutions_kept (InGraph (place.Term name) a) graph = all_chosen P (has R d.names name) (solutions R passes width a d (Some name)) (solutions_kept a (Some name))
     solutions_kept (InGraph (place.Variable v) a) graph =
-        all_set P (mapping_cmp R) _
+        all_set_of P (mapping_cmp R) _
         (all_gathered T P (λ name. filter_map (fitted R (place.Variable v) name) (solutions R passes width a d (Some name)))
         (λ name is. all_found P P (fitted R (place.Variable v) name) (λ m. fits (place.Variable v) name m is) (solutions R passes width a d (Some name)) (solutions_kept a (Some name)))
         d.names names)

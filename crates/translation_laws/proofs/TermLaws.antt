@@ -12,8 +12,8 @@ use Rattle.std.proofs.lemmas.List.Elements.{All-from_recursion}
 use Rattle.std.proofs.lemmas.Map.Views.{All-values-insert_entry, IfSome-lookup_from_All}
 use Rattle.iris.specs.Iri.{is_digit, IsIri}
 use Rattle.iris.specs.Forms.{is_tag}
+use Rattle.iris.proofs.ByteLaws.{digit_small}
 use Rattle.lexer.specs.Names.{AreDigits}
-use Rattle.lexer.proofs.ByteLaws.{digit_small}
 use Rattle.lexer.proofs.IriLaws.{iri_with_local}
 use Rattle.terms.specs.Literal.{LiteralValue, IsLiteral}
 use Rattle.terms.specs.Vocabulary.{xsd_string, lang_string, rdf_type, xsd_integer, xsd_boolean}

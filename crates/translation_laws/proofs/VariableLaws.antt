@@ -1,12 +1,14 @@
 -- The numbers of variables, against the width of their operation.
 use Rattle.std.proofs.Common.{◌≡◌, ℕ, suc, ◌<◌, ◌≤◌, Bool, true, false, ◌||◌, cond, List, [], ◌∷◌, length, slice_get, unwrap_or, Option, Some, None, refl, sym, ap, ◌∙◌, subst, arith}
-use Rattle.std.proofs.lemmas.Bool.{false≢true}
+use Rattle.std.proofs.lemmas.Bool.{false≢true, or_cases, or_right}
 use Rattle.std.specs.Prelude.{◌↔◌, filter_map, IfSome}
 use Rattle.std.proofs.lemmas.Bool.{eqb-true}
 use Rattle.std.specs.List.{AllByRecursion, Contains, list_any}
 use Rattle.std.specs.Ordering.{is_eq, eq_by_cmp}
 use Rattle.std.specs.Cmp.{tied_itself, eq_by_cmp_equiv, Equal-is}
 use Rattle.std.proofs.lemmas.Map.Views.{list_any-from_Contains}
+use Rattle.std.proofs.Math.Logic.{⊎_elim}
+use Rattle.std.proofs.lemmas.Option.{same_Some}
 use Rattle.sets.specs.Sets.{has}
 use Rattle.sets.proofs.SetLaws.{has-set_of}
 use Rattle.terms.specs.declared.term.Term.{Term}
@@ -28,6 +30,7 @@ use Rattle.syntax_trees.specs.declared.tree.Step.TheVariants as step
 use Rattle.syntax_trees.specs.Groups.{group}
 use Rattle.names.specs.Names.{Prefixes, declare}
 use Rattle.names.specs.Numbers.{Labels, variable_of, variables_of, number_of, labels_of, with_labels}
+use Rattle.names.proofs.NumberLaws.{none_is}
 use Rattle.nodes.specs.Nodes.{nodes_of_blocks, nodes_of_where, nodes_of_operation}
 use Rattle.group_translation.specs.Triples.{template_of}
 use Rattle.translation.specs.Translation.{operation_with, translated_after, translated}
@@ -51,14 +54,6 @@ number_below (w ∷ ws) v e = at (is_eq (text_cmp v w)) e (number_below ws v)
     at true e h = omega arith
     at false e h = let lt = h e in omega (arith, lt)
 
-number_beyond : (ws : List (List ℕ)) (v : List ℕ) → has text_cmp ws v ≡ false → number_of ws v ≡ length ws
-number_beyond [] v e = refl
-number_beyond (w ∷ ws) v e = at (is_eq (text_cmp v w)) e (number_beyond ws v)
-  where
-    at : (b : Bool) → (b || has text_cmp ws v) ≡ false → (has text_cmp ws v ≡ false → number_of ws v ≡ length ws) → cond b 0 (suc (number_of ws v)) ≡ suc (length ws)
-    at true e h = absurd (false≢true (sym e))
-    at false e h = ap suc (h e)
-
 number_within : (ws : List (List ℕ)) (v : List ℕ) → number_of ws v ≤ length ws
 number_within [] v = omega arith
 number_within (w ∷ ws) v = at (is_eq (text_cmp v w)) (number_within ws v)
@@ -78,11 +73,7 @@ KnownIn vs ns = (v : List ℕ) → has text_cmp (names_of ns) v ≡ true → num
 all_known : (ds : Prefixes) (vs : List (List ℕ)) (ns : List Node) → KnownIn vs ns → AllByRecursion (EachOfNode ds vs (λ t. Unit {0}) (λ v. v < length vs)) ns
 all_known ds vs [] h = tt
 all_known ds vs (node.Variable v ∷ ns) h =
-    (h v (ap (λ r. is_eq r || has text_cmp (names_of ns) v) (tied_itself text_total v)), all_known ds vs ns (λ w e. h w (later (eq_by_cmp text_cmp w v) (has text_cmp (names_of ns) w) e)))
-  where
-    later : (a b : Bool) → b ≡ true → (a || b) ≡ true
-    later true b e = refl
-    later false b e = e
+    (h v (ap (λ r. is_eq r || has text_cmp (names_of ns) v) (tied_itself text_total v)), all_known ds vs ns (λ w e. h w (or_right (eq_by_cmp text_cmp w v) (has text_cmp (names_of ns) w) e)))
 all_known ds vs (node.Name n ∷ ns) h = (tt, all_known ds vs ns h)
 all_known ds vs (node.Type ∷ ns) h = (tt, all_known ds vs ns h)
 all_known ds vs (node.Blank l ∷ ns) h = (tt, all_known ds vs ns h)
@@ -138,10 +129,6 @@ within_width steps = steps_within [] steps
 
 -- ---- basic graph patterns
 
-or_cases : (a b : Bool) → (a || b) ≡ true → (C : Type 0) → (a ≡ true → C) → (b ≡ true → C) → C
-or_cases true b e C f g = f refl
-or_cases false b e C f g = g e
-
 module _ {K : Type 0} (width : ℕ) where
   place_below : (x : ℕ) (p : Place K) → EachOfPlace (λ t. Unit {0}) (λ v. v < width) p → is_variable x p ≡ true → x < width
   place_below x (place.Term t) h e = absurd (false≢true e)
@@ -149,12 +136,13 @@ module _ {K : Type 0} (width : ℕ) where
 
   triple_below : (x : ℕ) (t : TriplePattern K) → EachOfTriple (λ t. Unit {0}) (λ v. v < width) t → stands_in x t ≡ true → x < width
   triple_below x t h e =
-      or_cases (is_variable x t.subject) (is_variable x t.predicate || is_variable x t.object) e (x < width) (place_below x t.subject h.0)
-      (λ f. or_cases (is_variable x t.predicate) (is_variable x t.object) f (x < width) (place_below x t.predicate h.1) (place_below x t.object h.2))
+      ⊎_elim (place_below x t.subject h.0)
+      (λ f. ⊎_elim (place_below x t.predicate h.1) (place_below x t.object h.2) (or_cases (is_variable x t.predicate) (is_variable x t.object) f))
+      (or_cases (is_variable x t.subject) (is_variable x t.predicate || is_variable x t.object) e)
 
   triples_below : (x : ℕ) (ts : List (TriplePattern K)) → AllByRecursion (EachOfTriple (λ t. Unit {0}) (λ v. v < width)) ts → list_any (stands_in x) ts ≡ true → x < width
   triples_below x [] h e = absurd (false≢true e)
-  triples_below x (t ∷ ts) h e = or_cases (stands_in x t) (list_any (stands_in x) ts) e (x < width) (triple_below x t h.0) (triples_below x ts h.1)
+  triples_below x (t ∷ ts) h e = ⊎_elim (triple_below x t h.0) (triples_below x ts h.1) (or_cases (stands_in x t) (list_any (stands_in x) ts) e)
 
   each_basic : (P : List (TriplePattern K) → Type 0) → ((ts : List (TriplePattern K)) → AllByRecursion (EachOfTriple (λ t. Unit {0}) (λ v. v < width)) ts → P ts)
       → (p : Plan K) → EachOfPlan (λ t. Unit {0}) (λ v. v < width) p → EachBasic P p
@@ -187,8 +175,9 @@ variable_is x y e = text_exact x y ((Equal-is (text_cmp x y)).0 e)
 from_names : (ns : List Node) (v : List ℕ) → has text_cmp (names_of ns) v ≡ true → Contains ns (node.Variable v)
 from_names [] v e = absurd (false≢true e)
 from_names (node.Variable w ∷ ns) v e =
-    or_cases (eq_by_cmp text_cmp v w) (has text_cmp (names_of ns) v) e (Contains (node.Variable w ∷ ns) (node.Variable v))
-    (λ same. subst (λ u. Contains (node.Variable u ∷ ns) (node.Variable v)) (variable_is v w same) (here (node.Variable v) ns)) (λ f. there (node.Variable w) ns (node.Variable v) (from_names ns v f))
+    ⊎_elim (λ same. subst (λ u. Contains (node.Variable u ∷ ns) (node.Variable v)) (variable_is v w same) (here (node.Variable v) ns))
+    (λ f. there (node.Variable w) ns (node.Variable v) (from_names ns v f))
+    (or_cases (eq_by_cmp text_cmp v w) (has text_cmp (names_of ns) v) e)
 from_names (node.Name n ∷ ns) v e = there (node.Name n) ns (node.Variable v) (from_names ns v e)
 from_names (node.Type ∷ ns) v e = there node.Type ns (node.Variable v) (from_names ns v e)
 from_names (node.Blank l ∷ ns) v e = there (node.Blank l) ns (node.Variable v) (from_names ns v e)
@@ -202,14 +191,14 @@ below_exactly ns v = (from (has text_cmp (names_of ns) v) refl, λ c. number_bel
   where
     from : (b : Bool) → has text_cmp (names_of ns) v ≡ b → number_of (variables_of ns) v < length (variables_of ns) → Contains ns (node.Variable v)
     from true e lt = from_names ns v e
-    from false e lt = let is = number_beyond (variables_of ns) v (has-set_of text_total v (names_of ns) ∙ e) in absurd (omega (arith, lt, is))
+    from false e lt = let is = none_is (variables_of ns) v (has-set_of text_total v (names_of ns) ∙ e) in absurd (omega (arith, lt, is))
 
 pub beyond_otherwise : (ns : List Node) (v : List ℕ) → (Contains ns (node.Variable v) → ⊥) → number_of (variables_of ns) v ≡ length (variables_of ns)
 beyond_otherwise ns v none = from (has text_cmp (names_of ns) v) refl
   where
     from : (b : Bool) → has text_cmp (names_of ns) v ≡ b → number_of (variables_of ns) v ≡ length (variables_of ns)
     from true e = absurd (none (from_names ns v e))
-    from false e = number_beyond (variables_of ns) v (has-set_of text_total v (names_of ns) ∙ e)
+    from false e = none_is (variables_of ns) v (has-set_of text_total v (names_of ns) ∙ e)
 
 -- at its number stands the variable itself
 at_number : (ws : List (List ℕ)) (v : List ℕ) → has text_cmp ws v ≡ true → slice_get ws (number_of ws v) ≡ Some v
@@ -226,7 +215,4 @@ known ns v c = has-set_of text_total v (names_of ns) ∙ to_names ns v c
 
 pub apart_by_number : (ns : List Node) (v w : List ℕ) → Contains ns (node.Variable v) → Contains ns (node.Variable w) → number_of (variables_of ns) v ≡ number_of (variables_of ns) w → v ≡ w
 apart_by_number ns v w cv cw e =
-    some-is (sym (at_number (variables_of ns) v (known ns v cv)) ∙ ap (slice_get (variables_of ns)) e ∙ at_number (variables_of ns) w (known ns w cw))
-  where
-    some-is : {x y : List ℕ} → Some x ≡ Some y → x ≡ y
-    some-is {x} e = ap (λ o. unwrap_or o x) e
+    same_Some v w (sym (at_number (variables_of ns) v (known ns v cv)) ∙ ap (slice_get (variables_of ns)) e ∙ at_number (variables_of ns) w (known ns w cw))

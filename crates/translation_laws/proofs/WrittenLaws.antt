@@ -1,10 +1,11 @@
 -- The terms of an accepted request are IRIs and literals in their forms, and so is what it brings into a dataset.
-use Rattle.std.proofs.Common.{◌≡◌, ℕ, ◌≤◌, ◌^◌, Bool, true, false, ◌&&◌, List, [], ◌∷◌, ◌++◌, length, Option, Some, None, Ok, refl, sym, ap, ◌∙◌, subst, arith}
+use Rattle.std.proofs.Common.{◌≡◌, ℕ, ◌≤◌, ◌^◌, true, false, ◌&&◌, List, [], ◌∷◌, ◌++◌, length, Option, Some, None, Ok, refl, sym, ap, ◌∙◌, subst, arith}
 use Rattle.std.specs.Prelude.{IfSome, nat_lt}
 use Rattle.std.proofs.lemmas.Bool.{false≢true, or_parts, ltb-false}
 use Rattle.std.proofs.lemmas.List.Elements.{recursion_from_All}
 use Rattle.std.specs.Option.{option_map, option_to_list}
 use Rattle.std.specs.List.{AllByRecursion, flat_map, list_any, list_all}
+use Rattle.sets.proofs.Every.{none_passes, all_joined, all_front, all_back}
 use Rattle.lexer.specs.declared.token.Token.{Token}
 use Rattle.lexer.specs.Form.{HasParts}
 use Rattle.lexer.proofs.IriLaws.{tokens_have_parts}
@@ -51,7 +52,7 @@ use Rattle.rules.specs.Terms.{terms_of_slot, terms_of_graph, terms_of_quad, term
 use Rattle.translation_laws.specs.Each.{EachOfPlace, EachOfTriple, EachOfExpression, EachOfPlan, EachOfSlot, EachOfQuad}
 use Rattle.translation_laws.specs.Written.{is_name_or_literal}
 use Rattle.translation_laws.specs.Formed.{EachBrought, IsFormedRequest}
-use Rattle.translation_laws.proofs.NodeLaws.{all_joined, all_gathered, all_front, all_back, EachOfNode, EachOfSlotNode, group_each, quads_each, template_each}
+use Rattle.translation_laws.proofs.NodeLaws.{all_gathered, EachOfNode, EachOfSlotNode, group_each, quads_each, template_each}
 use Rattle.translation_laws.proofs.GrammarLaws.{AreUnblank, group_unblank}
 use Rattle.translation_laws.proofs.PartLaws.{StepParts, request_parts}
 use Rattle.translation_laws.proofs.TokenLaws.{tokens_fewer}
@@ -251,10 +252,6 @@ module _ (T G : Term → Type 0) (term : (t : Term) → IsWritten t → T t) (na
 
 -- ---- requests
 
-none_of : {A : Type 0} (p : A → Bool) (xs : List A) → list_any p xs ≡ false → AllByRecursion (λ x. p x ≡ false) xs
-none_of p [] e = tt
-none_of p (x ∷ xs) e = let h = or_parts (p x) (list_any p xs) e in (h.0, none_of p xs h.1)
-
 -- no blank node stands in the group of its WHERE
 abbrev GroupUnblank : Operation → Type 0
 GroupUnblank (operation.Create silent n) = Unit {0}
@@ -277,7 +274,7 @@ where_unblank (operation.Clear silent t) e h = tt
 where_unblank (operation.Transfer how silent from to) e h = tt
 where_unblank (operation.InsertData qs) e h = tt
 where_unblank (operation.DeleteData qs) e h = tt
-where_unblank (operation.DeleteWhere qs) e h = none_of is_blank (nodes_of_blocks qs) e
+where_unblank (operation.DeleteWhere qs) e h = none_passes is_blank (nodes_of_blocks qs) e
 where_unblank (operation.Modify with xs ys g) e h = h
 
 -- the nodes of an operation that nothing is refused for are fine
@@ -285,7 +282,7 @@ operation_fine : (ds : Prefixes) (most : ℕ) (op : Operation) → AreIris ds �
     → AllByRecursion (IsFine ds) (nodes_of_operation op)
 operation_fine ds most op iris parts l u =
     let ns = nodes_of_operation op in
-    nodes_fine ds iris ns parts.0 (none_of (is_lang_node ds) ns l) (none_of (is_undeclared_node ds) ns u)
+    nodes_fine ds iris ns parts.0 (none_passes (is_lang_node ds) ns l) (none_passes (is_undeclared_node ds) ns u)
 
 steps_written : (most : ℕ) (ds : Prefixes) (steps : List Step) → AreIris ds → AllByRecursion (StepParts most) steps → any_refused refusal.Syntax ds steps ≡ false
     → any_refused refusal.Prefix ds steps ≡ false → any_refused refusal.BlankInDelete ds steps ≡ false → AllByRecursion StepUnblank steps

@@ -1,6 +1,8 @@
 -- Nodes: what is read is in the grammar, and what is in it is read.
 use Rattle.std.proofs.Common.{◌≡◌, ℕ, true, List, [], ◌∷◌, Some, refl, sym, ap, ◌∙◌, subst, arith}
 use Rattle.std.proofs.lemmas.Bool.{eqb-true}
+use Rattle.std.proofs.lemmas.Option.{same_Some}
+use Rattle.iris.proofs.Options.{bind_some, chosen}
 use Rattle.lexer.specs.declared.token.Token.{Token}
 use Rattle.lexer.specs.declared.token.Token.TheVariants as token
 use Rattle.syntax_trees.specs.declared.tree.Node.{Node}
@@ -8,7 +10,6 @@ use Rattle.syntax_trees.specs.declared.tree.Node.TheVariants as node
 use Rattle.productions.specs.Steps.{Production, Found, Takes, Again}
 use Rattle.productions.specs.Names.{ReadsName, iri, prefixed, ReadsLiteral, plain, tagged, typed, integer, is_true, is_false}
 use Rattle.productions.specs.Reading.{name_at, literal_at}
-use Rattle.productions.proofs.StepLaws.{bind_some, some_is, chosen}
 use Rattle.productions.proofs.NameLaws.{name_found, name_takes, literal_found, literal_takes, literal_again}
 use Rattle.triples.specs.Reads.{ReadsNode, ReadsGraphName, ReadsVerb, ReadsObject, is_a}
 use Rattle.triples.specs.Reads as reads
@@ -16,7 +17,7 @@ use Rattle.triples.specs.Reading.{named_at, node_at, graph_name_at, verb_at, val
 
 -- what a production reads at the front of ts, seen at what was found
 abbrev pub moved : {A : Type 0} (P : Production A) (ts : List Token) (x y : A × List Token) → Some x ≡ Some y → P ts x.0 x.1 → P ts y.0 y.1
-moved {A} P ts x y e p = subst (λ (z : A × List Token). P ts z.0 z.1) (some_is x y e) p
+moved {A} P ts x y e p = subst (λ (z : A × List Token). P ts z.0 z.1) (same_Some x y e) p
 
 -- ---- what is read is in the grammar
 

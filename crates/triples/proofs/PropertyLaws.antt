@@ -1,13 +1,13 @@
 -- Objects and properties: what is read is in the grammar, and what is in it is read.
 use Rattle.std.proofs.Common.{◌≡◌, Bool, true, false, List, ◌∷◌, length, Some, refl, ap, ◌∙◌, arith}
 use Rattle.iris.specs.Bracketed.{◌>>=◌}
+use Rattle.iris.proofs.Options.{bind_some}
 use Rattle.lexer.specs.declared.token.Token.{Token}
 use Rattle.lexer.specs.declared.token.Token.TheVariants as token
 use Rattle.lexer.specs.declared.token.Sign.TheVariants as signs
 use Rattle.syntax_trees.specs.declared.tree.Property.{Property}
 use Rattle.productions.specs.Steps.{Found, Takes}
 use Rattle.productions.specs.Many.{many}
-use Rattle.productions.proofs.StepLaws.{bind_some}
 use Rattle.productions.proofs.ManyLaws.{Consumes, Sounds, many_found, Completes, many_again}
 use Rattle.triples.specs.Reads.{ReadsObject, ObjectLink, comma, no_comma, ReadsObjects, ReadsProperty, property, PropertyLink, semicolon, again, no_semicolon, ReadsProperties, is_a}
 use Rattle.triples.specs.Reading.{verb_at, object_at, begins_verb, object_link, skip_semicolons, property_link, objects_at, property_at}

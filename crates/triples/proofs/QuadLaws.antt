@@ -4,6 +4,7 @@ use Rattle.std.specs.Prelude.{codes}
 use Rattle.std.specs.Option.{option_map_or}
 use Rattle.std.proofs.lemmas.List.{append-nil}
 use Rattle.iris.specs.Bracketed.{◌>>=◌}
+use Rattle.iris.proofs.Options.{bind_some}
 use Rattle.lexer.specs.declared.token.Token.{Token}
 use Rattle.lexer.specs.declared.token.Token.TheVariants as token
 use Rattle.lexer.specs.declared.token.Sign.TheVariants as signs
@@ -15,7 +16,6 @@ use Rattle.syntax_trees.specs.declared.tree.Block.{Block}
 use Rattle.productions.specs.Steps.{Found, Takes, Again, Fails, Gives}
 use Rattle.productions.specs.Keywords.{is_keyword, keyword_at, ReadsKeyword, keyword}
 use Rattle.productions.specs.Signs.{sign_at}
-use Rattle.productions.proofs.StepLaws.{bind_some}
 use Rattle.productions.proofs.SignLaws.{sign_found}
 use Rattle.productions.proofs.KeywordLaws.{reads_keyword, keyword_again, keyword_takes}
 use Rattle.triples.specs.Laws.{AgainBefore}
@@ -37,7 +37,7 @@ maybe_keeps : {ts rest : List Token} {xs : List SameSubject} → ReadsMaybeTripl
 maybe_keeps none = omega arith
 maybe_keeps (some {ts} {rest} {xs} m) = let taken = triples_takes ts xs rest m in omega arith
 
-dot_keeps : {ts rest : List Token} → ReadsMaybeDot ts rest → length rest ≤ length ts
+pub dot_keeps : {ts rest : List Token} → ReadsMaybeDot ts rest → length rest ≤ length ts
 dot_keeps dot = omega arith
 dot_keeps no_dot = omega arith
 
@@ -65,7 +65,7 @@ quads_takes _ _ _ (quads {ts} {r} {rest} {xs} {later} first more) =
 
 -- ---- what is read is in the grammar
 
-dot_found : (ts : List Token) → ReadsMaybeDot ts (after_dot ts)
+pub dot_found : (ts : List Token) → ReadsMaybeDot ts (after_dot ts)
 dot_found ts =
     elim (sign_at signs.Dot ts) as (λ o. sign_at signs.Dot ts ≡ o → ReadsMaybeDot ts (option_map_or (λ r. r) o ts)) [
       | None ↦ λ q. no_dot
@@ -168,7 +168,7 @@ quads_found ts x e =
 
 -- ---- what is in the grammar is read
 
-dot_again : {ts rest : List Token} → ReadsMaybeDot ts rest → sign_at signs.Dot rest ≡ None → after_dot ts ≡ rest
+pub dot_again : {ts rest : List Token} → ReadsMaybeDot ts rest → sign_at signs.Dot rest ≡ None → after_dot ts ≡ rest
 dot_again dot ends = refl
 dot_again no_dot ends = rw ends refl
 

@@ -1,13 +1,13 @@
 -- Triples: what is read is in the grammar, and what is in it is read.
 use Rattle.std.proofs.Common.{◌≡◌, Bool, true, false, cond, List, [], ◌∷◌, length, Some, refl, ap, arith}
 use Rattle.iris.specs.Bracketed.{◌>>=◌}
+use Rattle.iris.proofs.Options.{bind_some}
 use Rattle.lexer.specs.declared.token.Token.{Token}
 use Rattle.lexer.specs.declared.token.Token.TheVariants as token
 use Rattle.lexer.specs.declared.token.Sign.TheVariants as signs
 use Rattle.syntax_trees.specs.declared.tree.SameSubject.{SameSubject}
 use Rattle.productions.specs.Steps.{Found, Takes}
 use Rattle.productions.specs.Many.{many}
-use Rattle.productions.proofs.StepLaws.{bind_some}
 use Rattle.productions.proofs.ManyLaws.{Consumes, Sounds, many_found, Completes, many_again}
 use Rattle.triples.specs.Laws.{AgainBefore}
 use Rattle.triples.specs.Reads.{ReadsSame, same, TripleLink, dot, last_dot, no_dot, ReadsTriples, ReadsMaybeTriples, none, some, EndsTriples, at_open, at_close, at_word}

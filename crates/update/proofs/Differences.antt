@@ -6,8 +6,9 @@ use Rattle.std.specs.List.Sorted.{IsStrictlySortedBy}
 use Rattle.std.specs.declared.cmp.Ordering.{Ordering}
 use Rattle.std.specs.declared.cmp.Ordering.TheVariants.{Equal}
 use Rattle.std.specs.Cmp.{IsTotalOrder}
+use Rattle.std.proofs.Math.Bool.{and-not_self}
 use Rattle.sets.specs.Sets.{has, set_of, union, without}
-use Rattle.sets.proofs.SetLaws.{same_set, sorted-set_of, sorted-empty, has-set_of, has-union, has-filter, has-without}
+use Rattle.sets.proofs.SetLaws.{same_set, sorted-set_of, sorted-empty, has-set_of, has-filter, has-without, has-after}
 use Rattle.datasets.specs.Dataset.{quad_order}
 use Rattle.datasets.specs.Id.{id_order, id_total, id_exact, quad_total, quad_exact}
 use Rattle.reads.specs.Reads.{View, Delta, IsDataset, no_change, applied}
@@ -41,10 +42,6 @@ and_back true false = refl
 and_back false true = refl
 and_back false false = refl
 
-never_both : (d : Bool) → (d && not d) ≡ false
-never_both true = refl
-never_both false = refl
-
 as_it_was : (d : Bool) → ((d && not false) || false) ≡ d
 as_it_was true = refl
 as_it_was false = refl
@@ -52,9 +49,6 @@ as_it_was false = refl
 -- ---- sets
 
 module _ {A : Type 0} {R : A → A → Ordering} (total : IsTotalOrder R) (exact : (x y : A) → R x y ≡ Equal → x ≡ y) where
-  pub has_after : (ds gone come : List A) (x : A) → has R (union R (without R ds gone) come) x ≡ ((has R ds x && not (has R gone x)) || has R come x)
-  has_after ds gone come x = has-union total x (without R ds gone) come ∙ ap (λ b. b || has R come x) (has-without total exact x ds gone)
-
   -- what really comes
   pub new_is : (ds gone come : List A) → set_of R (without R come ds) ≡ without R (union R (without R ds gone) come) ds
   new_is ds gone come =
@@ -65,7 +59,7 @@ module _ {A : Type 0} {R : A → A → Ordering} (total : IsTotalOrder R) (exact
       has-set_of total x (without R come ds)
       ∙ has-without total exact x come ds
       ∙ new_only (has R ds x) (has R gone x) (has R come x)
-      ∙ sym (has-without total exact x after ds ∙ ap (λ b. b && not (has R ds x)) (has_after ds gone come x)))
+      ∙ sym (has-without total exact x after ds ∙ ap (λ b. b && not (has R ds x)) (has-after total exact x ds gone come)))
 
   -- what really goes
   pub lost_is : (ds gone come : List A) → IsStrictlySortedBy R ds → set_of R (filter (has R ds) (without R gone come)) ≡ without R ds (union R (without R ds gone) come)
@@ -78,7 +72,7 @@ module _ {A : Type 0} {R : A → A → Ordering} (total : IsTotalOrder R) (exact
       ∙ has-filter total exact (has R ds) x (without R gone come)
       ∙ ap (λ b. b && has R ds x) (has-without total exact x gone come)
       ∙ lost_only (has R ds x) (has R gone x) (has R come x)
-      ∙ sym (has-without total exact x ds after ∙ ap (λ b. has R ds x && not b) (has_after ds gone come x)))
+      ∙ sym (has-without total exact x ds after ∙ ap (λ b. has R ds x && not b) (has-after total exact x ds gone come)))
 
   -- the difference leads there
   pub leads : (ds es : List A) → IsStrictlySortedBy R es → union R (without R ds (without R ds es)) (without R es ds) ≡ es
@@ -86,19 +80,19 @@ module _ {A : Type 0} {R : A → A → Ordering} (total : IsTotalOrder R) (exact
       let kept : List A = without R ds (without R ds es) in
       same_set total exact (union R kept (without R es ds)) es (sorted-set_of total (kept ++ without R es ds)) s
       (λ x.
-      has_after ds (without R ds es) (without R es ds) x
+      has-after total exact x ds (without R ds es) (without R es ds)
       ∙ (λ i. (has R ds x && not (has-without total exact x ds es i)) || has-without total exact x es ds i)
       ∙ and_back (has R ds x) (has R es x))
 
   pub nothing_differs : (ds : List A) → IsStrictlySortedBy R ds → without R ds ds ≡ []
   nothing_differs ds s =
       same_set total exact (without R ds ds) [] (IsStrictlySortedBy-filter R (λ x. not (has R ds x)) ds s) (sorted-empty R)
-      (λ x. has-without total exact x ds ds ∙ never_both (has R ds x))
+      (λ x. has-without total exact x ds ds ∙ and-not_self (has R ds x))
 
   pub unchanged : (ds : List A) → IsStrictlySortedBy R ds → union R (without R ds []) [] ≡ ds
   unchanged ds s =
       same_set total exact (union R (without R ds []) []) ds (sorted-set_of total (without R ds [] ++ [])) s
-      (λ x. has_after ds [] [] x ∙ as_it_was (has R ds x))
+      (λ x. has-after total exact x ds [] [] ∙ as_it_was (has R ds x))
 
 -- ---- datasets
 

@@ -1,6 +1,7 @@
 -- The effect of an operation, and of one operation more.
 use Rattle.std.specs.Prelude.{Bool, true, false, ℕ, nat_lt, if◌then◌else◌, filter}
-use Rattle.std.proofs.Common.{◌≡◌, ◌+◌, ◌≤◌, ◌<◌, List, [], ◌∷◌, length, drop, get_or, Result, Ok, Err, Some, None, refl, sym, ap, ◌∙◌, arith, drop-cons, add-one}
+use Rattle.std.proofs.Common.{◌≡◌, ◌+◌, ◌≤◌, ◌<◌, List, [], ◌∷◌, length, drop, get_or, Result, Ok, Err, Some, None, refl, sym, ap, ◌∙◌, arith}
+use Rattle.std.proofs.lemmas.List.{drop_more}
 use borrow.Author.Tests.{ltb-true}
 use Rattle.datasets.specs.Dataset.{Dataset}
 use Rattle.meaning.specs.Vocabulary.{Vocabulary}
@@ -52,9 +53,6 @@ module _ {K : Type 0} (V : Vocabulary K) (request : ℕ) where
       above true xs e = refl
       above false xs e = absurd (cc)
 
-  split : (ops : List (Operation K)) (i : ℕ) (d : Operation K) → i < length ops → drop i ops ≡ get_or ops i d ∷ drop (i + 1) ops
-  split ops i d h = rw add-one (drop-cons ops i d h)
-
   -- one operation more
   pub performed_more : (ops : List (Operation K)) (i place : ℕ) (op : Operation K) (now next : Dataset K) (all : Result (Dataset K) Failure) → i < length ops → op ≡ get_or ops i op
       → Ok next ≡ effect_of V request place op now
@@ -63,7 +61,7 @@ module _ {K : Type 0} (V : Vocabulary K) (request : ℕ) where
   performed_more ops i place op now next all h is effect before =
       let rest = performed V request (place + 1) (drop (i + 1) ops) in
       ap (λ e. then_next V place e rest) (effect ∙ ap (λ o. effect_of V request place o now) is)
-      ∙ ap (λ os. performed V request place os now) (sym (split ops i op h))
+      ∙ ap (λ os. performed V request place os now) (sym (drop_more ops i op h))
       ∙ before
 
   -- the failing operation
@@ -74,5 +72,5 @@ module _ {K : Type 0} (V : Vocabulary K) (request : ℕ) where
   performed_fails ops i place op now cause all h is effect before =
       let rest = performed V request (place + 1) (drop (i + 1) ops) in
       ap (λ e. then_next V place e rest) (effect ∙ ap (λ o. effect_of V request place o now) is)
-      ∙ ap (λ os. performed V request place os now) (sym (split ops i op h))
+      ∙ ap (λ os. performed V request place os now) (sym (drop_more ops i op h))
       ∙ before

@@ -1,15 +1,17 @@
 -- What operations on whole graphs change by themselves leads where they lead.
 use Rattle.std.specs.Prelude.{Bool, true, false, not, filter, map, if◌then◌else◌, is_some, is_none}
-use Rattle.std.proofs.Common.{◌≡◌, List, [], ◌∷◌, ◌++◌, Option, Some, None, Ok, Err, refl, sym, ap, ◌∙◌}
-use Rattle.std.proofs.lemmas.Bool.{false≢true}
+use Rattle.std.proofs.Common.{◌≡◌, List, [], ◌∷◌, Option, Some, None, Ok, Err, refl, sym, ap, ◌∙◌}
+use Rattle.std.proofs.lemmas.Bool.{false≢true, or_cases}
 use Rattle.sets.specs.Sets.{has, set_of, union, with, without}
-use Rattle.sets.proofs.SetLaws.{sorted-set_of, exact_by}
+use Rattle.sets.proofs.SetLaws.{exact_by}
+use Rattle.sets.proofs.Filters.{filter_twice}
 use Rattle.change_laws.specs.Laws.{IsRising}
 use Rattle.datasets.specs.declared.id.Id.{Id}
 use Rattle.datasets.specs.declared.quad.Quad.{Quad}
 use Rattle.datasets.specs.Dataset.{same_graph, quad_order, quads_in, is_there, matches}
 use Rattle.datasets.specs.Id.{id_order, id_total, id_exact, quad_total, quad_exact, option_exact}
 use Rattle.std.specs.Cmp.Lexicographic.{options_total}
+use Rattle.std.proofs.Math.Logic.{⊎_elim}
 use Rattle.algebra.specs.declared.update.Target.{Target}
 use Rattle.algebra.specs.declared.update.Target.TheVariants as target
 use Rattle.algebra.specs.declared.update.Transfer.{Transfer}
@@ -17,26 +19,10 @@ use Rattle.algebra.specs.declared.update.Transfer.TheVariants as transfer
 use Rattle.algebra.specs.declared.update.GraphOperation.TheVariants as graphs
 use Rattle.meaning.specs.GraphOperations.{graphs_after, in_graph, moved_to, transferred, with_name, without_name, dropped, cleared}
 use Rattle.meaning.specs.declared.reply.Cause.TheVariants.{GraphExists, GraphMissing}
-use Rattle.reads.specs.Reads.{View, Delta, no_change, applied}
+use Rattle.reads.specs.Reads.{View, Delta, applied}
 use Rattle.update.specs.Graphs.{target_of, is_among, quads_of, names_of, is_target_there, place_of, whole, leaving, name_list, name_leaving}
 use Rattle.update.proofs.Differences.{unchanged, nothing_differs}
-use Rattle.update.proofs.GraphLaws.{or_cases, taken_out, these_out, these_in, one_in, these_for, these_moved, one_moved}
-
--- what follows a change rises
-pub rises_after : (c : Delta) (d : View) → IsRising id_order (applied c d)
-unfolding applied
-rises_after c d = record {
-  quads = sorted-set_of (quad_total id_total) (without (quad_order id_order) d.quads c.absent ++ c.present);
-  names = sorted-set_of id_total (without id_order d.names c.gone ++ c.there);
-}
-
--- no change leaves it
-pub nothing_happens : (d : View) → IsRising id_order d → applied no_change d ≡ d
-unfolding applied
-nothing_happens d s =
-    let quads = unchanged (quad_total id_total) (quad_exact id_order id_exact) d.quads s.quads in
-    let names = unchanged id_total id_exact d.names s.names in
-    λ i. record { quads = quads i; names = names i }
+use Rattle.update.proofs.GraphLaws.{taken_out, these_out, these_in, one_in, these_for, these_moved, one_moved}
 
 -- ---- which graphs are named
 
@@ -66,19 +52,6 @@ scan_among target.Default q e = sym (among_one None q.graph) ∙ e
 scan_among target.Named q e = refl
 scan_among target.All q e = refl
 
-never : (b : Bool) → (b ≡ true → false ≡ true) → b ≡ false
-never true f = sym (f refl)
-never false f = refl
-
-filter_if : {A : Type 0} (p : A → Bool) (x : A) (ys zs : List A) (b : Bool) → (p x ≡ true → b ≡ true) → filter p ys ≡ filter p zs → filter p (if b then x ∷ ys else ys) ≡ filter p (x ∷ zs)
-filter_if p x ys zs true f e = ap (λ ws. if p x then x ∷ ws else ws) e
-filter_if p x ys zs false f e = e ∙ ap (λ c. if c then x ∷ filter p zs else filter p zs) (sym (never (p x) f))
-
--- a test, after one that all who pass it pass
-filter_twice : {A : Type 0} (p m : A → Bool) → ((x : A) → p x ≡ true → m x ≡ true) → (xs : List A) → filter p (filter m xs) ≡ filter p xs
-filter_twice p m f [] = refl
-filter_twice p m f (x ∷ xs) = filter_if p x (filter m xs) xs (m x) (f x) (filter_twice p m f xs)
-
 pub scanned_of : (t : Target Id) (quads : List (Quad Id)) → quads_of t (filter (matches id_order (whole (place_of t))) quads) ≡ quads_of t quads
 scanned_of t quads = filter_twice (λ q. is_among t q.graph) (matches id_order (whole (place_of t))) (scan_among t) quads
 
@@ -107,9 +80,6 @@ quads_out t quads = union (quad_order id_order) (without (quad_order id_order) q
 
 out_is : (t : Target Id) (d : View) → IsRising id_order d → quads_out t d.quads ≡ filter (λ q. not (is_among t q.graph)) d.quads
 out_is t d s = taken_out (quad_total id_total) (quad_exact id_order id_exact) (λ q. is_among t q.graph) d.quads s.quads
-
-abbrev names_out : Target Id → List Id → List Id
-names_out t names = union id_order (without id_order names (set_of id_order (names_of t names))) []
 
 pub cleared_is : (t : Target Id) (d : View) → IsRising id_order d → is_target_there d t ≡ true
     → Ok (applied (record { present = []; absent = set_of (quad_order id_order) (quads_of t d.quads); there = []; gone = [] }) d) ≡ graphs_after id_order (graphs.Clear t) d
@@ -181,7 +151,9 @@ not_transferred how from to d e missing = if_same how from to d false e false (s
 moved_there : (to : Option Id) (quads : List (Quad Id)) (x : Quad Id) → has (quad_order id_order) (map (in_graph id_order to) quads) x ≡ true → x.graph ≡ to
 moved_there to [] x e = absurd (false≢true e)
 moved_there to (q ∷ quads) x e =
-    or_cases _ _ e (λ h. ap (λ (y : Quad Id). y.graph) (exact_by (quad_total id_total) (quad_exact id_order id_exact) x (in_graph id_order to q) h)) (moved_there to quads x)
+    ⊎_elim (λ h. ap (λ (y : Quad Id). y.graph) (exact_by (quad_total id_total) (quad_exact id_order id_exact) x (in_graph id_order to q) h))
+    (moved_there to quads x)
+    (or_cases _ _ e)
 
 -- graphs that differ, either way
 other_way : (from to : Option Id) → same_graph id_order from to ≡ false → same_graph id_order to from ≡ false

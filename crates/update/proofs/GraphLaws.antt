@@ -8,9 +8,9 @@ use Rattle.std.specs.Ordering.{eq_by_cmp}
 use Rattle.std.specs.declared.cmp.Ordering.{Ordering}
 use Rattle.std.specs.declared.cmp.Ordering.TheVariants.{Equal}
 use Rattle.std.specs.Cmp.{IsTotalOrder}
+use Rattle.std.proofs.lemmas.List.Folds.{list_any-append}
 use Rattle.sets.specs.Sets.{has, with, set_of, union, without}
-use Rattle.sets.proofs.SetLaws.{same_set, sorted-set_of, sorted-with, has-set_of, has-union, has-filter, has-with, has-without, list_any-append, exact_by}
-use Rattle.update.proofs.Differences.{has_after}
+use Rattle.sets.proofs.SetLaws.{same_set, sorted-set_of, sorted-with, has-set_of, has-union, has-filter, has-with, has-without, exact_by, has-after}
 
 -- ---- truth tables: d is there before, p and r are of graphs that go, m comes
 
@@ -58,14 +58,10 @@ renamed true true false f = refl
 renamed true false false f = refl
 renamed false r false f = refl
 
-pub or_cases : {P : Type 0} (a b : Bool) → (a || b) ≡ true → (a ≡ true → P) → (b ≡ true → P) → P
-or_cases true b e f g = f refl
-or_cases false b e f g = g e
-
 module _ {A : Type 0} {R : A → A → Ordering} (total : IsTotalOrder R) (exact : (x y : A) → R x y ≡ Equal → x ≡ y) where
   has_it : (ds gone come : List A) (x : A) → has R (union R (without R ds (set_of R gone)) (set_of R come)) x ≡ ((has R ds x && not (has R gone x)) || has R come x)
   has_it ds gone come x =
-      has_after total exact ds (set_of R gone) (set_of R come) x
+      has-after total exact x ds (set_of R gone) (set_of R come)
       ∙ (λ i. (has R ds x && not (has-set_of total x gone i)) || has-set_of total x come i)
 
   -- without those that pass a test

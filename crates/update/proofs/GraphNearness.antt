@@ -5,11 +5,13 @@ use Rattle.std.specs.Ordering.{eq_by_cmp, is_eq}
 use Rattle.std.specs.Cmp.{IsTotalOrder, tied_itself}
 use Rattle.std.specs.Cmp.Lexicographic.{options_total}
 use Rattle.std.proofs.Common.{◌≡◌, List, [], ◌∷◌, ◌++◌, Option, Some, None, refl, sym, ap, subst, ◌∙◌}
-use Rattle.std.proofs.lemmas.Bool.{false≢true, or_left, or_right}
+use Rattle.std.proofs.lemmas.Bool.{false≢true, or_left, or_right, or_cases}
 use Rattle.std.specs.declared.cmp.Ordering.{Ordering}
 use Rattle.std.specs.declared.cmp.Ordering.TheVariants.{Equal}
+use Rattle.std.proofs.Math.Logic.{⊎_elim}
 use Rattle.sets.specs.Sets.{has, set_of, union, without}
-use Rattle.sets.proofs.SetLaws.{exact_by}
+use Rattle.sets.proofs.SetLaws.{exact_by, has-after}
+use Rattle.sets.proofs.Every.{all_set_of, all_joined}
 use Rattle.datasets.specs.declared.id.Id.{Id}
 use Rattle.datasets.specs.declared.quad.Quad.{Quad}
 use Rattle.datasets.specs.declared.read.Read.TheVariants.{Scan, GraphIs}
@@ -22,13 +24,11 @@ use Rattle.algebra.specs.declared.update.Transfer.TheVariants as transfer
 use Rattle.algebra.specs.declared.update.GraphOperation.TheVariants as graphs
 use Rattle.meaning.specs.GraphOperations.{in_graph}
 use Rattle.asking.specs.Near.{is_of_graph, is_near_target, is_near_graphs}
-use Rattle.reads.specs.Reads.{View, Read, Delta, no_change, applied}
-use Rattle.update.specs.Asked.{scan_for, AskedQuads, AskedNames, IsWithin}
+use Rattle.reads.specs.Reads.{View, Read, Delta, applied}
+use Rattle.reads.specs.Presence.{scan_for}
+use Rattle.update.specs.Asked.{AskedQuads, AskedNames, IsWithin}
 use Rattle.update.specs.Graphs.{target_of, is_among, quads_of, place_of, whole, name_list, name_leaving}
-use Rattle.update.proofs.Differences.{has_after}
-use Rattle.update.proofs.GraphLaws.{or_cases}
 use Rattle.update.proofs.GraphEffects.{among_one}
-use Rattle.update.proofs.Members.{all-append, all-set_of}
 
 -- ---- reads
 
@@ -114,20 +114,17 @@ put_near how from to [] = tt
 put_near how from to (q ∷ quads) = (or_right _ _ (ap is_eq (tied_itself (options_total id_total) to)), put_near how from to quads)
 
 pub both_asked : (allowed : Read → Bool) (quads others all : List (Quad Id)) → all ≡ quads ++ others → AskedQuads allowed quads → AskedQuads allowed others → AskedQuads allowed all
-both_asked allowed quads others all e h k = subst (AskedQuads allowed) (sym e) (all-append (λ q. allowed (scan_for q) ≡ true) quads others h k)
-
-pub nothing_within : (allowed : Read → Bool) → IsWithin allowed no_change
-nothing_within allowed = record { present = tt; absent = tt; there = tt; gone = tt }
+both_asked allowed quads others all e h k = subst (AskedQuads allowed) (sym e) (all_joined (λ q. allowed (scan_for q) ≡ true) quads others h k)
 
 -- a change of the sets of these
 pub parts_within : (allowed : Read → Bool) (come gone : List (Quad Id)) (there left : List Id)
     → AskedQuads allowed come → AskedQuads allowed gone → AskedNames allowed there → AskedNames allowed left
     → IsWithin allowed (record { present = set_of (quad_order id_order) come; absent = set_of (quad_order id_order) gone; there = set_of id_order there; gone = set_of id_order left })
 parts_within allowed come gone there left h k n m = record {
-  present = all-set_of (λ q. allowed (scan_for q) ≡ true) (quad_order id_order) come h;
-  absent = all-set_of (λ q. allowed (scan_for q) ≡ true) (quad_order id_order) gone k;
-  there = all-set_of (λ g. allowed (GraphIs g) ≡ true) id_order there n;
-  gone = all-set_of (λ g. allowed (GraphIs g) ≡ true) id_order left m;
+  present = all_set_of (λ q. allowed (scan_for q) ≡ true) (quad_order id_order) come h;
+  absent = all_set_of (λ q. allowed (scan_for q) ≡ true) (quad_order id_order) gone k;
+  there = all_set_of (λ g. allowed (GraphIs g) ≡ true) id_order there n;
+  gone = all_set_of (λ g. allowed (GraphIs g) ≡ true) id_order left m;
 }
 
 -- ---- one change after another: what both as one speak of, one of them speaks of
@@ -146,7 +143,7 @@ goes_of gb cb false cc false ce e h l f k = absurd (false≢true (sym ((λ i. no
 module _ {A : Type 0} {R : A → A → Ordering} (total : IsTotalOrder R) (exact : (x y : A) → R x y ≡ Equal → x ≡ y) (P : A → Type 0) where
   member : (xs : List A) (x : A) → AllByRecursion P xs → has R xs x ≡ true → P x
   member [] x all e = absurd (false≢true e)
-  member (y ∷ ys) x all e = or_cases (eq_by_cmp R x y) (has R ys x) e (λ h. subst P (sym (exact_by total exact x y h)) all.0) (member ys x all.1)
+  member (y ∷ ys) x all e = ⊎_elim (λ h. subst P (sym (exact_by total exact x y h)) all.0) (member ys x all.1) (or_cases (eq_by_cmp R x y) (has R ys x) e)
 
   all_members : (xs : List A) → ((x : A) → has R xs x ≡ true → P x) → AllByRecursion P xs
   all_members [] f = tt
@@ -154,11 +151,11 @@ module _ {A : Type 0} {R : A → A → Ordering} (total : IsTotalOrder R) (exact
 
   has_twice : (ds gc cc ge ce : List A) (x : A) → has R (union R (without R (union R (without R ds gc) cc) ge) ce) x ≡ ((((has R ds x && not (has R gc x)) || has R cc x) && not (has R ge x)) || has R ce x)
   has_twice ds gc cc ge ce x =
-      has_after total exact (union R (without R ds gc) cc) ge ce x ∙ ap (λ b. (b && not (has R ge x)) || has R ce x) (has_after total exact ds gc cc x)
+      has-after total exact x (union R (without R ds gc) cc) ge ce ∙ ap (λ b. (b && not (has R ge x)) || has R ce x) (has-after total exact x ds gc cc)
 
   module _ (gb cb gc cc ge ce : List A) (both : (ds : List A) → union R (without R ds gb) cb ≡ union R (without R (union R (without R ds gc) cc) ge) ce) where
     tells : (ds : List A) (x : A) → ((has R ds x && not (has R gb x)) || has R cb x) ≡ ((((has R ds x && not (has R gc x)) || has R cc x) && not (has R ge x)) || has R ce x)
-    tells ds x = sym (has_after total exact ds gb cb x) ∙ ap (λ xs. has R xs x) (both ds) ∙ has_twice ds gc cc ge ce x
+    tells ds x = sym (has-after total exact x ds gb cb) ∙ ap (λ xs. has R xs x) (both ds) ∙ has_twice ds gc cc ge ce x
 
     comes : AllByRecursion P cc → AllByRecursion P ce → (x : A) → has R cb x ≡ true → P x
     comes hc he x e = comes_of (has R gb x) (has R cb x) (has R gc x) (has R cc x) (has R ge x) (has R ce x) (tells [] x) e (member cc x hc) (member ce x he)

@@ -5,6 +5,7 @@ use Rattle.std.proofs.lemmas.Bool.{false≢true}
 use Rattle.std.proofs.lemmas.List.{drop_at, take_rest}
 use Rattle.sets.specs.Sets.{has, set_of}
 use Rattle.sets.proofs.SetLaws.{sorted-set_of}
+use Rattle.sets.proofs.Every.{all_kept}
 use Rattle.std.specs.List.Sorted.{IsStrictlySortedBy}
 use Rattle.datasets.specs.declared.id.Id.{Id}
 use Rattle.datasets.specs.declared.quad.Quad.{Quad}
@@ -17,8 +18,8 @@ use Rattle.reads.specs.declared.note.Note.{Note}
 use Rattle.asking.specs.Goes.{AreAllowed, AreNoted}
 use Rattle.update.specs.Told.{first_told}
 use Rattle.update.specs.Whole.{WholeGraphs, is_known, told_in, KnowsWhole}
-use Rattle.update.specs.Asked.{scan_for, has_quads, AskedQuads}
-use Rattle.update.proofs.Members.{all-filter}
+use Rattle.reads.specs.Presence.{scan_for}
+use Rattle.update.specs.Asked.{has_quads, AskedQuads}
 use Rattle.update.specs.Known.{is_of_graphs, names_in, WhatIsKnown, told_of, Knows, scans_for_untold, TellOf}
 use Rattle.update.proofs.Told.{has_it}
 use Rattle.update.proofs.ToldScans.{first_is, or_is}
@@ -82,10 +83,6 @@ module _ (k : WhatIsKnown) (q : Quad Id) (qs : List (Quad Id)) where
       let others : map (λ m. m.read) notes ≡ scans_for_untold k qs = cc in
       (ap has_quads (t.agrees.0 ∙ ap (λ r. says r d) first) ∙ has_it q d, record { knows = t.knows; scans = others; agrees = t.agrees.1 })
 
-  -- there is a note for it
-  pub first_lacking : (d : View) → None ≡ told_of k q → TellOf k (q ∷ qs) [] d → {A : Type 0} → A
-  first_lacking d e t = let all : [] ≡ scan_for q ∷ scans_for_untold k qs = t.scans ∙ scans_with None e in cc
-
 -- the first of some notes, and those behind it
 pub first_of : (notes : List Note) (n : Note) → n ≡ get_or notes 0 n → 1 ≤ length notes → notes ≡ n ∷ take (length notes - 1) (drop 1 notes)
 first_of [] n is some = absurd (omega (arith, some))
@@ -95,7 +92,7 @@ first_of (m ∷ ms) n is some = λ i. sym is i ∷ sym (take_rest (m ∷ ms) 1) 
 
 -- what asks for the quads of which it wasn't told is allowed where what asks for all of them is
 pub allowed_untold : (allowed : Read → Bool) (k : WhatIsKnown) (quads : List (Quad Id)) → AskedQuads allowed quads → AreAllowed allowed (scans_for_untold k quads)
-allowed_untold allowed k quads h = mapped (filter (λ q. is_none (told_of k q)) quads) (all-filter (λ q. allowed (scan_for q) ≡ true) (λ q. is_none (told_of k q)) quads h)
+allowed_untold allowed k quads h = mapped (filter (λ q. is_none (told_of k q)) quads) (all_kept (λ q. allowed (scan_for q) ≡ true) (λ q. is_none (told_of k q)) quads h)
   where
     mapped : (qs : List (Quad Id)) → AskedQuads allowed qs → AreAllowed allowed (map (λ q. scan_for q) qs)
     mapped [] hs = tt

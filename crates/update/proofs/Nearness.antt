@@ -4,9 +4,12 @@ use Rattle.std.specs.List.{AllByRecursion, list_any}
 use Rattle.std.specs.Option.{option_map}
 use Rattle.std.specs.Ordering.{is_eq}
 use Rattle.std.specs.Cmp.{tied_itself}
-use Rattle.std.proofs.Common.{◌≡◌, ℕ, zero, suc, ◌+◌, ◌<◌, Bool, true, false, List, [], ◌∷◌, length, get_or, Option, Some, None, refl, sym, ap, ◌∙◌, arith}
-use Rattle.std.proofs.lemmas.Bool.{false≢true, or_left, or_right}
-use Rattle.update.proofs.GraphLaws.{or_cases}
+use Rattle.std.proofs.Common.{◌≡◌, ℕ, ◌+◌, ◌<◌, Bool, true, false, List, [], ◌∷◌, length, get_or, Option, Some, None, refl, sym, ap, ◌∙◌}
+use Rattle.std.proofs.lemmas.Bool.{false≢true, or_left, or_right, or_cases}
+use Rattle.std.proofs.lemmas.Option.{same_Some}
+use Rattle.std.proofs.Math.Logic.{⊎_elim}
+use Rattle.std.proofs.lemmas.List.Folds.{list_any_at}
+use Rattle.sets.proofs.Every.{all_union, all_set_of, all_joined, all_kept, all_filter_map, all_option}
 use Rattle.datasets.specs.declared.id.Id.{Id}
 use Rattle.datasets.specs.declared.quad.Quad.{Quad}
 use Rattle.datasets.specs.declared.read.GraphPlace.TheVariants.{Only}
@@ -27,26 +30,23 @@ use Rattle.algebra.specs.declared.template.Slot.{Slot}
 use Rattle.algebra.specs.declared.template.Slot.TheVariants as slot
 use Rattle.eval.specs.Changes.{replaced_change}
 use Rattle.reads.specs.Reads.{Read, Delta, no_change}
-use Rattle.update.specs.Asked.{scan_for, AskedQuads, AskedNames, IsWithin}
-use Rattle.update.proofs.Members.{all-append, all-filter, all-set_of, all-union, all-cons_option, all-filter_map}
+use Rattle.reads.specs.Presence.{scan_for}
+use Rattle.update.specs.Asked.{AskedQuads, AskedNames, IsWithin}
 
 -- ---- one quad
-
-some_is : {A : Type 0} (x y : A) → Some x ≡ Some y → x ≡ y
-some_is x y e = cc
 
 pub all_true : (a b c d : Bool) → a ≡ true → b ≡ true → c ≡ true → d ≡ true → (a && (b && (c && d))) ≡ true
 all_true a b c d e f g h = λ i. e i && (f i && (g i && h i))
 
 module _ (terms : List Term) (node : ℕ → Id) (m : Mapping Id) where
   slot_near : (s : Slot Id) (x : Id) → term_at (numbers terms) node m s ≡ Some x → is_written id_order s (Some x) ≡ true
-  slot_near (slot.Term t) x e = ap (λ z. is_eq (id_order z t)) (sym (some_is t x e)) ∙ ap is_eq (tied_itself id_total t)
+  slot_near (slot.Term t) x e = ap (λ z. is_eq (id_order z t)) (sym (same_Some t x e)) ∙ ap is_eq (tied_itself id_total t)
   slot_near (slot.Variable v) x e = refl
   slot_near (slot.Label l) x e = refl
 
   graph_near : (s : Option (Slot Id)) (g : Option Id) → graph_at (numbers terms) node m s ≡ Some g → is_graph_written id_order s (Only g) ≡ true
-  graph_near None g e = ap is_none (sym (some_is None g e))
-  graph_near (Some (slot.Term t)) g e = ap (λ z. is_graph_written id_order (Some (slot.Term t)) (Only z)) (sym (some_is (Some t) g e)) ∙ ap is_eq (tied_itself id_total t)
+  graph_near None g e = ap is_none (sym (same_Some None g e))
+  graph_near (Some (slot.Term t)) g e = ap (λ z. is_graph_written id_order (Some (slot.Term t)) (Only z)) (sym (same_Some (Some t) g e)) ∙ ap is_eq (tied_itself id_total t)
   graph_near (Some (slot.Variable v)) g e = refl
   graph_near (Some (slot.Label l)) g e = refl
 
@@ -59,7 +59,7 @@ module _ (terms : List Term) (node : ℕ → Id) (m : Mapping Id) where
 
   made_if : (b : Bool) (s p o : Id) (g : Option Id) (q : Quad Id) → (if b then Some (record { subject = s; predicate = p; object = o; graph = g }) else None) ≡ Some q → IsMade (Some s) (Some p) (Some o) (Some g) q
   made_if true s p o g q e =
-      let is = some_is (record { subject = s; predicate = p; object = o; graph = g }) q e in
+      let is = same_Some (record { subject = s; predicate = p; object = o; graph = g }) q e in
       record { subject = ap (λ (x : Quad Id). Some x.subject) is; predicate = ap (λ (x : Quad Id). Some x.predicate) is; object = ap (λ (x : Quad Id). Some x.object) is; graph = ap (λ (x : Quad Id). Some x.graph) is }
   made_if false s p o g q e = absurd (cc)
 
@@ -93,22 +93,22 @@ unfolding near_template
 graph_any q [] e = e
 graph_any q (t ∷ ts) e =
     let p : QuadPattern Id = record { subject = Some q.subject; predicate = Some q.predicate; object = Some q.object; graph = Only q.graph } in
-    or_cases (is_near_quad id_order t p) (near_template ts q) e
-    (λ h. or_left _ _ (last_true (is_written id_order t.subject (Some q.subject)) (is_written id_order t.predicate (Some q.predicate)) (is_written id_order t.object (Some q.object)) (is_graph_written id_order t.graph (Only q.graph)) h))
+    ⊎_elim (λ h. or_left _ _ (last_true (is_written id_order t.subject (Some q.subject)) (is_written id_order t.predicate (Some q.predicate)) (is_written id_order t.object (Some q.object)) (is_graph_written id_order t.graph (Only q.graph)) h))
     (λ h. or_right _ _ (graph_any q ts h))
+    (or_cases (is_near_quad id_order t p) (near_template ts q) e)
 
 module _ (terms : List Term) (request op : ℕ) (P : Quad Id → Type 0) where
   mapped_near : (node : ℕ → Id) (m : Mapping Id) (ts : List (QuadTemplate Id)) → ((q : Quad Id) → near_template ts q ≡ true → P q) → AllByRecursion P (filter_map (instance_of (numbers terms) node m) ts)
   unfolding near_template
   mapped_near node m [] f = tt
   mapped_near node m (t ∷ ts) f =
-      all-cons_option P (instance_of (numbers terms) node m t) _
+      all_option P (instance_of (numbers terms) node m t) _
       (λ q e. f q (or_left _ _ (instance_near terms node m t q e)))
       (mapped_near node m ts (λ q e. f q (or_right _ _ e)))
 
   from_near : (ts : List (QuadTemplate Id)) → ((q : Quad Id) → near_template ts q ≡ true → P q) → (rank : ℕ) (ms : List (Mapping Id)) → AllByRecursion P (instances_from (numbers terms) request op ts rank ms)
   from_near ts f rank [] = tt
-  from_near ts f rank (m ∷ ms) = all-append P _ _ (mapped_near (λ l. (numbers terms).made request op l rank) m ts f) (from_near ts f (rank + 1) ms)
+  from_near ts f rank (m ∷ ms) = all_joined P _ _ (mapped_near (λ l. (numbers terms).made request op l rank) m ts f) (from_near ts f (rank + 1) ms)
 
 -- ---- the change of an operation
 
@@ -131,7 +131,7 @@ module _ (terms : List Term) (request op : ℕ) (m : Modify Id) (allowed : Read 
 
   inserted_named : (found : List (Mapping Id)) → AskedNames allowed (names_of (instances (numbers terms) request op m.insert found))
   inserted_named found =
-      all-filter_map (λ g. allowed (GraphIs g) ≡ true) graph_name (instances (numbers terms) request op m.insert found)
+      all_filter_map (λ g. allowed (GraphIs g) ≡ true) graph_name (instances (numbers terms) request op m.insert found)
       (from_near terms request op (λ q. (g : Id) → q.graph ≡ Some g → allowed (GraphIs g) ≡ true) m.insert inserted_in 0 found)
 
   pub replaced_within : (c : Delta) (found : List (Mapping Id)) → IsWithin allowed c
@@ -140,10 +140,10 @@ module _ (terms : List Term) (request op : ℕ) (m : Modify Id) (allowed : Read 
       let P : Quad Id → Type 0 = λ q. allowed (scan_for q) ≡ true in
       let N : Id → Type 0 = λ g. allowed (GraphIs g) ≡ true in
       record {
-        present = all-union P (quad_order id_order) _ _ (all-filter P _ c.present h.present) (inserted_near found);
-        absent = all-union P (quad_order id_order) _ _ h.absent (deleted_near found);
-        there = all-union N id_order _ _ h.there (inserted_named found);
-        gone = all-set_of N id_order _ h.gone;
+        present = all_union P (quad_order id_order) _ _ (all_kept P _ c.present h.present) (inserted_near found);
+        absent = all_union P (quad_order id_order) _ _ h.absent (deleted_near found);
+        there = all_union N id_order _ _ h.there (inserted_named found);
+        gone = all_set_of N id_order _ h.gone;
       }
 
 -- what is for the pattern is near the operation
@@ -155,14 +155,9 @@ pub active_written : (active : Option Id) → is_graph_written id_order (option_
 active_written None = refl
 active_written (Some g) = ap is_eq (tied_itself id_total g)
 
-any_at : {A : Type 0} (p : A → Bool) (xs : List A) (i : ℕ) (d : A) → i < length xs → p (get_or xs i d) ≡ true → list_any p xs ≡ true
-any_at p [] i d h e = absurd (omega (arith, h))
-any_at p (x ∷ xs) zero d h e = or_left _ _ e
-any_at p (x ∷ xs) (suc i) d h e = or_right _ _ (any_at p xs i d (omega (arith, h)) e)
-
 -- what is near an operation is near its request
 pub request_near : (ops : List (Operation Id)) (i : ℕ) (op : Operation Id) → i < length ops → op ≡ get_or ops i op → (r : Read) → is_near id_order op r ≡ true → is_near_request id_order ops r ≡ true
-request_near ops i op h is r e = any_at (λ o. is_near id_order o r) ops i op h (ap (λ o. is_near id_order o r) (sym is) ∙ e)
+request_near ops i op h is r e = list_any_at (λ o. is_near id_order o r) ops i op h (ap (λ o. is_near id_order o r) (sym is) ∙ e)
 
 pub no_change_within : (allowed : Read → Bool) → IsWithin allowed no_change
 no_change_within allowed = record { present = tt; absent = tt; there = tt; gone = tt }

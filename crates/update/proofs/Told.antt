@@ -14,7 +14,8 @@ use Rattle.datasets.specs.declared.read.GraphPlace.TheVariants.{Only}
 use Rattle.datasets.specs.Dataset.{Quads, quad_order, matches}
 use Rattle.datasets.specs.Id.{id_order, id_total, quad_total}
 use Rattle.reads.specs.Reads.{View, says}
-use Rattle.update.specs.Asked.{scan_for, has_quads}
+use Rattle.reads.specs.Presence.{scan_for}
+use Rattle.update.specs.Asked.{has_quads}
 
 is_eq_then : (a b : Ordering) → is_eq (ordering_then a b) ≡ (is_eq a && is_eq b)
 is_eq_then Less b = refl

@@ -9,8 +9,10 @@ use Rattle.std.proofs.lemmas.Bool.{false≢true, cases_lt}
 use Rattle.std.proofs.lemmas.List.{get_or_default}
 use Rattle.std.specs.List.Sorted.{IsStrictlySortedBy}
 use Rattle.std.specs.declared.cmp.Ordering.TheVariants.{Less, Equal, Greater}
+use Rattle.std.proofs.Math.Bool.{and-true}
 use Rattle.sets.specs.Sets.{has}
 use Rattle.sets.proofs.SetLaws.{has-filter, sorted-empty}
+use Rattle.sets.proofs.Every.{all_joined}
 use Rattle.datasets.specs.declared.id.Id.{Id}
 use Rattle.datasets.specs.declared.quad.Quad.{Quad}
 use Rattle.datasets.specs.declared.read.QuadPattern.{QuadPattern}
@@ -20,8 +22,6 @@ use Rattle.datasets.specs.Id.{id_order, id_total, id_exact, quad_total, quad_exa
 use Rattle.reads.specs.Reads.{View, Answer, says}
 use Rattle.reads.specs.declared.note.Note.{Note}
 use Rattle.update.specs.Told.{ToldScan, quads_in, told_by, first_told, IsTold, AreTold}
-use Rattle.update.proofs.Members.{all-append}
-use Rattle.update.proofs.WholeGraphs.{and_true}
 
 -- a scan's answer, where it agrees with the dataset, is told
 pub scan_is_told : (p : QuadPattern Id) (a : Answer) (d : View) → a ≡ says (Scan p) d → quads_in a ≡ filter (matches id_order p) d.quads
@@ -35,7 +35,7 @@ one_is s q d true e told =
     ap (λ qs. has (quad_order id_order) qs q) told
     ∙ has-filter (quad_total id_total) (quad_exact id_order id_exact) (matches id_order s.pattern) q d.quads
     ∙ ap (λ b. D && b) e
-    ∙ and_true D
+    ∙ and-true D
 one_is s q d false e told = tt
 
 pub or_is : (P : Bool → Type 0) (a b : Option Bool) → IfSome a P → IfSome b P → IfSome (option_or a b) P
@@ -74,7 +74,7 @@ rises_more xs i e f r is lt one low before k d h = elim (cases_lt (k + 1) i) as 
 
 -- one more at the end
 pub told_more : (d : View) (scans : List ToldScan) (s : ToldScan) → AreTold d scans → IsTold d s → AreTold d (scans ++ s ∷ [])
-told_more d scans s h k = all-append (IsTold d) scans (s ∷ []) h (k, tt)
+told_more d scans s h k = all_joined (IsTold d) scans (s ∷ []) h (k, tt)
 
 pub some_told : (n : Note) (o : Option ToldScan) (s : ToldScan) → o ≡ Some s → IfSome o (λ scan. (d : View) → n.answer ≡ says n.read d → IsTold d scan)
     → (d : View) → n.answer ≡ says n.read d → IsTold d s

@@ -1,13 +1,13 @@
 -- What notes tell of whole graphs is what there is.
 use Rattle.std.specs.Prelude.{Bool, true, false, ◌&&◌, ◌||◌, is_none, filter, filter_map, if◌then◌else◌}
 use Rattle.std.specs.List.{list_any, cons_option, flat_map}
-use Rattle.std.proofs.Common.{◌≡◌, List, [], ◌∷◌, Option, Some, None, refl, sym, ap, subst, ◌∙◌}
+use Rattle.std.proofs.Common.{◌≡◌, List, [], ◌∷◌, Option, Some, None, refl, sym, ap, ◌∙◌}
 use Rattle.std.proofs.lemmas.Bool.{false≢true}
 use Rattle.sets.specs.Sets.{has, set_of}
-use Rattle.sets.proofs.SetLaws.{sorted-set_of, has-set_of, has-filter, list_any-append}
-use Rattle.std.specs.List.Sorted.{IsStrictlySortedBy}
+use Rattle.sets.proofs.SetLaws.{has-set_of, has-filter, or_swap}
 use Rattle.std.specs.Ordering.{eq_by_cmp}
-use Rattle.change_laws.specs.Laws.{IsRising}
+use Rattle.std.proofs.Math.Bool.{and-false, or-true, and-true}
+use Rattle.std.proofs.lemmas.List.Folds.{list_any-append}
 use Rattle.datasets.specs.declared.id.Id.{Id}
 use Rattle.datasets.specs.declared.quad.Quad.{Quad}
 use Rattle.datasets.specs.declared.read.GraphPlace.{GraphPlace}
@@ -23,26 +23,9 @@ use Rattle.update.specs.Whole.{is_whole, whole_place, places_told, told_at, quad
 
 -- ---- Bool
 
-or_true : (a : Bool) → (a || true) ≡ true
-or_true true = refl
-or_true false = refl
-
-pub and_true : (b : Bool) → (b && true) ≡ b
-and_true true = refl
-and_true false = refl
-
-and_false : (a : Bool) → (a && false) ≡ false
-and_false true = refl
-and_false false = refl
-
 and_or : (a b c : Bool) → ((a && b) || (a && c)) ≡ (a && (b || c))
 and_or true b c = refl
 and_or false b c = refl
-
-or_between : (a b c : Bool) → (a || (b || c)) ≡ (b || (a || c))
-or_between true true c = refl
-or_between true false c = refl
-or_between false b c = refl
 
 -- ---- one note
 
@@ -64,14 +47,14 @@ scan_told p d a q true e is =
     ap (λ z. has (quad_order id_order) (told_at (Some p.graph) (told_quads z)) q) is
     ∙ has-filter (quad_total id_total) (quad_exact id_order id_exact) (matches id_order p) q d.quads
     ∙ ap (λ b. has (quad_order id_order) d.quads q && b) (all_free p.subject p.predicate p.object q.subject q.predicate q.object (in_place id_order p.graph q.graph) e)
-scan_told p d a q false e is = sym (and_false (has (quad_order id_order) d.quads q))
+scan_told p d a q false e is = sym (and-false (has (quad_order id_order) d.quads q))
 
 note_told : (r : Read) (d : View) (a : Answer) (q : Quad Id) → a ≡ says r d
     → has (quad_order id_order) (quads_told r a) q ≡ (has (quad_order id_order) d.quads q && in_some (whole_place r) q.graph)
 unfolding in_some says
 note_told (Scan p) d a q e = scan_told p d a q (is_whole p) refl e
-note_told (GraphIs g) d a q e = sym (and_false (has (quad_order id_order) d.quads q))
-note_told Graphs d a q e = sym (and_false (has (quad_order id_order) d.quads q))
+note_told (GraphIs g) d a q e = sym (and-false (has (quad_order id_order) d.quads q))
+note_told Graphs d a q e = sym (and-false (has (quad_order id_order) d.quads q))
 
 -- ---- all notes
 
@@ -84,7 +67,7 @@ any_in g (Some place) places = refl
 pub notes_told : (notes : List Note) (d : View) (q : Quad Id) → Agrees notes d
     → has (quad_order id_order) (flat_map (λ n. quads_told n.read n.answer) notes) q
     ≡ (has (quad_order id_order) d.quads q && list_any (λ place. in_place id_order place q.graph) (places_told notes))
-notes_told [] d q a = sym (and_false (has (quad_order id_order) d.quads q))
+notes_told [] d q a = sym (and-false (has (quad_order id_order) d.quads q))
 notes_told (n ∷ ns) d q a =
     let D = has (quad_order id_order) d.quads q in
     list_any-append (eq_by_cmp (quad_order id_order) q) (quads_told n.read n.answer) (flat_map (λ m. quads_told m.read m.answer) ns)
@@ -97,7 +80,7 @@ notes_told (n ∷ ns) d q a =
 default_known : (places : List (GraphPlace Id)) → (list_any is_any places || list_any is_default places) ≡ list_any (λ place. in_place id_order place None) places
 default_known [] = refl
 default_known (Any ∷ places) = refl
-default_known (Only None ∷ places) = or_true (list_any is_any places)
+default_known (Only None ∷ places) = or-true (list_any is_any places)
 default_known (Only (Some g) ∷ places) = default_known places
 
 name_known : (g : Id) (places : List (GraphPlace Id)) → (list_any is_any places || has id_order (filter_map name_at places) g) ≡ list_any (λ place. in_place id_order place (Some g)) places
@@ -105,7 +88,7 @@ name_known g [] = refl
 name_known g (Any ∷ places) = refl
 name_known g (Only None ∷ places) = name_known g places
 name_known g (Only (Some h) ∷ places) =
-    or_between (list_any is_any places) (eq_by_cmp id_order g h) (has id_order (filter_map name_at places) g) ∙ ap (λ b. eq_by_cmp id_order g h || b) (name_known g places)
+    or_swap (list_any is_any places) (eq_by_cmp id_order g h) (has id_order (filter_map name_at places) g) ∙ ap (λ b. eq_by_cmp id_order g h || b) (name_known g places)
 
 known_is : (k : WholeGraphs) (places : List (GraphPlace Id)) → k.is_all ≡ list_any is_any places → k.has_default ≡ list_any is_default places → k.names ≡ set_of id_order (filter_map name_at places)
     → (g : Option Id) → is_known k g ≡ list_any (λ place. in_place id_order place g) places
@@ -121,11 +104,4 @@ known_of_notes w notes all default names quads d a q known =
     ∙ has-set_of (quad_total id_total) q (flat_map (λ n. quads_told n.read n.answer) notes)
     ∙ notes_told notes d q a
     ∙ ap (λ b. has (quad_order id_order) d.quads q && b) (sym (known_is w (places_told notes) all default names q.graph) ∙ known)
-    ∙ and_true (has (quad_order id_order) d.quads q)
-
-pub rising_sets : (quads : List (Quad Id)) (names : List Id) (qs : List (Quad Id)) (ns : List Id) → quads ≡ set_of (quad_order id_order) qs → names ≡ set_of id_order ns
-    → IsRising id_order (record { quads = quads; names = names })
-rising_sets quads names qs ns e f = record {
-  quads = subst (λ xs. IsStrictlySortedBy (quad_order id_order) xs) (sym e) (sorted-set_of (quad_total id_total) qs);
-  names = subst (λ xs. IsStrictlySortedBy id_order xs) (sym f) (sorted-set_of id_total ns);
-}
+    ∙ and-true (has (quad_order id_order) d.quads q)

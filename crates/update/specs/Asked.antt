@@ -3,17 +3,12 @@ use Rattle.std.specs.Prelude.{◌≡◌, ℕ, ◌<◌, ◌^◌, length, slice_ge
 use Rattle.std.specs.List.{AllByRecursion}
 use Rattle.datasets.specs.declared.id.Id.{Id}
 use Rattle.datasets.specs.declared.quad.Quad.{Quad}
-use Rattle.datasets.specs.declared.read.GraphPlace.TheVariants.{Only}
-use Rattle.datasets.specs.declared.read.Read as reading
-use Rattle.datasets.specs.declared.read.Read.TheVariants.{Scan, GraphIs}
+use Rattle.datasets.specs.declared.read.Read.TheVariants.{GraphIs}
 use Rattle.datasets.specs.Dataset.{Told, Quads, Is, Names}
 use Rattle.meaning.specs.Run.{Request}
 use Rattle.algebra.specs.declared.update.Operation.{Operation}
 use Rattle.reads.specs.Reads.{Delta, Read}
-
--- the scan for one quad
-abbrev pub scan_for : {K : Type 0} → Quad K → reading.Read K
-scan_for q = Scan (record { subject = Some q.subject; predicate = Some q.predicate; object = Some q.object; graph = Only q.graph })
+use Rattle.reads.specs.Presence.{scan_for}
 
 -- whether the answer tells of some quad; an answer of the wrong kind tells of none
 abbrev pub has_quads : {K : Type 0} → Told K → Bool

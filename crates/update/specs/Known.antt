@@ -10,7 +10,7 @@ use Rattle.datasets.specs.Id.{id_order}
 use Rattle.reads.specs.Reads.{View, Read, Answer}
 use Rattle.reads.specs.Runs.{Agrees}
 use Rattle.reads.specs.declared.note.Note.{Note}
-use Rattle.update.specs.Asked.{scan_for}
+use Rattle.reads.specs.Presence.{scan_for}
 use Rattle.update.specs.Told.{ToldScan, AreTold, first_told}
 use Rattle.update.specs.Whole.{WholeGraphs, KnowsWhole, told_in}
 

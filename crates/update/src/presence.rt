@@ -10,30 +10,19 @@ ghost use Rattle.reads.specs.Reads.{View, Read as Reading};
 ghost use Rattle.reads.specs.Runs.{Agrees};
 ghost use Rattle.reads.specs.Same.{bool_eq};
 ghost use Rattle.asking.specs.Goes.{AreNoted, Goes, stop_of};
-ghost use Rattle.update.specs.Asked.{scan_for as the_scan_for, has_quads as the_has_quads, has_name as the_has_name, AskedQuads, AskedNames};
+ghost use Rattle.update.specs.Asked.{has_quads as the_has_quads, has_name as the_has_name, AskedQuads, AskedNames};
 ghost use Rattle.update.specs.Known.{scans_for_untold as the_scans_for_untold, Knows, TellOf};
 
 use crate::known::Known;
 use asking::{ask, ask_all};
-use datasets::{GraphPlace, Id, Quad, QuadPattern, Read};
+use datasets::{Id, Quad, Read};
+use reads::presence::scan_for;
 use reads::same::same_bool;
 use reads::{Answered, Note, Source, Stop};
 use std::alloc::{AllocError, Global};
 
 // How many quads are asked for at once. The reads of so many take little memory beside the notes of all.
 const AT_ONCE: usize = 256;
-
-/// The scan for one quad.
-pub fn scan_for(quad: Quad<Id>) -> Read<Id>
-    ensures { result ≡ the_scan_for quad }
-{
-    Read::Scan(QuadPattern {
-        subject: Some(quad.subject),
-        predicate: Some(quad.predicate),
-        object: Some(quad.object),
-        graph: GraphPlace::Only(quad.graph),
-    })
-}
 
 // Whether an answer tells of some quad.
 fn has_quads(answer: &Answered) -> bool

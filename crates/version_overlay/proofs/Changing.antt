@@ -2,25 +2,11 @@
 use Rattle.std.proofs.Common.{◌≡◌, ℕ, zero, suc, set, ◌-◌, arith, ◌<◌, ◌≤◌, ◌+◌, ◌==◌, true, false, List, [], ◌∷◌, ◌++◌, length, take, drop, get_or, refl, ap, sym, ◌∙◌}
 use Rattle.std.proofs.lemmas.Bool.{false≢true, eqb-true}
 use Rattle.std.proofs.lemmas.List.{take_more, take_rest}
-use Rattle.datasets.specs.Id.{id_order, id_total, id_exact, quad_total, quad_exact}
+use Rattle.datasets.specs.Id.{id_order}
 use Rattle.change_laws.specs.Laws.{IsRising}
-use Rattle.change_laws.proofs.ChangeLaws.{uncovered_keeps, same_after, rises_after, after-nothing}
-use Rattle.reads.specs.Reads.{View, Delta, Read, says, applied, covers, no_change}
+use Rattle.reads.specs.Reads.{View, Delta, Read, says, applied}
+use Rattle.reads.proofs.Changes.{depends, rises}
 use Rattle.version_overlay.specs.Settled.{changed_by}
-
--- THE LAWS OF CHANGES, AT NUMBERS OF TERMS
-
-pub uncovered : (c : Delta) (v : View) (r : Read) → IsRising id_order v → covers c r ≡ false → says r (applied c v) ≡ says r v
-unfolding says applied covers
-uncovered c v r rising h = uncovered_keeps id_total id_exact c v r rising h
-
-pub depends : (c : Delta) (v w : View) (r : Read) → says r v ≡ says r w → says r (applied c v) ≡ says r (applied c w)
-unfolding says applied
-depends c v w r h = same_after id_total id_exact c v w r h
-
-pub rises : (c : Delta) (v : View) → IsRising id_order (applied c v)
-unfolding applied
-rises c v = rises_after id_total id_exact c v
 
 -- CHANGES ONE AFTER ANOTHER
 
@@ -43,24 +29,11 @@ unfolding changed_by
 changed_by-rises [] v rising = rising
 changed_by-rises (c ∷ cs) v rising = changed_by-rises cs (applied c v) (rises c v)
 
-pub changed_by-depends : (cs : List Delta) (v w : View) (r : Read) → says r v ≡ says r w → says r (changed_by cs v) ≡ says r (changed_by cs w)
-unfolding changed_by
-changed_by-depends [] v w r h = h
-changed_by-depends (c ∷ cs) v w r h = changed_by-depends cs (applied c v) (applied c w) r (depends c v w r h)
-
 -- the part of a change that a read asks for, laid over what is asked for of a dataset; the read may have another name
 pub covered_as : (c : Delta) (r r' : Read) → r' ≡ r → (asked : Delta) → ((d : View) → says r' (applied asked d) ≡ says r' (applied c d)) → (part d : View) → says r part ≡ says r d
     → (next : View) → next ≡ applied asked part → says r next ≡ says r (applied c d)
 covered_as c r r' same_read asked same part d alike next e =
     ap (λ v. says r v) e ∙ ap (λ z. says z (applied asked part)) (sym same_read) ∙ same part ∙ ap (λ z. says z (applied c part)) same_read ∙ depends c part d r alike
-
--- no change, of a dataset that is two sets
-pub nothing_changed : (v : View) → IsRising id_order v → applied no_change v ≡ v
-unfolding applied
-nothing_changed v rising = λ i. record {
-  quads = after-nothing (quad_total id_total) (quad_exact id_order id_exact) v.quads [] [] rising.quads refl refl i;
-  names = after-nothing id_total id_exact v.names [] [] rising.names refl refl i;
-}
 
 pub changed-rises : (cs : List Delta) → (cs ≡ [] → ⊥) → (v : View) → IsRising id_order (changed_by cs v)
 unfolding changed_by

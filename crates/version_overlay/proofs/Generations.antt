@@ -2,6 +2,7 @@
 use Rattle.std.proofs.Common.{◌≡◌, ◌<◌, ◌&&◌, ◌==◌, ℕ, Bool, true, false, max, refl, sym, ap, ◌∙◌, arith}
 use Rattle.std.proofs.Math.Nat.{le-max_left, le-max_right}
 use Rattle.std.proofs.lemmas.Bool.{false≢true, eqb-true}
+use Rattle.std.proofs.Math.Bool.{and-false}
 use Rattle.datasets.specs.declared.id.Id.{Id}
 use Rattle.datasets.specs.declared.read.QuadPattern.{QuadPattern}
 use Rattle.datasets.specs.declared.read.Read.TheVariants.{Scan}
@@ -15,10 +16,6 @@ use Rattle.version_overlay.specs.Generation.{has_spoken, IsKept}
 pub stopped : (a b : Bool) → (a ≡ true → b ≡ true) → b ≡ false → a ≡ false
 stopped true b more e = absurd (false≢true (sym e ∙ more refl))
 stopped false b more e = refl
-
-no_and : (b : Bool) → (b && false) ≡ false
-no_and true = refl
-no_and false = refl
 
 apart : (a b : ℕ) → a < b → (a == b) ≡ false
 apart a b lt = at (a == b) refl
@@ -41,7 +38,7 @@ kept_by_put seen seen' g g' d request more added highest only kept = record {
       let left = le-max_left g.highest request in
       let right = le-max_right g.highest request in
       let below : request < j = omega (arith, lt, highest, right) in
-      only read j (ap (λ b. covers d read && b) (apart request j below) ∙ no_and (covers d read)) (kept.within read j (omega (arith, lt, highest, left)));
+      only read j (ap (λ b. covers d read && b) (apart request j below) ∙ and-false (covers d read)) (kept.within read j (omega (arith, lt, highest, left)));
   filtered = λ p j e.
       only (Scan p) j (ap (λ b. b && (request == j)) (stopped (covers d (Scan p)) (may_match seen' p) (added p) e)) (kept.filtered p j (stopped (may_match seen p) (may_match seen' p) (more p) e));
 }

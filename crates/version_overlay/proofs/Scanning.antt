@@ -1,7 +1,7 @@
 -- What a scan says after a change, from what it said before.
 use Rattle.std.specs.Prelude.{Bool, not, filter, ◌||◌, ◌&&◌}
 use Rattle.std.proofs.Common.{◌≡◌, true, false, List, [], ◌∷◌, ◌++◌, Option, Some, None, refl, sym, ap, ◌∙◌}
-use Rattle.std.proofs.lemmas.Bool.{false≢true, or_parts, and_parts}
+use Rattle.std.proofs.lemmas.Bool.{false≢true, or_parts, and_parts, or_cases}
 use Rattle.std.proofs.lemmas.List.Kept.{IsStrictlySortedBy-filter}
 use Rattle.std.specs.declared.cmp.Ordering.{Ordering}
 use Rattle.std.specs.declared.cmp.Ordering.TheVariants.{Equal}
@@ -9,10 +9,12 @@ use Rattle.std.specs.Cmp.{IsTotalOrder}
 use Rattle.std.specs.List.{list_any}
 use Rattle.std.specs.List.Sorted.{IsStrictlySortedBy}
 use Rattle.std.specs.Ordering.{eq_by_cmp}
+use Rattle.std.proofs.Math.Bool.{and-false}
+use Rattle.std.proofs.Math.Logic.{⊎_elim}
 use Rattle.sets.specs.Sets.{has, union, without}
-use Rattle.sets.proofs.SetLaws.{same_set, sorted-set_of, has-filter, exact_by}
+use Rattle.sets.proofs.SetLaws.{same_set, sorted-set_of, has-filter, exact_by, has-after}
 use Rattle.change_laws.specs.Laws.{IsRising}
-use Rattle.change_laws.proofs.ChangeLaws.{has-after, filter-depends}
+use Rattle.change_laws.proofs.ChangeLaws.{filter-depends}
 use Rattle.datasets.specs.declared.id.Id.{Id}
 use Rattle.datasets.specs.declared.quad.Quad.{Quad}
 use Rattle.datasets.specs.declared.read.QuadPattern.{QuadPattern}
@@ -20,15 +22,10 @@ use Rattle.datasets.specs.declared.read.Read.TheVariants.{Scan}
 use Rattle.datasets.specs.Dataset.{Quads, Is, Names, quad_order, matches}
 use Rattle.datasets.specs.Id.{id_order, id_total, id_exact, quad_exact, quad_total}
 use Rattle.reads.specs.Reads.{View, Delta, Read, Answer, says, applied, told_quads}
-use Rattle.version_overlay.proofs.Speaking.{either}
-
-no_and : (b : Bool) → (b && false) ≡ false
-no_and true = refl
-no_and false = refl
 
 -- a member stays where nothing that is asked for comes, and it doesn't go
 stays : (x a m p : Bool) → (m && p) ≡ false → ((x && p) ≡ true → a ≡ false) → (((x && not a) || m) && p) ≡ (x && p)
-stays x a m false none apart = no_and ((x && not a) || m) ∙ sym (no_and x)
+stays x a m false none apart = and-false ((x && not a) || m) ∙ sym (and-false x)
 stays x a true true none apart = absurd (false≢true (sym none))
 stays true true false true none apart = absurd (false≢true (sym (apart refl)))
 stays true false false true none apart = refl
@@ -36,7 +33,7 @@ stays false a false true none apart = refl
 
 -- of what comes only what is asked for counts
 comes : (b m p : Bool) → ((b || (m && p)) && p) ≡ ((b || m) && p)
-comes b m false = no_and (b || (m && false)) ∙ sym (no_and (b || m))
+comes b m false = and-false (b || (m && false)) ∙ sym (and-false (b || m))
 comes b true true = refl
 comes b false true = refl
 
@@ -46,7 +43,7 @@ module _ {A : Type 0} {R : A → A → Ordering} (o : IsTotalOrder R) (exact : (
   none_of f [] e q h = absurd (false≢true h)
   none_of f (x ∷ xs) e q h =
       let parts = or_parts (f x) (list_any f xs) e in
-      either (eq_by_cmp R q x) (has R xs q) (λ same. ap f (exact_by o exact q x same) ∙ parts.0) (none_of f xs parts.1 q) h
+      ⊎_elim (λ same. ap f (exact_by o exact q x same) ∙ parts.0) (none_of f xs parts.1 q) (or_cases (eq_by_cmp R q x) (has R xs q) h)
 
   -- where no member of the second is one of the first, no member of the first is one of the second
   pub none_in_common : (xs ys : List A) → list_any (λ q. has R xs q) ys ≡ false → (q : A) → has R xs q ≡ true → has R ys q ≡ false
@@ -82,15 +79,6 @@ abbrev pub quads_told : Answer → List (Quad Id)
 quads_told (Quads quads) = quads
 quads_told (Is so) = []
 quads_told (Names names) = []
-
-pub says-scan : (p : QuadPattern Id) (d : View) → says (Scan p) d ≡ Quads (filter (matches id_order p) d.quads)
-unfolding says
-says-scan p d = refl
-
--- where two datasets tell a scan the same, the same quads match
-alike_quads : (p : QuadPattern Id) (v w : View) → says (Scan p) v ≡ says (Scan p) w → filter (matches id_order p) v.quads ≡ filter (matches id_order p) w.quads
-unfolding says
-alike_quads p v w e = ap quads_told e
 
 kept : (p : QuadPattern Id) (c : Delta) (part d : View) → IsRising id_order d → says (Scan p) part ≡ says (Scan p) d → filter (matches id_order p) c.present ≡ []
     → ((q : Quad Id) → has (quad_order id_order) (filter (matches id_order p) part.quads) q ≡ true → has (quad_order id_order) c.absent q ≡ false) → says (Scan p) part ≡ says (Scan p) (applied c d)

@@ -6,12 +6,14 @@ use Rattle.std.specs.BTreeMap.{BTreeMap, get, is_at}
 use Rattle.std.specs.Map.{lookup}
 use Rattle.std.specs.Cmp.{tied_itself}
 use Rattle.std.specs.Ordering.{eq_by_cmp, is_eq}
-use Rattle.std.proofs.lemmas.Bool.{false≢true}
+use Rattle.std.proofs.lemmas.Bool.{false≢true, or_from, or_cases}
 use Rattle.std.proofs.lemmas.Cmp.{nat_eq_equiv}
 use Rattle.std.proofs.lemmas.List.{take_all, take-append-drop}
 use Rattle.std.proofs.lemmas.List.Folds.{list_any-append, list_any_more}
+use Rattle.std.proofs.Math.Logic.{⊎_elim}
+use Rattle.std.proofs.Math.Bool.{or-true}
 use Rattle.sets.specs.Sets.{has}
-use Rattle.sets.proofs.SetLaws.{exact_by}
+use Rattle.sets.proofs.SetLaws.{exact_by, or_and_parts}
 use Rattle.datasets.specs.declared.id.Id.{Id}
 use Rattle.datasets.specs.declared.quad.Quad.{Quad}
 use Rattle.datasets.specs.declared.read.Read.TheVariants.{Scan, GraphIs, Graphs}
@@ -69,14 +71,6 @@ one_more names i d found lt before here q e = at (has id_order (take i names) q)
     at true h e = before q h
     at false h e = ap found (exact_by id_total id_exact q (get_or names i d) e) ∙ here
 
-or_none : (a b : Bool) → a ≡ false → b ≡ false → (a || b) ≡ false
-or_none true b e f = absurd (false≢true (sym e))
-or_none false b e f = f
-
-pub either : {X : Type 0} (a b : Bool) → (a ≡ true → X) → (b ≡ true → X) → (a || b) ≡ true → X
-either true b f g e = f refl
-either false b f g e = g e
-
 -- where a delta covers a read, its request is among those of what was put of each part
 pub all_put : (g : Generation) (d : Delta) (j : ℕ) → ((p : Quad Id → Bool) → (list_any p d.present || list_any p d.absent) ≡ true → list_any (λ (h : Hint). p h.quad && (h.request == j)) g.quads ≡ true)
     → ((name : Id) → (has id_order d.there name || has id_order d.gone name) ≡ true → list_any (λ r. r == j) (requests_of g.names name) ≡ true)
@@ -101,16 +95,7 @@ none_put g g' d request quads names naming Graphs j e f = naming j e f
 
 -- what holds of none of a list, and not of one more, holds of none with that one
 pub none_longer : (xs zs : List ℕ) (r : ℕ) → zs ≡ xs ++ (r ∷ []) → (p : ℕ → Bool) → list_any p xs ≡ false → p r ≡ false → list_any p zs ≡ false
-none_longer xs zs r is p e f = ap (list_any p) is ∙ list_any-append p xs (r ∷ []) ∙ or_none (list_any p xs) (p r || false) e (or_none (p r) false f refl)
-
--- a test of both is a test of each
-pub or_and_parts : (a b c : Bool) → ((a || b) && c) ≡ false → ((a && c) ≡ false) × ((b && c) ≡ false)
-or_and_parts true b true e = absurd (false≢true (sym e))
-or_and_parts true true false e = (refl, refl)
-or_and_parts true false false e = (refl, refl)
-or_and_parts false true true e = absurd (false≢true (sym e))
-or_and_parts false true false e = (refl, refl)
-or_and_parts false false c e = (refl, refl)
+none_longer xs zs r is p e f = ap (list_any p) is ∙ list_any-append p xs (r ∷ []) ∙ or_from (list_any p xs) (p r || false) e (or_from (p r) false f refl)
 
 -- the same, of the first of a list and of the next
 pub with_parts : {X Z : Type 0} (p : X → Bool) (xs : List X) (i : ℕ) (d : X) (c : Bool) → i < length xs → (list_any p (take (i + 1) xs) && c) ≡ false
@@ -128,18 +113,14 @@ part_of_all p xs i d c lt e go =
     with_parts p xs i d c lt parts.0 go
 
 pub any_more : {X Z : Type 0} (p : X → Bool) (xs : List X) (i : ℕ) (d : X) → i < length xs → list_any p (take (i + 1) xs) ≡ true → (list_any p (take i xs) ≡ true → Z) → (p (get_or xs i d) ≡ true → Z) → Z
-any_more p xs i d lt e before here = either (list_any p (take i xs)) (p (get_or xs i d)) before here (sym (list_any_more p xs i d lt) ∙ e)
+any_more p xs i d lt e before here = ⊎_elim before here (or_cases (list_any p (take i xs)) (p (get_or xs i d)) (sym (list_any_more p xs i d lt) ∙ e))
 
 -- where all of them are tested
 pub all_parts : {X : Type 0} (p : X → Bool) (xs : List X) (i : ℕ) (c : Bool) → length xs ≤ i → (list_any p xs && c) ≡ false → (list_any p (take i xs) && c) ≡ false
 all_parts p xs i c le e = ap (λ ys. list_any p ys && c) (take_all i xs le) ∙ e
 
 pub at_the_end : (xs zs : List ℕ) (j : ℕ) → zs ≡ xs ++ (j ∷ []) → list_any (λ r. r == j) zs ≡ true
-at_the_end xs zs j is = ap (list_any (λ r. r == j)) is ∙ list_any-append (λ r. r == j) xs (j ∷ []) ∙ ap (λ b. list_any (λ r. r == j) xs || (b || false)) (nat_eq_equiv.refl j) ∙ or_true (list_any (λ r. r == j) xs)
-  where
-    or_true : (b : Bool) → (b || true) ≡ true
-    or_true true = refl
-    or_true false = refl
+at_the_end xs zs j is = ap (list_any (λ r. r == j)) is ∙ list_any-append (λ r. r == j) xs (j ∷ []) ∙ ap (λ b. list_any (λ r. r == j) xs || (b || false)) (nat_eq_equiv.refl j) ∙ or-true (list_any (λ r. r == j) xs)
 
 -- a request is that of a hint of one of these quads exactly where all hints are its
 

@@ -1,20 +1,11 @@
--- Reads with their answers, which are kept or found again.
-use Rattle.std.specs.Prelude.{◌≡◌, List, [], Option, Some, None}
-use Rattle.reads.specs.Reads.{View, Delta, Read, Answer, says}
-use Rattle.version_overlay.specs.Settled.{changed_by}
+-- Notes of little memory.
+use Rattle.quad_index.specs.Known.{quad_of}
+use Rattle.reads.specs.declared.note.Note.{Note}
+use Rattle.reads.specs.Presence.{scan_for, presence}
+use Rattle.version_overlay.specs.declared.lean_note.Form.{Form}
+use Rattle.version_overlay.specs.declared.lean_note.Form.TheVariants.{Presence, Whole}
 
--- the changes, where there are any
-abbrev pub listed : Option (List Delta) → List Delta
-listed None = []
-listed (Some changes) = changes
-
--- the answer that is kept, and else what the read says of the base after the changes
-abbrev pub answer_in : Read → View → Option (List Delta) → Option Answer → Answer
-answer_in read base changes (Some answer) = answer
-answer_in read base changes None = says read (changed_by (listed changes) base)
-
--- an answer that is kept though it may be forgotten is the one that would be found again
-abbrev pub CanForget : Read → View → Option (List Delta) → Option Answer → Type 0
-CanForget read base (Some changes) (Some answer) = answer ≡ says read (changed_by changes base)
-CanForget read base (Some changes) None = Unit {0}
-CanForget read base None answer = Unit {0}
+-- the question whether a quad is there and its answer, or any read with its answer
+abbrev pub note_of : Form → Note
+note_of (Presence quad there) = record { read = scan_for (quad_of quad); answer = presence (quad_of quad) there }
+note_of (Whole note) = note.value

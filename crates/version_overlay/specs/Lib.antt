@@ -2,3 +2,4 @@ pub mod Generation
 pub mod LeanNote
 pub mod Settled
 pub mod Spoken
+pub mod WholeNote

@@ -1,101 +1,91 @@
-//! Reads with their answers, where a long answer needn't be kept: it is found again in the base, with the changes that made it.
+//! Reads with their answers, in little memory once the answers are not needed for now.
 ghost use Rattle.std.specs.Prelude.{◌≡◌, ◌↔◌, IsTrue, IfOk};
 ghost use Rattle.reads.specs.Reads.{says};
-ghost use Rattle.version_overlay.specs.LeanNote.{listed as the_listed};
 ghost use Rattle.version_overlay.specs.Settled.{changed_by};
 
-use crate::along::answer_after;
+use crate::whole_note::WholeNote;
 use datasets::{Id, Read};
 use delta::Delta;
+use quad_index::KnownQuad;
+use reads::presence::{presence_answer, scan_for};
 use reads::same::same_reads;
 use reads::{Answered, IndexedView, Note};
-use sets::Items;
 use std::alloc::{AllocError, Global};
 use std::marker::Model;
-
-/// With fewer quads or names an answer takes no more memory than what it is found again by.
-const WORTH_FORGETTING: usize = 64;
 
 /// A read with its answer, which is kept or can be found again. To a contract it is the read with the answer.
 #[derive(Drop)]
 pub struct LeanNote<'a> {
-    read: Read<Id>,
-    answer: Option<Answered>,
-    // What the answer is found again by.
-    base: &'a IndexedView,
-    // Nothing where the answer is to be kept.
-    changes: Option<Items<Delta>>,
+    form: Form<'a>,
+}
+
+/// Most reads ask for one quad: of these that quad is enough, and whether it was there.
+#[derive(Drop)]
+pub(crate) enum Form<'a> {
+    Presence(KnownQuad, bool),
+    Whole(Box<WholeNote<'a>>),
 }
 
 impl<'a> Model for LeanNote<'a> {
     ghost use Rattle.reads.specs.declared.note.Note.{Note as Noted};
-    ghost use Rattle.version_overlay.specs.LeanNote.{answer_in, CanForget};
+    ghost use Rattle.version_overlay.specs.LeanNote.{note_of};
 
     ghost Value = { Noted };
 
-    ghost view = { λ n. record { read = n.read; answer = answer_in n.read n.base.now n.changes n.answer } };
-
-    ghost invariant = { λ n. CanForget n.read n.base.now n.changes n.answer };
-}
-
-/// Whether an answer is so long that it isn't worth its memory.
-pub fn is_long(answer: &Answered) -> bool {
-    let quads = match answer.quads() {
-        Some(quads) => quads.len(),
-        None => 0,
-    };
-    let names = match answer.names() {
-        Some(names) => names.len(),
-        None => 0,
-    };
-    WORTH_FORGETTING <= quads || WORTH_FORGETTING <= names
+    ghost view = { λ n. note_of n.form };
 }
 
 impl<'a> LeanNote<'a> {
-    /// A read with its answer, which is kept.
-    pub fn kept(base: &'a IndexedView, read: &Read<Id>, answer: Answered) -> LeanNote<'a>
-        ensures { result ≡ record { read = read.now; answer = answer } }
+    /// A read with its answer, which is kept. An error comes only where memory runs out.
+    pub fn kept(
+        alloc: Global,
+        base: &'a IndexedView,
+        read: &Read<Id>,
+        answer: Answered,
+    ) -> Result<LeanNote<'a>, AllocError>
+        ensures { IfOk result (λ note. note ≡ record { read = read.now; answer = answer }) }
     {
-        LeanNote {
-            read: *read,
-            answer: Some(answer),
-            base,
-            changes: None,
-        }
+        let note = Box::new(alloc, WholeNote::kept(base, read, answer))?;
+        Ok(LeanNote {
+            form: Form::Whole(note),
+        })
     }
 
-    /// A read with its answer, which may be forgotten: the read says it of the base after these changes.
+    /// A read with its answer, which may be forgotten: the read says it of the base after these changes. An error comes only where memory
+    /// runs out.
     pub fn lean(
+        alloc: Global,
         base: &'a IndexedView,
         read: &Read<Id>,
         answer: Answered,
         changes: Vec<Delta>,
-    ) -> LeanNote<'a>
+    ) -> Result<LeanNote<'a>, AllocError>
         requires { answer ≡ says read.now (changed_by changes.items base.now) }
-        ensures { result ≡ record { read = read.now; answer = answer } }
+        ensures { IfOk result (λ note. note ≡ record { read = read.now; answer = answer }) }
     {
-        LeanNote {
-            read: *read,
-            answer: Some(answer),
-            base,
-            changes: Some(Items::from_vec(changes)),
-        }
+        let note = Box::new(alloc, WholeNote::lean(base, read, answer, changes))?;
+        Ok(LeanNote {
+            form: Form::Whole(note),
+        })
     }
 
     /// The read.
-    pub fn read(&self) -> &Read<Id>
-        ensures { result.now ≡ self.now.read }
+    pub fn read(&self) -> Read<Id>
+        ensures { result ≡ self.now.read }
     {
-        &self.read
+        match &self.form {
+            Form::Presence(quad, _) => scan_for(quad.to_quad()),
+            Form::Whole(note) => *note.read(),
+        }
     }
 
     /// The answer, shared where it is kept. An error comes only where memory runs out.
     pub fn answer(&self, alloc: Global) -> Result<Answered, AllocError>
         ensures { IfOk result (λ answer. answer ≡ self.now.answer) }
     {
-        match &self.answer {
-            Some(answer) => answer.copied(alloc),
-            None => answer_after(alloc, self.base, listed(&self.changes), &self.read),
+        match &self.form {
+            Form::Presence(quad, there) => presence_answer(alloc, quad, *there),
+            Form::Whole(note) => note.answer(alloc),
         }
     }
 
@@ -111,28 +101,22 @@ impl<'a> LeanNote<'a> {
     pub fn is_note(&self, alloc: Global, note: &Note) -> Result<bool, AllocError>
         ensures { IfOk result (λ same. IsTrue same ↔ (note.now ≡ self.now)) }
     {
-        if !same_reads(&note.read, &self.read) {
+        if !same_reads(&note.read, &self.read()) {
             return Ok(false);
         }
         self.is_answer(alloc, &note.answer)
     }
 
-    /// The answer is no longer kept, if it can be found again.
+    /// The answer is no longer kept, if it can be found again or told in a word.
     pub fn forget(&mut self)
         ensures { self.new ≡ self.old }
     {
-        if self.changes.is_some() {
-            self.answer = None;
+        let Form::Whole(note) = &mut self.form else {
+            return;
+        };
+        match note.presence() {
+            Some((quad, there)) => self.form = Form::Presence(quad, there),
+            None => note.forget(),
         }
-    }
-}
-
-// The changes, where there are any.
-fn listed(changes: &Option<Items<Delta>>) -> &[Delta]
-    ensures { result.now ≡ the_listed changes.now }
-{
-    match changes {
-        Some(changes) => changes.as_slice(),
-        None => &[],
     }
 }

@@ -12,7 +12,9 @@ mod lean_note;
 mod level;
 mod settled;
 mod spoken;
+mod whole_note;
 
-pub use lean_note::{LeanNote, is_long};
+pub use lean_note::LeanNote;
 pub use settled::Settled;
 pub use spoken::Spoken;
+pub use whole_note::is_long;

@@ -119,6 +119,18 @@ impl Settled {
             [first, later @ ..] => joined(alloc, first, later)?.apply(alloc, view),
         }
     }
+
+    /// The same, where they are not needed any more, and are let go as soon as they are one. An error comes only where memory runs out.
+    pub fn into_applied(self, alloc: Global, view: View) -> Result<View, AllocError>
+        ensures { IfOk result (λ after. after ≡ changed_by self view) }
+    {
+        let change = match self.levels.as_slice() {
+            [] => return Ok(view),
+            [first, later @ ..] => joined(alloc, first, later)?,
+        };
+        drop(self);
+        change.into_applied(alloc, view)
+    }
 }
 
 // Whether a change speaks of nothing.

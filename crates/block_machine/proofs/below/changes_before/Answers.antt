@@ -2,10 +2,10 @@ use Rattle.std.proofs.Common.{◌≡◌, subst, ◌∙◌}
 use Rattle.datasets.specs.Id.{id_order}
 use Rattle.change_laws.specs.Laws.{IsRising}
 use Rattle.reads.specs.Reads.{View, Read, says, applied}
+use Rattle.reads.proofs.Changes.{depends}
 use Rattle.version_overlay.specs.Settled.{changed_by}
 use Rattle.block_machine.specs.Kept.{shown}
 use Rattle.block_machine.proofs.Along.{says_more, says_all}
-use Rattle.block_machine.proofs.Overlay.{depends}
 use Rattle.block_machine.proofs.below.changes_before.Goals as goal
 
 pub loop-request-preserved : goal.loop-request-preserved

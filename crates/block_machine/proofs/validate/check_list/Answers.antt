@@ -7,7 +7,7 @@ use Rattle.block_machine.proofs.validate.check_list.Goals as goal
 
 pub returns : goal.returns
 returns c = (
-  ap (blocker (shown c.args.kept.now.slots.items) c.args.i) (sym c.read-read.ensures) ∙ sym c.blocker.ensures ∙ c.in_default.is,
+  ap (blocker (shown c.args.kept.now.slots.items) c.args.i) (sym c.read.ensures) ∙ sym c.blocker.ensures ∙ c.in_default.is,
   λ e.
       absurd
       (false≢true
@@ -17,6 +17,6 @@ returns c = (
       (e
       ∙ sym
       (subst (λ xs. touching (shown xs) c.args.note.now.low c.args.note.now.note.read ++ c.in_ok-now.now ≡ touching (shown xs) c.args.i c.args.note.now.note.read) c.as_slice-slots.ensures.value
-      (subst (λ r. touching (shown c.as_slice-slots.result.now) c.args.note.now.low r ++ c.in_ok-now.now ≡ touching (shown c.as_slice-slots.result.now) c.args.i r) c.read-read.ensures c.in_ok-now.ensures)))
+      (subst (λ r. touching (shown c.as_slice-slots.result.now) c.args.note.now.low r ++ c.in_ok-now.now ≡ touching (shown c.as_slice-slots.result.now) c.args.i r) c.read.ensures c.in_ok-now.ensures)))
       ∙ sym c.as_slice-2.ensures))),
 )

@@ -8,7 +8,7 @@ returns-in-Ok-texts_of_journal-clause-part g c =
     c.in_ok-bytes.bytes.items c.in-Ok-texts_of_journal.texts.dataset.items (string_bytes c.in-Ok-texts_of_journal.texts.replies) c.in_ok-read.ensures.answer c.in-Ok.ensures.answer
     c.in_ok-bytes.ensures.bytes c.in-Ok-texts_of_journal.ensures.answer c.write_texts.result _ _ _ c.write_texts.ensures.part
 
-pub returns-clause-fault : goal.returns-clause-fault
-returns-clause-fault g c =
+pub returns-in-Err-texts_of_journal-clause-fault : goal.returns-in-Err-texts_of_journal-clause-fault
+returns-in-Err-texts_of_journal-clause-fault g c =
     fault_of_journal (g.B.Read.remaining c.args.base.now.inner) (g.K.Read.remaining c.args.block.now.inner) (g.J.Read.remaining c.args.journal.now.inner) c.in_ok-read.read c.in-Ok.requests
     c.in_ok-bytes.bytes.items c.in-Err-texts_of_journal.fault c.in_ok-read.ensures.answer c.in-Ok.ensures.answer c.in_ok-bytes.ensures.bytes c.in-Err-texts_of_journal.ensures.fault

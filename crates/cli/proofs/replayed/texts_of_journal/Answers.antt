@@ -10,7 +10,7 @@ use Rattle.cli.proofs.replayed.texts_of_journal.Goals as goal
 
 pub returns-in-Err-clause-fault : goal.returns-in-Err-clause-fault
 returns-in-Err-clause-fault c =
-    subst (IsReplayFault c.args.base c.args.block.now c.args.journal.items) (sym c.journal_fault.ensures)
+    subst (IsReplayFault c.args.base c.args.block c.args.journal.items) (sym c.journal_fault.ensures)
     (bad_journal _ _ _ _ c.in-Ok.ensures _ _ c.args.journal.items c.tag.ensures c.as_slice.ensures.value c.in-Err.fault (λ n e. c.read_journal.ensures.bad n (c.in-Err.is ∙ ap Err e))
     (λ n e. c.read_journal.ensures.legal n (c.in-Err.is ∙ ap Err e)))
 

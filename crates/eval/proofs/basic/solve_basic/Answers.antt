@@ -1,8 +1,8 @@
 use Rattle.std.proofs.Common.{◌≡◌, true, arith, refl, ◌∙◌}
 use Rattle.std.proofs.lemmas.Grind.{common_steps}
+use Rattle.sets.proofs.Every.{all_at}
 use Rattle.datasets.specs.declared.read.Read.TheVariants.{Scan}
 use Rattle.eval.specs.Scans.{scan_of}
-use Rattle.eval.proofs.Members.{all_at}
 use Rattle.asking.proofs.Notes.{goes_on, goes_as, agreed}
 use Rattle.eval.proofs.basic.solve_basic.Goals as goal
 

@@ -1,4 +1,5 @@
 use Rattle.std.proofs.Common.{◌≡◌, true, List, map, filter, refl, ap, ◌∙◌, arith}
+use Rattle.sets.proofs.Every.{all_at}
 use Rattle.algebra.specs.Expressions.{expression_of}
 use Rattle.datasets.specs.Dataset.{quads_in}
 use Rattle.datasets.specs.declared.id.Id.{Id}
@@ -9,7 +10,6 @@ use Rattle.meaning.specs.Solutions.{passes_all}
 use Rattle.reads.specs.Reads.{applied}
 use Rattle.solution.specs.Limits.{up_to}
 use Rattle.eval.specs.Scans.{scan_of}
-use Rattle.eval.proofs.Members.{all_at}
 use Rattle.eval.proofs.Lasts.{basic_ends, asked_first}
 use Rattle.asking.proofs.Notes.{goes_on, goes_short, goes_as, agreed}
 use Rattle.eval.proofs.basic.solve_basic_up_to.Goals as goal

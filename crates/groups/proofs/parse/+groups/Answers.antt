@@ -1,9 +1,9 @@
 use Rattle.std.proofs.Common.{sym, ap, ◌∙◌}
 use Rattle.std.proofs.lemmas.Result.{err_from_is_err_and}
+use Rattle.std.proofs.lemmas.List.{map_push}
 use Rattle.syntax_trees.specs.Groups.{parts_of, lists_of}
 use Rattle.productions.proofs.ManyLaws.{so_far, many_step, step_smaller}
 use Rattle.groups.specs.Reading.{union_link, group_at}
-use Rattle.groups.proofs.TreeLaws.{map_push}
 use Rattle.groups.proofs.Parts.{groups_consume}
 use Rattle.groups.proofs.LoopLaws.{passes, where_none, starts, first_fails, turn_shrinks, turns, part_fails, front_fails}
 use Rattle.groups.proofs.parse.+groups.Goals as goal

@@ -1,12 +1,11 @@
 use Rattle.std.proofs.Common.{◌≡◌, ◌++◌, Bool, List, map, filter_map, sym, ap, ◌∙◌, append_assoc, subst}
 use Rattle.std.specs.Prelude.{OnOk, filter}
-use Rattle.std.proofs.lemmas.List.Elements.{filter_map-append}
+use Rattle.std.proofs.lemmas.List.Elements.{filter_map-append, filter-append}
 use Rattle.algebra.specs.Expressions.{expression_of}
 use Rattle.datasets.specs.declared.id.Id.{Id}
 use Rattle.datasets.specs.Id.{id_order}
 use Rattle.meaning.specs.Mapping.{Mapping, joined}
 use Rattle.meaning.specs.Solutions.{passes_all}
-use Rattle.solution.proofs.Sizes.{filter_append}
 use Rattle.solution.proofs.limited.push_passing.Goals as goal
 
 pub returns : goal.returns
@@ -19,5 +18,5 @@ returns g c =
     subst (λ (xs : List (Mapping Id)). OnOk c.push_merges-2.result (c.push_merges-2.new.found.items ≡ xs))
     ((λ i. c.in_ok-push_merges.ensures i ++ filter test (filter_map f (c.loose.ensures i)))
     ∙ append_assoc before (filter test (filter_map f near)) (filter test (filter_map f loose))
-    ∙ ap (λ z. before ++ z) (sym (filter_append test (filter_map f near) (filter_map f loose)) ∙ ap (filter test) (sym (filter_map-append f near loose) ∙ ap (λ z. filter_map f (z ++ loose)) c.near.ensures)))
+    ∙ ap (λ z. before ++ z) (sym (filter-append test (filter_map f near) (filter_map f loose)) ∙ ap (filter test) (sym (filter_map-append f near loose) ∙ ap (λ z. filter_map f (z ++ loose)) c.near.ensures)))
     c.push_merges-2.ensures

@@ -5,8 +5,9 @@ use Rattle.datasets.specs.Dataset.{quad_order}
 use Rattle.algebra.specs.declared.update.GraphOperation.TheVariants as graphs
 use Rattle.asking.specs.Near.{is_near_graphs}
 use Rattle.reads.specs.Reads.{Delta, applied}
+use Rattle.reads.proofs.Changes.{rises}
 use Rattle.update.specs.Asked.{AskedNames, IsWithin}
-use Rattle.update.proofs.GraphEffects.{rises_after, created_is, exists_is}
+use Rattle.update.proofs.GraphEffects.{created_is, exists_is}
 use Rattle.update.proofs.GraphNearness.{name_near, parts_within}
 use Rattle.asking.proofs.Notes.{goes_short, goes_as}
 use Rattle.update.proofs.graphs.created.Goals as goal
@@ -41,7 +42,7 @@ returns-clause-effect g c d a =
       there = (made.there ∙ ap (set_of id_order) c.in_ok-there.ensures) i;
       gone = (made.gone ∙ ap (set_of id_order) c.new-3.ensures.items) i;
     } in
-    ap (λ (z : Delta). Ok (applied z D)) own ∙ created_is c.args.name D (rises_after c.args.changes.now d) (sym (c.in_ok-exists.ensures.seen d a) ∙ c.if-exists.false)
+    ap (λ (z : Delta). Ok (applied z D)) own ∙ created_is c.args.name D (rises c.args.changes.now d) (sym (c.in_ok-exists.ensures.seen d a) ∙ c.if-exists.false)
 
 pub returns-clause-within : goal.returns-clause-within
 returns-clause-within g c =

@@ -4,9 +4,10 @@ use Rattle.datasets.specs.Id.{id_order}
 use Rattle.datasets.specs.Dataset.{quad_order}
 use Rattle.asking.specs.Near.{is_near_target}
 use Rattle.reads.specs.Reads.{Delta, applied}
+use Rattle.reads.proofs.Changes.{rises}
 use Rattle.update.specs.Asked.{IsWithin}
 use Rattle.update.specs.Graphs.{quads_of, names_of}
-use Rattle.update.proofs.GraphEffects.{rises_after, dropped_is, not_dropped}
+use Rattle.update.proofs.GraphEffects.{dropped_is, not_dropped}
 use Rattle.update.proofs.GraphNearness.{parts_within}
 use Rattle.asking.proofs.Notes.{goes_on, goes_short, goes_as, agreed}
 use Rattle.update.proofs.graphs.dropped.Goals as goal
@@ -41,7 +42,7 @@ returns-clause-effect g c d a =
       gone = (made.gone ∙ ap (set_of id_order) (c.in_ok-names.ensures.seen d a)) i;
     } in
     ap (λ (z : Delta). Ok (applied z D)) own
-    ∙ dropped_is t D (rises_after c.args.changes.now d) (sym (c.in_ok-exists.ensures.seen d (agreed c.in_ok-quads.ensures.goes d second)) ∙ c.if-not-exists.false)
+    ∙ dropped_is t D (rises c.args.changes.now d) (sym (c.in_ok-exists.ensures.seen d (agreed c.in_ok-quads.ensures.goes d second)) ∙ c.if-not-exists.false)
 
 pub returns-clause-within : goal.returns-clause-within
 returns-clause-within g c =

@@ -6,23 +6,25 @@ use Rattle.algebra.specs.declared.update.GraphOperation.TheVariants as graphs
 use Rattle.meaning.specs.GraphOperations.{in_graph}
 use Rattle.asking.specs.Near.{is_near_graphs, is_near_target}
 use Rattle.reads.specs.Reads.{Delta, applied}
+use Rattle.reads.proofs.Changes.{rises, nothing_changed}
 use Rattle.update.specs.Asked.{AskedNames, AskedQuads, IsWithin}
 use Rattle.update.specs.Graphs.{quads_of, leaving, is_target_there}
-use Rattle.update.proofs.GraphEffects.{rises_after, nothing_happens, same_is, not_transferred, transferred_is, transfer_change, quads_of_one}
-use Rattle.update.proofs.GraphNearness.{first_near, second_near, come_near, leaving_near, put_near, asked_more, parts_within, nothing_within}
+use Rattle.update.proofs.GraphEffects.{same_is, not_transferred, transferred_is, transfer_change, quads_of_one}
+use Rattle.update.proofs.GraphNearness.{first_near, second_near, come_near, leaving_near, put_near, asked_more, parts_within}
 use Rattle.asking.proofs.Notes.{goes_on, goes_within, goes_short, goes_as, agreed}
 use Rattle.update.proofs.graphs.transferred.Goals as goal
+use Rattle.update.proofs.Nearness.{no_change_within}
 
 pub returns-then-is_same_graph-clause-effect : goal.returns-then-is_same_graph-clause-effect
 returns-then-is_same_graph-clause-effect g c d a =
     let D = applied c.args.changes.now d in
-    ap (λ (z : Delta). Ok (applied z D)) c.new.ensures ∙ ap Ok (nothing_happens D (rises_after c.args.changes.now d))
+    ap (λ (z : Delta). Ok (applied z D)) c.new.ensures ∙ ap Ok (nothing_changed D (rises c.args.changes.now d))
     ∙ same_is c.args.how c.args.from c.args.to D (sym c.is_same_graph.ensures ∙ c.if-is_same_graph.true)
 
 pub returns-then-is_same_graph-clause-within : goal.returns-then-is_same_graph-clause-within
 returns-then-is_same_graph-clause-within g c =
     let near = is_near_graphs id_order (graphs.Transfer c.args.how c.args.from c.args.to) in
-    subst (IsWithin near) (sym c.new.ensures) (nothing_within near)
+    subst (IsWithin near) (sym c.new.ensures) (no_change_within near)
 
 pub returns-in_err-exists-clause-goes : goal.returns-in_err-exists-clause-goes
 returns-in_err-exists-clause-goes g c =
@@ -126,7 +128,7 @@ returns-clause-effect g c d a =
       gone = (made.gone ∙ ap (set_of id_order) c.in_ok-names.ensures) i;
     } in
     ap (λ (z : Delta). Ok (applied z D)) own
-    ∙ transferred_is how from to D (rises_after c.args.changes.now d) (sym c.is_same_graph.ensures ∙ c.if-is_same_graph.false)
+    ∙ transferred_is how from to D (rises c.args.changes.now d) (sym c.is_same_graph.ensures ∙ c.if-is_same_graph.false)
     (ap (is_target_there D) (sym c.target_of-first.ensures) ∙ sym (c.in_ok-exists.ensures.seen d (agreed c.in_ok-found.ensures.goes d second)) ∙ c.if-not-exists.false)
 
 pub returns-clause-within : goal.returns-clause-within

@@ -1,4 +1,5 @@
 use Rattle.std.proofs.Common.{◌≡◌, Bool, true, refl, subst, sym}
+use Rattle.sets.proofs.Every.{all_by}
 use Rattle.datasets.specs.Id.{id_order}
 use Rattle.algebra.specs.declared.template.QuadTemplate.{QuadTemplate}
 use Rattle.algebra.specs.declared.update.Operation.TheVariants as operation
@@ -6,7 +7,6 @@ use Rattle.datasets.specs.declared.id.Id.{Id}
 use Rattle.asking.specs.Near.{is_near}
 use Rattle.reads.specs.Reads.{Read}
 use Rattle.update.specs.TemplateScans.{AskedTemplates}
-use Rattle.update.proofs.Members.{always}
 use Rattle.update.proofs.TemplatesNear.{inserted_asked}
 use Rattle.asking.proofs.Notes.{goes_on, goes_as, agreed}
 use Rattle.update.proofs.modify.solutions_of.Goals as goal
@@ -24,4 +24,4 @@ returns-clause-goes g c =
 pub returns-clause-solved : goal.returns-clause-solved
 returns-clause-solved g c d a =
     let any : Read → Bool = λ r. true in
-    c.in_ok-found.ensures.solved d (agreed (c.in_ok-ask_templates.ensures any (always (λ (t : QuadTemplate Id). true ≡ true) (λ t. refl) c.as_slice.result.now)) d a)
+    c.in_ok-found.ensures.solved d (agreed (c.in_ok-ask_templates.ensures any (all_by (λ (t : QuadTemplate Id). true ≡ true) (λ t. refl) c.as_slice.result.now)) d a)

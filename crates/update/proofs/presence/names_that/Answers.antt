@@ -1,9 +1,10 @@
 use Rattle.std.proofs.Common.{◌≡◌, true, refl, ap, ◌∙◌}
 use Rattle.sets.specs.Sets.{has}
+use Rattle.sets.proofs.Every.{all_at, all_by}
 use Rattle.datasets.specs.declared.read.Read.TheVariants.{GraphIs}
 use Rattle.datasets.specs.Id.{id_order}
 use Rattle.reads.specs.Same.{bool_eq}
-use Rattle.update.proofs.Members.{all_at, always, filtered_more}
+use Rattle.update.proofs.Members.{filtered_more}
 use Rattle.asking.proofs.Notes.{goes_on, goes_short, goes_as, agreed}
 use Rattle.update.proofs.presence.names_that.Goals as goal
 
@@ -21,7 +22,7 @@ loop-name-preserved g c = record {
       goes_on (c.loop-name.invariant.goes allowed h) (c.in_ok-is_there.ensures.goes allowed (all_at (λ q. allowed (GraphIs q) ≡ true) _ _ _ h c.loop-name-test.true));
   told = λ d a.
       let before = agreed (c.in_ok-is_there.ensures.goes (λ r. true) refl) d a in
-      let start = agreed (c.loop-name.invariant.goes (λ r. true) (always (λ g. true ≡ true) (λ g. refl) c.args.names.now)) d before in
+      let start = agreed (c.loop-name.invariant.goes (λ r. true) (all_by (λ g. true ≡ true) (λ g. refl) c.args.names.now)) d before in
       filtered_more (λ q. bool_eq c.args.are_there (has id_order d.names q)) _ _ _ _ _ _ _ c.loop-name-test.true (c.same_bool.ensures ∙ ap (bool_eq c.args.are_there) (c.in_ok-is_there.ensures.told d (c.requires d start) a)) c.in_ok-push_if.ensures
       (c.loop-name.invariant.told d before);
 }

@@ -1,6 +1,6 @@
 use Rattle.std.specs.Prelude.{not, is_none, is_some, if◌then◌else◌}
 use Rattle.std.proofs.Common.{◌≡◌, Bool, true, false, Option, Some, None, refl, ◌++◌, ◌∷◌, [], ap, ◌∙◌}
-use Rattle.update.specs.Asked.{scan_for}
+use Rattle.reads.specs.Presence.{scan_for}
 use Rattle.update.specs.Known.{told_of}
 use Rattle.update.proofs.Members.{mapped_more}
 use Rattle.update.proofs.presence.scans_for_untold.Goals as goal

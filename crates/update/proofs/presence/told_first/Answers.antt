@@ -1,6 +1,6 @@
 use Rattle.std.proofs.Common.{◌∙◌, subst, ◌∷◌}
 use Rattle.update.specs.Known.{TellOf}
-use Rattle.update.proofs.KnownQuads.{first_known, first_noted, first_lacking, first_of}
+use Rattle.update.proofs.KnownQuads.{first_known, first_noted, first_of}
 use Rattle.update.proofs.presence.told_first.Goals as goal
 
 pub returns-in-Some : goal.returns-in-Some

@@ -1,5 +1,6 @@
 use Rattle.std.proofs.Common.{◌≡◌, true, refl, sym, ap, subst, ◌∙◌}
 use Rattle.std.proofs.lemmas.Result.{IfOk-weaker}
+use Rattle.sets.proofs.Every.{all_by}
 use Rattle.datasets.specs.declared.read.Read.TheVariants.{Graphs}
 use Rattle.datasets.specs.Id.{id_order}
 use Rattle.asking.specs.Near.{is_near_target}
@@ -8,7 +9,6 @@ use Rattle.algebra.specs.declared.update.Target.TheVariants as target
 use Rattle.update.specs.Asked.{AskedNames}
 use Rattle.update.specs.Graphs.{names_of}
 use Rattle.update.proofs.GraphNearness.{name_near}
-use Rattle.update.proofs.Members.{always}
 use Rattle.update.proofs.targets.names_of.Goals as goal
 
 pub returns-in_ok-names-in-Graph-clause-seen : goal.returns-in_ok-names-in-Graph-clause-seen
@@ -41,8 +41,8 @@ returns-in-Default-clause-within g c = subst (AskedNames (is_near_target id_orde
 
 pub returns-in-Named-clause-within : goal.returns-in-Named-clause-within
 returns-in-Named-clause-within g c =
-    IfOk-weaker c.graphs.result _ _ (λ names h. subst (λ t. AskedNames (is_near_target id_order t) names.items) (sym c.in-Named.is) (always (λ n. true ≡ true) (λ n. refl) names.items)) c.graphs.ensures.seen
+    IfOk-weaker c.graphs.result _ _ (λ names h. subst (λ t. AskedNames (is_near_target id_order t) names.items) (sym c.in-Named.is) (all_by (λ n. true ≡ true) (λ n. refl) names.items)) c.graphs.ensures.seen
 
 pub returns-in-All-clause-within : goal.returns-in-All-clause-within
 returns-in-All-clause-within g c =
-    IfOk-weaker c.graphs-in-All.result _ _ (λ names h. subst (λ t. AskedNames (is_near_target id_order t) names.items) (sym c.in-All.is) (always (λ n. true ≡ true) (λ n. refl) names.items)) c.graphs-in-All.ensures.seen
+    IfOk-weaker c.graphs-in-All.result _ _ (λ names h. subst (λ t. AskedNames (is_near_target id_order t) names.items) (sym c.in-All.is) (all_by (λ n. true ≡ true) (λ n. refl) names.items)) c.graphs-in-All.ensures.seen

@@ -1,6 +1,6 @@
 use Rattle.std.proofs.Common.{◌≡◌, true}
+use Rattle.sets.proofs.Every.{all_at}
 use Rattle.update.specs.TemplateScans.{template_scan}
-use Rattle.update.proofs.Members.{all_at}
 use Rattle.asking.proofs.Notes.{goes_on, goes_as}
 use Rattle.update.proofs.template_scans.ask_templates.Goals as goal
 

@@ -1,14 +1,15 @@
 use Rattle.std.proofs.Common.{ap, ◌∙◌, filter_map}
 use Rattle.std.specs.List.{list_any}
+use Rattle.reads.proofs.Rising.{rises-sets}
 use Rattle.sets.specs.Sets.{set_of}
 use Rattle.datasets.specs.Id.{id_order}
 use Rattle.datasets.specs.Dataset.{quad_order}
 use Rattle.update.specs.Whole.{is_any, is_default, name_at}
-use Rattle.update.proofs.WholeGraphs.{known_of_notes, rising_sets}
+use Rattle.update.proofs.WholeGraphs.{known_of_notes}
 use Rattle.update.proofs.whole.whole_of.Goals as goal
 
 pub invariant_of-result : goal.invariant_of-result
-invariant_of-result c = rising_sets _ _ c.in_ok-quads.quads.items c.in_ok-names.names.items c.set_of-2.ensures c.set_of.ensures
+invariant_of-result c = rises-sets _ _ c.in_ok-quads.quads.items c.in_ok-names.names.items c.set_of-2.ensures c.set_of.ensures
 
 pub returns : goal.returns
 returns c d a =

@@ -1,6 +1,7 @@
 use Rattle.std.proofs.Common.{ap, sym, ◌∙◌}
 use Rattle.reads.specs.Reads.{covers}
-use Rattle.version_overlay.proofs.Changing.{uncovered, covered_as}
+use Rattle.reads.proofs.Changes.{uncovered}
+use Rattle.version_overlay.proofs.Changing.{covered_as}
 use Rattle.version_overlay.proofs.along.changed_part.Goals as goal
 
 pub returns-then-not-covers : goal.returns-then-not-covers

@@ -1,7 +1,8 @@
 use Rattle.std.proofs.Common.{ap, sym, ◌∙◌}
 use Rattle.reads.specs.Reads.{says}
+use Rattle.reads.proofs.Changes.{uncovered}
 use Rattle.version_overlay.specs.Settled.{changed_by}
-use Rattle.version_overlay.proofs.Changing.{uncovered, changed_by-rises, pushed_is}
+use Rattle.version_overlay.proofs.Changing.{changed_by-rises, pushed_is}
 use Rattle.version_overlay.proofs.along.push_covering.Goals as goal
 
 pub returns-then-not-covers : goal.returns-then-not-covers

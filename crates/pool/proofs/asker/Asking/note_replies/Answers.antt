@@ -1,6 +1,7 @@
 use Rattle.std.proofs.Common.{rules, arith, ◌≡◌, ◌<◌, length, drop, [], ◌⊎◌, inl, inr, sym, ap, ◌∙◌}
+use Rattle.std.proofs.lemmas.List.{nil_from_length}
 use Rattle.shared.specs.Asks.{told_by}
-use Rattle.pool.proofs.AskingAll.{some_first, first_is, one_less, no_items, taken_first, along_next, along_stops, along_whole, along_short}
+use Rattle.pool.proofs.AskingAll.{some_first, first_is, one_less, taken_first, along_next, along_stops, along_whole, along_short}
 use Rattle.pool.proofs.asker.Asking.note_replies.Goals.{then-loop-replies-test+else-not-is_empty, else-loop-replies-test}
 use Rattle.pool.proofs.asker.Asking.note_replies.Goals as goal
 
@@ -28,8 +29,8 @@ loop-replies-preserved g c =
 pub returns-in_err-made : goal.returns-in_err-made
 returns-in_err-made g c =
     let over : (c.loop-replies.left.now ≡ []) ⊎ (c.loop-replies.replies.items ≡ []) = elim c.loop-replies-test.branch [
-      | then-loop-replies-test+else-not-is_empty w ↦ (let none : length c.loop-replies.replies.items ≡ 0 = search rules in inr (no_items _ none))
-      | else-loop-replies-test w ↦ (let none : length c.loop-replies.left.now ≡ 0 = search rules in inl (no_items _ none))
+      | then-loop-replies-test+else-not-is_empty w ↦ (let none : length c.loop-replies.replies.items ≡ 0 = search rules in inr (nil_from_length _ none))
+      | else-loop-replies-test w ↦ (let none : length c.loop-replies.left.now ≡ 0 = search rules in inl (nil_from_length _ none))
     ] in
     λ old h. along_short c.args.self.now c.args.made old c.args.reads.now c.loop-replies.left.now c.loop-replies.replies.items c.args.notes.now.items c.loop-replies.notes.items _ c.from_residual-in_err-made.result over
     c.in_err-made.was c.from_residual-in_err-made.ensures.1 (c.loop-replies.invariant.along old h)
@@ -37,8 +38,8 @@ returns-in_err-made g c =
 pub returns : goal.returns
 returns g c =
     let over : (c.loop-replies.left.now ≡ []) ⊎ (c.loop-replies.replies.items ≡ []) = elim c.loop-replies-test.branch [
-      | then-loop-replies-test+else-not-is_empty w ↦ (let none : length c.loop-replies.replies.items ≡ 0 = search rules in inr (no_items _ none))
-      | else-loop-replies-test w ↦ (let none : length c.loop-replies.left.now ≡ 0 = search rules in inl (no_items _ none))
+      | then-loop-replies-test+else-not-is_empty w ↦ (let none : length c.loop-replies.replies.items ≡ 0 = search rules in inr (nil_from_length _ none))
+      | else-loop-replies-test w ↦ (let none : length c.loop-replies.left.now ≡ 0 = search rules in inl (nil_from_length _ none))
     ] in
     λ old h. along_whole c.args.self.now c.args.made old c.args.reads.now c.loop-replies.left.now c.loop-replies.replies.items c.args.notes.now.items c.loop-replies.notes.items tt _ over c.in_ok-made.was
     (c.loop-replies.invariant.along old h)

@@ -1,20 +1,12 @@
 use Rattle.std.proofs.Common.{◌≡◌, ◌∙◌, ◌<◌, ℕ, zero, suc, true, false, Bool, List, [], ◌∷◌, refl, sym, arith, get_or, length}
 use Rattle.std.specs.Prelude.{◌↔◌, ◌||◌}
 use Rattle.std.specs.List.{list_any, Contains}
-use Rattle.std.proofs.lemmas.Bool.{false≢true}
+use Rattle.std.proofs.lemmas.Bool.{false≢true, or_right, or_left}
 use denote.Enum.Bare.{sameb, same_true, true_same}
 use Rattle.quad_index.specs.contracts.key.Arrangement.{the_type}
 use Rattle.quad_index.specs.declared.key.Arrangement.{Arrangement}
 use Rattle.quad_index.specs.declared.key.Arrangement.TheVariants.{Spog, Pogs, Ogsp, Gspo, Gpso, Ospg}
 use Rattle.quad_index.proofs.order_set.OrderSet.of.Goals as goal
-
-or_right : (b c : Bool) → c ≡ true → (b || c) ≡ true
-or_right true c e = refl
-or_right false c e = e
-
-or_left : (b c : Bool) → b ≡ true → (b || c) ≡ true
-or_left true c e = refl
-or_left false c e = absurd (false≢true e)
 
 module _ (a : Arrangement) where
   is_it : Arrangement → Bool

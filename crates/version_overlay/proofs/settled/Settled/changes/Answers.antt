@@ -1,7 +1,8 @@
 use Rattle.std.proofs.Common.{ap, sym, ◌∙◌, take}
 use Rattle.reads.specs.Reads.{says, applied}
+use Rattle.reads.proofs.Changes.{depends}
 use Rattle.version_overlay.specs.Settled.{changed_by}
-use Rattle.version_overlay.proofs.Changing.{depends, changed_by_more}
+use Rattle.version_overlay.proofs.Changing.{changed_by_more}
 use Rattle.version_overlay.proofs.settled.Settled.changes.Goals as goal
 
 pub loop-each-preserved : goal.loop-each-preserved

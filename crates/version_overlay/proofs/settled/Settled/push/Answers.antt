@@ -2,8 +2,9 @@ use Rattle.std.proofs.Common.{◌≡◌, sym, ap, ◌∙◌}
 use Rattle.datasets.specs.declared.read.Read.TheVariants.{Scan}
 use Rattle.quad_index.specs.Seen.{may_match}
 use Rattle.reads.specs.Reads.{View, says, applied, covers}
+use Rattle.reads.proofs.Changes.{uncovered, nothing_changed}
 use Rattle.version_overlay.specs.Settled.{changed_by}
-use Rattle.version_overlay.proofs.Changing.{nothing_changed, changed-rises, changed_by-rises, some_are, pushed_is, uncovered}
+use Rattle.version_overlay.proofs.Changing.{changed-rises, changed_by-rises, some_are, pushed_is}
 use Rattle.version_overlay.proofs.Generations.{stopped}
 use Rattle.version_overlay.proofs.settled.Settled.push.Goals as goal
 

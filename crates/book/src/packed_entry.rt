@@ -1,0 +1,173 @@
+//! Entries of a journal in little memory.
+ghost use Rattle.std.specs.Prelude.{◌≡◌, IfSome};
+ghost use Rattle.book.specs.PackedEntry.{count_if, entry_of, kept_shown};
+
+use crate::journal_entry::{JournalEntry, Kept};
+use block_machine::{Event, Reply};
+use datasets::{Id, Read};
+use quad_index::KnownQuad;
+use reads::presence::{quad_scanned, scan_for};
+use std::alloc::{AllocError, Global};
+use std::marker::Model;
+
+/// An entry of a journal. To a contract it is that entry.
+#[derive(Drop)]
+pub struct PackedEntry {
+    form: Form,
+}
+
+/// Most entries are the answer to a read that asks for one quad, or a check that passed. Those need little memory.
+#[derive(Drop)]
+pub(crate) enum Form {
+    Presence {
+        worker: u32,
+        request: u32,
+        incarnation: u32,
+        quad: KnownQuad,
+        there: bool,
+    },
+    Passed {
+        worker: u32,
+        request: u32,
+        incarnation: u32,
+    },
+    Whole(Box<JournalEntry>),
+}
+
+/// What an entry keeps of its event and the reply, to be looked at.
+#[derive(Drop)]
+pub enum Shown<'a> {
+    /// A read that was answered, with how many quads or names, or 0 or 1 for whether a graph is there.
+    Answered(usize, u64, Read<Id>, u64),
+    /// A check that passed.
+    Passed(usize, u64),
+    Whole(&'a Kept),
+}
+
+impl Model for PackedEntry {
+    ghost use Rattle.book.specs.PackedEntry.{entry_of};
+    ghost use Rattle.book.specs.declared.journal_entry.JournalEntry.{JournalEntry as Recorded};
+
+    ghost Value = { Recorded };
+
+    ghost view = { λ e. entry_of e.form };
+}
+
+/// Room for an entry that is not one of the many. An error comes only where memory runs out.
+pub(crate) fn room(
+    alloc: Global,
+    spare: Option<Box<JournalEntry>>,
+) -> Result<Box<JournalEntry>, AllocError> {
+    match spare {
+        Some(room) => Ok(room),
+        None => Ok(Box::new(
+            alloc,
+            JournalEntry {
+                worker: 0,
+                kept: Kept::Other(Event::Take(0), Reply::Stale),
+            },
+        )?),
+    }
+}
+
+// Whether one is counted, or none.
+fn is_one(count: u64) -> Option<bool>
+    ensures { IfSome result (λ there. count_if there ≡ count) }
+{
+    match count {
+        0 => Some(false),
+        1 => Some(true),
+        _ => None,
+    }
+}
+
+// The answer to a read in little memory, if it asks for one quad.
+fn packed_answer(worker: u32, i: usize, n: u64, read: &Read<Id>, count: u64) -> Option<Form>
+    ensures { IfSome result (λ form. entry_of form
+        ≡ record { worker = worker; kept = Kept.Answered i n read.now count }) }
+{
+    Some(Form::Presence {
+        worker,
+        request: u32::try_from(i).ok()?,
+        incarnation: u32::try_from(n).ok()?,
+        quad: quad_scanned(read)?,
+        there: is_one(count)?,
+    })
+}
+
+// A check that passed, in little memory.
+fn packed_check(worker: u32, i: usize, n: u64) -> Option<Form>
+    ensures { IfSome result (λ form. entry_of form
+        ≡ record { worker = worker; kept = Kept.Other (Event.Check i n) Reply.Passed }) }
+{
+    Some(Form::Passed {
+        worker,
+        request: u32::try_from(i).ok()?,
+        incarnation: u32::try_from(n).ok()?,
+    })
+}
+
+fn packed(entry: &JournalEntry) -> Option<Form>
+    ensures { IfSome result (λ form. entry_of form ≡ entry.now) }
+{
+    match &entry.kept {
+        Kept::Answered(i, n, read, count) => packed_answer(entry.worker, *i, *n, read, *count),
+        Kept::Other(Event::Check(i, n), Reply::Passed) => packed_check(entry.worker, *i, *n),
+        _ => None,
+    }
+}
+
+impl PackedEntry {
+    /// This entry, and the room that it does not need.
+    pub(crate) fn new(
+        entry: JournalEntry,
+        room: Box<JournalEntry>,
+    ) -> (PackedEntry, Option<Box<JournalEntry>>)
+        ensures { result.0 ≡ entry }
+    {
+        if let Some(form) = packed(&entry) {
+            return (PackedEntry { form }, Some(room));
+        }
+        let mut room = room;
+        *room = entry;
+        let form = Form::Whole(room);
+        (PackedEntry { form }, None)
+    }
+
+    /// The worker whose event it is.
+    pub fn worker(&self) -> u32
+        ensures { result ≡ self.now.worker }
+    {
+        match &self.form {
+            Form::Presence { worker, .. } => *worker,
+            Form::Passed { worker, .. } => *worker,
+            Form::Whole(entry) => entry.worker,
+        }
+    }
+
+    /// What it keeps of the event and the reply.
+    pub fn shown(&self) -> Shown<'_>
+        ensures { kept_shown result ≡ self.now.kept }
+    {
+        match &self.form {
+            Form::Presence {
+                request,
+                incarnation,
+                quad,
+                there,
+                ..
+            } => Shown::Answered(
+                *request as usize,
+                *incarnation as u64,
+                scan_for(quad.to_quad()),
+                *there as u64,
+            ),
+            Form::Passed {
+                request,
+                incarnation,
+                ..
+            } => Shown::Passed(*request as usize, *incarnation as u64),
+            Form::Whole(entry) => Shown::Whole(&entry.kept),
+        }
+    }
+}

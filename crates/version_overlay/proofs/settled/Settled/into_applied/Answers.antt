@@ -1,0 +1,16 @@
+use Rattle.std.proofs.Common.{sym, ap, ◌∙◌}
+use Rattle.std.proofs.lemmas.Result.{IfOk-weaker}
+use Rattle.version_overlay.specs.Settled.{changed_by}
+use Rattle.version_overlay.proofs.Changing.{changed_by-nothing, below_one, first_apart}
+use Rattle.version_overlay.proofs.settled.Settled.into_applied.Goals as goal
+
+pub returns-in-empty : goal.returns-in-empty
+returns-in-empty c =
+    let is = sym c.self.view_is ∙ sym c.as_slice.ensures.value ∙ below_one c.as_slice.result.now c.in-empty.len_below in
+    sym (ap (λ cs. changed_by cs c.args.view) is ∙ changed_by-nothing c.args.view)
+
+pub returns : goal.returns
+returns c =
+    IfOk-weaker c.into_applied.result _ _
+    (λ after e. e ∙ c.in_ok-change-in-len1-up.ensures c.args.view ∙ first_apart c.as_slice.result.now c.first-item.result c.in-len1-up.len_at_least c.first-item.is c.args.view
+    ∙ ap (λ cs. changed_by cs c.args.view) (c.as_slice.ensures.value ∙ c.self.view_is)) c.into_applied.ensures

@@ -1,0 +1,136 @@
+//! Reads with their answers, where a long answer needn't be kept: it is found again in the base, with the changes that made it.
+ghost use Rattle.std.specs.Prelude.{◌≡◌, IfOk, IfSome};
+ghost use Rattle.quad_index.specs.Known.{quad_of};
+ghost use Rattle.reads.specs.Presence.{scan_for, presence};
+ghost use Rattle.reads.specs.Reads.{says};
+ghost use Rattle.version_overlay.specs.WholeNote.{listed as the_listed};
+ghost use Rattle.version_overlay.specs.Settled.{changed_by};
+
+use crate::along::answer_after;
+use datasets::{Id, Read};
+use delta::Delta;
+use quad_index::KnownQuad;
+use reads::presence::{is_present, quad_scanned};
+use reads::{Answered, IndexedView};
+use sets::Items;
+use std::alloc::{AllocError, Global};
+use std::marker::Model;
+
+/// With fewer quads or names an answer takes no more memory than what it is found again by.
+const WORTH_FORGETTING: usize = 64;
+
+/// A read with its answer, which is kept or can be found again. To a contract it is the read with the answer.
+#[derive(Drop)]
+pub struct WholeNote<'a> {
+    read: Read<Id>,
+    answer: Option<Answered>,
+    // What the answer is found again by.
+    base: &'a IndexedView,
+    // Nothing where the answer is to be kept.
+    changes: Option<Items<Delta>>,
+}
+
+impl<'a> Model for WholeNote<'a> {
+    ghost use Rattle.reads.specs.declared.note.Note.{Note as Noted};
+    ghost use Rattle.version_overlay.specs.WholeNote.{answer_in, CanForget};
+
+    ghost Value = { Noted };
+
+    ghost view = { λ n. record { read = n.read; answer = answer_in n.read n.base.now n.changes n.answer } };
+
+    ghost invariant = { λ n. CanForget n.read n.base.now n.changes n.answer };
+}
+
+/// Whether an answer is so long that it isn't worth its memory.
+pub fn is_long(answer: &Answered) -> bool {
+    let quads = match answer.quads() {
+        Some(quads) => quads.len(),
+        None => 0,
+    };
+    let names = match answer.names() {
+        Some(names) => names.len(),
+        None => 0,
+    };
+    WORTH_FORGETTING <= quads || WORTH_FORGETTING <= names
+}
+
+impl<'a> WholeNote<'a> {
+    /// A read with its answer, which is kept.
+    pub fn kept(base: &'a IndexedView, read: &Read<Id>, answer: Answered) -> WholeNote<'a>
+        ensures { result ≡ record { read = read.now; answer = answer } }
+    {
+        WholeNote {
+            read: *read,
+            answer: Some(answer),
+            base,
+            changes: None,
+        }
+    }
+
+    /// A read with its answer, which may be forgotten: the read says it of the base after these changes.
+    pub fn lean(
+        base: &'a IndexedView,
+        read: &Read<Id>,
+        answer: Answered,
+        changes: Vec<Delta>,
+    ) -> WholeNote<'a>
+        requires { answer ≡ says read.now (changed_by changes.items base.now) }
+        ensures { result ≡ record { read = read.now; answer = answer } }
+    {
+        WholeNote {
+            read: *read,
+            answer: Some(answer),
+            base,
+            changes: Some(Items::from_vec(changes)),
+        }
+    }
+
+    /// The read.
+    pub fn read(&self) -> &Read<Id>
+        ensures { result.now ≡ self.now.read }
+    {
+        &self.read
+    }
+
+    /// The answer, shared where it is kept. An error comes only where memory runs out.
+    pub fn answer(&self, alloc: Global) -> Result<Answered, AllocError>
+        ensures { IfOk result (λ answer. answer ≡ self.now.answer) }
+    {
+        match &self.answer {
+            Some(answer) => answer.copied(alloc),
+            None => answer_after(alloc, self.base, listed(&self.changes), &self.read),
+        }
+    }
+
+    /// The quad that the read asks for alone, and whether it was there: if it asks for one, of known terms, and the answer is kept.
+    pub fn presence(&self) -> Option<(KnownQuad, bool)>
+        ensures { IfSome result (λ found. record
+            { read = scan_for (quad_of found.0); answer = presence (quad_of found.0) found.1 }
+            ≡ self.now) }
+    {
+        let quad = quad_scanned(&self.read)?;
+        match &self.answer {
+            Some(answer) => Some((quad, is_present(&quad, answer)?)),
+            None => None,
+        }
+    }
+
+    /// The answer is no longer kept, if it can be found again.
+    pub fn forget(&mut self)
+        ensures { self.new ≡ self.old }
+    {
+        if self.changes.is_some() {
+            self.answer = None;
+        }
+    }
+}
+
+// The changes, where there are any.
+fn listed(changes: &Option<Items<Delta>>) -> &[Delta]
+    ensures { result.now ≡ the_listed changes.now }
+{
+    match changes {
+        Some(changes) => changes.as_slice(),
+        None => &[],
+    }
+}
