@@ -171,7 +171,7 @@ fn literal(alloc: Global, datatype: &str, tag: Option<&str>) -> Result<Option<Li
     let datatype = Iri::check(alloc, datatype)?.ok_or("no IRI")?;
     let tag = tag_of(alloc, tag)?;
     let lexical = String::from_str(alloc, "é\n")?;
-    Ok(Literal::new(lexical, datatype, tag))
+    Ok(Literal::new(alloc, lexical, datatype, tag)?)
 }
 
 /// Whether a copy of the literal of a line end with this datatype and this tag has them, if there is one.

@@ -89,13 +89,19 @@ fn name_key<'a>(prefix: &Piece<'a>, local: &LocalPart<'a>) -> (Key<'a>, Key<'a>)
 }
 
 /// The literal of these parts.
-fn literal_from(lexical: String, datatype: Iri, tag: Option<String>) -> Option<Literal>
+fn literal_from(
+    alloc: Global,
+    lexical: String,
+    datatype: Iri,
+    tag: Option<String>,
+) -> Result<Option<Literal>, AllocError>
     requires { ForSome (tag_bytes tag) (λ t. is_tag t ≡ true) }
-    ensures { result ≡ the_literal_from (string_bytes lexical) datatype (tag_bytes tag) }
+    ensures { IfOk result (λ found. found ≡ the_literal_from (string_bytes lexical) datatype
+        (tag_bytes tag)) }
 {
     let _lexical = lexical.as_str();
     let _datatype = datatype.as_str();
-    Literal::new(lexical, datatype, tag)
+    Literal::new(alloc, lexical, datatype, tag)
 }
 
 impl<'a> Prefixes<'a> {
@@ -269,7 +275,7 @@ impl<'a> Prefixes<'a> {
             (tag_bytes tag)) }
     {
         match self.whole.iri(alloc, datatype)? {
-            Some(iri) => Ok(literal_from(lexical, iri, tag)),
+            Some(iri) => literal_from(alloc, lexical, iri, tag),
             None => Ok(None),
         }
     }
@@ -299,7 +305,7 @@ impl<'a> Prefixes<'a> {
             (iri_of self.now datatype.now)) }
     {
         match self.iri_of(alloc, datatype)? {
-            Some(iri) => Ok(literal_from(lexical, iri, None)),
+            Some(iri) => literal_from(alloc, lexical, iri, None),
             None => Ok(None),
         }
     }

@@ -121,7 +121,7 @@ fn lang_string(alloc: Global) -> Result<Iri, AllocError>
 fn simple(alloc: Global, lexical: String) -> Result<Term, Stop>
     ensures { Gives (λ x. x) result (Some (literal (string_bytes lexical) xsd_string None)) }
 {
-    match Literal::new(lexical, xsd_string(alloc)?, None) {
+    match Literal::new(alloc, lexical, xsd_string(alloc)?, None)? {
         Some(literal) => Ok(Term::Literal(literal)),
         None => Err(Stop::Bad),
     }
@@ -133,17 +133,17 @@ fn tagged(alloc: Global, lexical: String, tag: &str) -> Result<Term, Stop>
         (map to_ascii_lowercase tag.now)) }
 {
     let datatype = lang_string(alloc)?;
-    match Literal::new(lexical, datatype, Some(lowered(alloc, tag)?)) {
+    match Literal::new(alloc, lexical, datatype, Some(lowered(alloc, tag)?))? {
         Some(literal) => Ok(Term::Literal(literal)),
         None => Err(Stop::Bad),
     }
 }
 
 /// A string with this datatype.
-fn typed(lexical: String, datatype: Iri) -> Result<Term, Stop>
+fn typed(alloc: Global, lexical: String, datatype: Iri) -> Result<Term, Stop>
     ensures { Gives (λ x. x) result (typed (string_bytes lexical) datatype) }
 {
-    match Literal::new(lexical, datatype, None) {
+    match Literal::new(alloc, lexical, datatype, None)? {
         Some(literal) => Ok(Term::Literal(literal)),
         None => Err(Stop::Bad),
     }
@@ -163,7 +163,7 @@ fn suffix_at(alloc: Global, lexical: String, text: &str) -> Result<(Term, &str),
             return Err(Stop::Bad);
         };
         let (datatype, rest) = iri_at(alloc, text)?;
-        return Ok((typed(lexical, datatype.into_iri(alloc)?)?, rest));
+        return Ok((typed(alloc, lexical, datatype.into_iri(alloc)?)?, rest));
     }
     Ok((simple(alloc, lexical)?, text))
 }

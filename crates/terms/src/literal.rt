@@ -13,16 +13,17 @@ use crate::vocabulary::RDF_LANG_STRING;
 use iris::Iri;
 use std::alloc::{AllocError, Global};
 use std::marker::Model;
+use std::sync::Arc;
 
-/// A literal (RDF 1.1 Concepts, 3.3). Contracts see its three parts.
+/// The three parts of a literal. Contracts see them as a literal's.
 #[derive(Drop)]
-pub struct Literal {
+struct Parts {
     lexical: String,
     datatype: Iri,
     tag: Option<String>,
 }
 
-impl Model for Literal {
+impl Model for Parts {
     ghost use Rattle.terms.specs.Literal.{LiteralValue, IsLiteral};
 
     ghost Value = { LiteralValue };
@@ -32,6 +33,23 @@ impl Model for Literal {
     ghost view = { literal_value };
 
     ghost invariant = { λ l. IsLiteral (literal_value l) };
+}
+
+/// A literal (RDF 1.1 Concepts, 3.3). Contracts see its three parts. Copies of it share them.
+#[derive(Drop)]
+pub struct Literal {
+    parts: Arc<Parts, Global>,
+}
+
+impl Model for Literal {
+    ghost use Rattle.terms.specs.Literal.{LiteralValue, IsLiteral};
+    ghost use Rattle.std.specs.Arc.{arc_value};
+
+    ghost Value = { LiteralValue };
+
+    ghost view = { λ l. arc_value l.parts };
+
+    ghost invariant = { λ l. IsLiteral (arc_value l.parts) };
 }
 
 /// A blank node's label (RDF 1.1 Concepts, 3.4). Contracts see its bytes.
@@ -49,16 +67,6 @@ impl Model for Blank {
     ghost view = { λ b. string_bytes b.label };
 
     ghost invariant = { λ b. is_label (string_bytes b.label) ≡ true };
-}
-
-/// The same tag again.
-fn tag_copied(tag: &Option<String>) -> Result<Option<String>, AllocError>
-    ensures { IfOk result (λ copy. tag_bytes copy ≡ tag_bytes tag.now) }
-{
-    match tag {
-        None => Ok(None),
-        Some(tag) => Ok(Some(tag.clone()?)),
-    }
 }
 
 fn is_lang_string(datatype: &Iri) -> bool
@@ -82,30 +90,37 @@ fn is_tagged_alike(datatype: &Iri, tag: &Option<String>) -> bool
 
 impl Literal {
     /// The literal of these parts (RDF 1.1 Concepts, 3.3), `None` where they are none: the tag isn't a language tag in lower case, or it
-    /// stands with another datatype than rdf:langString, or it is missing with that one.
+    /// stands with another datatype than rdf:langString, or it is missing with that one. An `Err` comes only where memory runs out.
     #[tactic(auto, using(crate::proofs::FormLaws::literals))]
-    pub fn new(lexical: String, datatype: Iri, tag: Option<String>) -> Option<Literal>
-        ensures { MatchOption result (IsLiteral (parts_value lexical datatype tag) → ⊥)
-            (λ l. (l ≡ parts_value lexical datatype tag) × IsLiteral l) }
+    pub fn new(
+        alloc: Global,
+        lexical: String,
+        datatype: Iri,
+        tag: Option<String>,
+    ) -> Result<Option<Literal>, AllocError>
+        ensures { IfOk result (λ found. MatchOption found
+            (IsLiteral (parts_value lexical datatype tag) → ⊥)
+            (λ l. (l ≡ parts_value lexical datatype tag) × IsLiteral l)) }
     {
         if !is_tagged_alike(&datatype, &tag) {
-            return None;
+            return Ok(None);
         }
-        Some(Literal {
+        let parts = Parts {
             lexical,
             datatype,
             tag,
-        })
+        };
+        Ok(Some(Literal {
+            parts: Arc::new(alloc, parts)?,
+        }))
     }
 
-    /// The same literal again.
-    pub fn copied(&self, alloc: Global) -> Result<Literal, AllocError>
+    /// The same literal again, in the same memory. An `Err` comes only where more copies would be held at once than can be counted.
+    pub fn copied(&self, _alloc: Global) -> Result<Literal, AllocError>
         ensures { IfOk result (λ copy. copy ≡ self.now) }
     {
         Ok(Literal {
-            lexical: self.lexical.clone()?,
-            datatype: self.datatype.copied(alloc)?,
-            tag: tag_copied(&self.tag)?,
+            parts: Arc::try_clone(&self.parts)?,
         })
     }
 
@@ -114,21 +129,21 @@ impl Literal {
         ensures text { result.now ≡ self.now.lexical }
         ensures form { IsLiteral self.now }
     {
-        self.lexical.as_str()
+        self.parts.lexical.as_str()
     }
 
     /// The datatype's IRI.
     pub fn datatype(&self) -> &Iri
         ensures { result.now ≡ self.now.datatype }
     {
-        &self.datatype
+        &self.parts.datatype
     }
 
     /// The language tag, in lower case, if it has one.
     pub fn tag(&self) -> Option<&str>
         ensures { option_copied result ≡ self.now.tag }
     {
-        match &self.tag {
+        match &self.parts.tag {
             None => None,
             Some(tag) => Some(tag.as_str()),
         }
