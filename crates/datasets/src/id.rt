@@ -5,7 +5,7 @@ use sets::Exact;
 /// A term by its number in a frozen dictionary, or a node that a request makes.
 #[derive(Clone, Copy, PartialEq, Eq, PartialOrd, Ord, Debug)]
 pub enum Id {
-    Known(usize),
+    Known(u32),
     Made {
         request: u32,
         op: u32,

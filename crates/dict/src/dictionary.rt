@@ -1,5 +1,5 @@
 //! A frozen dictionary.
-ghost use Rattle.std.specs.Prelude.{◌≡◌, ◌++◌, true, false, length, map, filter, IfOk, IfSome, IfNone};
+ghost use Rattle.std.specs.Prelude.{◌≡◌, ◌<◌, ◌++◌, true, false, length, map, filter, IfOk, IfSome, IfNone};
 ghost use Rattle.std.specs.List.{list_all};
 ghost use Rattle.sets.specs.Sets.{set_of as the_set_of, has};
 ghost use Rattle.terms.specs.Term.{term_order};
@@ -21,7 +21,7 @@ pub struct Dict {
 }
 
 impl Model for Dict {
-    ghost use Rattle.std.specs.Prelude.{List};
+    ghost use Rattle.std.specs.Prelude.{List, length, ◌≤◌};
     ghost use Rattle.terms.specs.declared.term.Term.{Term};
     ghost use Rattle.dict.specs.Dictionary.{IsDictionary};
 
@@ -29,19 +29,31 @@ impl Model for Dict {
 
     ghost view = { λ d. d.terms.items };
 
-    ghost invariant = { λ d. IsDictionary d.terms.items };
+    ghost invariant = { λ d. IsDictionary d.terms.items × (length d.terms.items ≤ 4294967296) };
 }
 
 impl Dict {
-    /// The dictionary of these terms, in any order and with doubles. Made nodes are left out. It takes no memory.
-    pub fn freeze(mut terms: Vec<Term>) -> Dict
-        ensures terms { result ≡ the_set_of term_order (filter is_written terms.items) }
-        ensures form { IsDictionary result }
+    /// The dictionary that is this list. 2^32 terms and more are out of memory, since a number has 32 bits.
+    fn of(terms: Vec<Term>) -> Result<Dict, AllocError>
+        requires { IsDictionary terms.items }
+        ensures { IfOk result (λ dict. dict ≡ terms.items) }
+    {
+        if terms.len() >= 0x1_0000_0000 {
+            return Err(AllocError);
+        }
+        Ok(Dict { terms })
+    }
+
+    /// The dictionary of these terms, in any order and with doubles. Made nodes are left out. An error comes only where 2^32 terms and more
+    /// are left, since a number has 32 bits.
+    pub fn freeze(mut terms: Vec<Term>) -> Result<Dict, AllocError>
+        ensures terms { IfOk result (λ dict. dict
+            ≡ the_set_of term_order (filter is_written terms.items)) }
+        ensures form { IfOk result (λ dict. IsDictionary dict) }
     {
         terms.retain(|term| is_written(term));
-        Dict {
-            terms: set_of(terms),
-        }
+        let dict = Dict::of(set_of(terms))?;
+        Ok(dict)
     }
 
     /// The dictionary of these terms and of more, in any order and with doubles, and the numbers of the first list's terms, each at its term's
@@ -60,8 +72,9 @@ impl Dict {
     {
         let placed = in_order(alloc, terms, more)?;
         let (found, mut ids) = numbered(alloc, placed.as_slice(), placed.len())?;
+        let dict = Dict::of(found)?;
         ids.truncate(terms.len());
-        Ok((Dict { terms: found }, ids))
+        Ok((dict, ids))
     }
 
     /// The same, where several threads put the terms in order.
@@ -79,8 +92,9 @@ impl Dict {
     {
         let placed = in_order_by(rt, alloc, terms, more)?;
         let (found, mut ids) = numbered(alloc, placed.as_slice(), placed.len())?;
+        let dict = Dict::of(found)?;
         ids.truncate(terms.len());
-        Ok((Dict { terms: found }, ids))
+        Ok((dict, ids))
     }
 
     /// How many terms it has.
@@ -118,7 +132,10 @@ impl Dict {
                 label: *label,
                 rank: *rank,
             }),
-            _ => place_of(self.terms.as_slice(), term).map(|place| Id::Known(place)),
+            _ => match place_of(self.terms.as_slice(), term) {
+                Some(place) => Some(Id::Known(number_of(place))),
+                None => None,
+            },
         }
     }
 
@@ -128,7 +145,7 @@ impl Dict {
         ensures { IfOk result (λ term. term ≡ the_term_of self.now id) }
     {
         match id {
-            Id::Known(place) => self.terms[place].copied(alloc),
+            Id::Known(place) => self.terms[place as usize].copied(alloc),
             Id::Made {
                 request,
                 op,
@@ -148,7 +165,7 @@ impl Dict {
         ensures { result ≡ (numbers self.now).is_iri id }
     {
         match id {
-            Id::Known(place) => matches!(self.terms.get(place), Some(Term::Iri(_))),
+            Id::Known(place) => matches!(self.terms.get(place as usize), Some(Term::Iri(_))),
             Id::Made { .. } => false,
         }
     }
@@ -158,9 +175,20 @@ impl Dict {
         ensures { result ≡ (numbers self.now).is_literal id }
     {
         match id {
-            Id::Known(place) => matches!(self.terms.get(place), Some(Term::Literal(_))),
+            Id::Known(place) => matches!(self.terms.get(place as usize), Some(Term::Literal(_))),
             Id::Made { .. } => false,
         }
+    }
+}
+
+/// A place below 2^32 as a number.
+fn number_of(place: usize) -> u32
+    requires { place < 4294967296 }
+    ensures { result ≡ place }
+{
+    match u32::try_from(place) {
+        Ok(number) => number,
+        Err(_) => unreachable!(),
     }
 }
 

@@ -128,7 +128,7 @@ fn next_known(alloc: Global, found: &mut Vec<Term>, term: &Term) -> Result<Id, A
     if !ends_with(found.as_slice(), term) {
         found.push(term.copied(alloc)?)?;
     }
-    Ok(Id::Known(found.len() - 1))
+    Ok(Id::Known(narrowed(found.len() - 1)?))
 }
 
 /// The number of a term, the same where it is a made node.

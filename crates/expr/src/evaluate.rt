@@ -20,7 +20,7 @@ fn known<'a>(dict: &'a Dict, id: Id) -> Outcome<'a>
     ensures { seen result ≡ Some (term_of dict.entry.now id) }
 {
     match id {
-        Id::Known(place) => match dict.terms().get(place) {
+        Id::Known(place) => match dict.terms().get(place as usize) {
             Some(term) => Outcome::Known(term),
             None => Outcome::Made {
                 request: 0,

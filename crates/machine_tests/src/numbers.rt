@@ -48,7 +48,7 @@ pub fn request_at(block: &[Request<Id>], place: usize) -> Option<&Request<Id>>
 fn put(alloc: Global, terms: &Dict, id: Id, text: &mut Vec<u8>) -> Result<(), AllocError> {
     text.push(b' ')?;
     match id {
-        Id::Known(place) => match terms.terms().get(place) {
+        Id::Known(place) => match terms.terms().get(place as usize) {
             Some(term) => canonical(alloc, term, 1, text),
             None => Ok(()),
         },

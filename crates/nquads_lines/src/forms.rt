@@ -133,7 +133,8 @@ fn tagged(alloc: Global, lexical: String, tag: &str) -> Result<Term, Stop>
         (map to_ascii_lowercase tag.now)) }
 {
     let datatype = lang_string(alloc)?;
-    match Literal::new(alloc, lexical, datatype, Some(lowered(alloc, tag)?))? {
+    let lower = lowered(alloc, tag)?;
+    match Literal::new(alloc, lexical, datatype, Some(lower))? {
         Some(literal) => Ok(Term::Literal(literal)),
         None => Err(Stop::Bad),
     }

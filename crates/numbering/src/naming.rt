@@ -47,7 +47,7 @@ fn place_of(
     ensures kept { GoesOn table.old table.new }
 {
     match id {
-        Id::Known(number) => Ok(places[number]),
+        Id::Known(number) => Ok(places[number as usize]),
         Id::Made { .. } => Ok(table.place_of(dict.term_of(alloc, id)?)?),
     }
 }

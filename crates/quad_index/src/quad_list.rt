@@ -7,7 +7,7 @@ use datasets::{Id, Quad};
 use std::alloc::{AllocError, Global};
 use std::marker::Model;
 
-/// Quads one after another, in little memory where all are of known terms with numbers below 2^32. Contracts see their list.
+/// Quads one after another, in little memory where all are of known terms. Contracts see their list.
 #[derive(Drop)]
 pub struct QuadList {
     entries: Entries,

@@ -31,7 +31,7 @@ fn slot_of(term: Id) -> usize
     ensures { result ≡ the_slot_of term }
 {
     match term {
-        Id::Known(number) => number % SLOTS,
+        Id::Known(number) => number as usize % SLOTS,
         Id::Made { rank, .. } => rank as usize % SLOTS,
     }
 }

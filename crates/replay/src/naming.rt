@@ -14,7 +14,7 @@ fn name(alloc: Global, terms: &Dict, id: Id) -> Result<Term, AllocError>
     ensures { IfOk result (λ term. term ≡ term_of terms.now id) }
 {
     match id {
-        Id::Known(place) => match terms.terms().get(place) {
+        Id::Known(place) => match terms.terms().get(place as usize) {
             Some(term) => term.copied(alloc),
             None => Ok(made(0, 0, 0, 0)),
         },

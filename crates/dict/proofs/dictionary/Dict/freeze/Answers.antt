@@ -7,14 +7,12 @@ use Rattle.dict.specs.Dictionary.{is_written, IsDictionary}
 use Rattle.dict.proofs.Frozen.{frozen}
 use Rattle.dict.proofs.dictionary.Dict.freeze.Goals as goal
 
-pub returns-clause-terms : goal.returns-clause-terms
-returns-clause-terms c = c.set_of.ensures ∙ ap (set_of term_order) (filter_same _ is_written _ (λ x b f' k. search rules) _ _ c.retain.ensures.filtered)
-
-pub returns-clause-form : goal.returns-clause-form
-returns-clause-form c =
+pub of-requires : goal.of-requires
+of-requires c =
     let items : c.set_of.result.items ≡ set_of term_order (filter is_written c.args.terms.items) =
     c.set_of.ensures ∙ ap (set_of term_order) (filter_same _ is_written _ (λ x b f' k. search rules) _ _ c.retain.ensures.filtered) in
     subst (λ (ts : List Term). IsDictionary ts) (sym items) (frozen c.args.terms.items)
 
-pub invariant_of-result : goal.invariant_of-result
-invariant_of-result c = returns-clause-form c
+pub returns-clause-terms : goal.returns-clause-terms
+returns-clause-terms c =
+    c.in_ok-dict.ensures ∙ c.set_of.ensures ∙ ap (set_of term_order) (filter_same _ is_written _ (λ x b f' k. search rules) _ _ c.retain.ensures.filtered)
