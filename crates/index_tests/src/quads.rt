@@ -5,15 +5,15 @@ fn graph_of(i: usize) -> Option<Id> {
     if i % 3 == 0 {
         None
     } else {
-        Some(Id::Known(i % 3))
+        Some(Id::Known((i % 3) as u32))
     }
 }
 
 pub fn quad_of(i: usize) -> Quad<Id> {
     Quad {
-        subject: Id::Known(i % 25),
-        predicate: Id::Known(i % 4),
-        object: Id::Known(i / 25),
+        subject: Id::Known((i % 25) as u32),
+        predicate: Id::Known((i % 4) as u32),
+        object: Id::Known((i / 25) as u32),
         graph: graph_of(i),
     }
 }

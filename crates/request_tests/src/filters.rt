@@ -150,7 +150,7 @@ fn dictionary(alloc: Global, all: &[Written]) -> Result<Dict, BlockFault> {
             terms.push(term)?;
         }
     }
-    Ok(Dict::freeze(terms))
+    Ok(Dict::freeze(terms)?)
 }
 
 fn constant(alloc: Global, dict: &Dict, written: Written) -> Result<Expression<Id>, BlockFault> {
@@ -158,7 +158,7 @@ fn constant(alloc: Global, dict: &Dict, written: Written) -> Result<Expression<I
         Some(term) => dict.id_of(&term),
         None => None,
     };
-    Ok(Expression::Constant(found.unwrap_or(Id::Known(usize::MAX))))
+    Ok(Expression::Constant(found.unwrap_or(Id::Known(u32::MAX))))
 }
 
 /// An operator on an expression and a constant.
@@ -317,7 +317,7 @@ fn computed(rt: HostRuntime) -> Result<(), BlockFault> {
 }
 
 /// What a variable is bound to, and whether BOUND of it and the variable alone pass.
-const FILTERS: [(Option<usize>, bool, bool); 4] = [
+const FILTERS: [(Option<u32>, bool, bool); 4] = [
     (None, false, false),
     (Some(0), true, false),
     (Some(1), true, false),
@@ -325,7 +325,7 @@ const FILTERS: [(Option<usize>, bool, bool); 4] = [
 ];
 
 /// The mapping that binds the variable to this term, if to any.
-fn binding(alloc: Global, bound: Option<usize>) -> Result<Option<Mapping>, BlockFault> {
+fn binding(alloc: Global, bound: Option<u32>) -> Result<Option<Mapping>, BlockFault> {
     let mapping = Mapping::empty(alloc, 1)?;
     Ok(match bound {
         Some(place) => mapping.fit(Place::Variable(0), Id::Known(place)),

@@ -4,7 +4,7 @@ use reads::presence::{is_present, presence_answer, quad_scanned, scan_for};
 use std::alloc::{AllocError, Global};
 use std::test::Fail;
 
-fn quad_of(object: usize, graph: Option<Id>) -> Quad<Id> {
+fn quad_of(object: u32, graph: Option<Id>) -> Quad<Id> {
     Quad {
         subject: Id::Known(1),
         predicate: Id::Known(2),
