@@ -337,7 +337,7 @@ fn binding(alloc: Global, bound: Option<u32>) -> Result<Option<Mapping>, BlockFa
 fn passed(
     alloc: Global,
     filtering: &Filtering<'_>,
-    bound: Option<usize>,
+    bound: Option<u32>,
 ) -> Result<Option<(bool, bool)>, BlockFault> {
     let Some(mapping) = binding(alloc, bound)? else {
         return Ok(None);
