@@ -13,7 +13,7 @@ pub fn quad_of(i: usize) -> Quad<Id> {
     Quad {
         subject: Id::Known((i % 25) as u32),
         predicate: Id::Known((i % 4) as u32),
-        object: Id::Known((i / 25) as u32),
+        object: Id::Known((i / 25 % 4096) as u32),
         graph: graph_of(i),
     }
 }

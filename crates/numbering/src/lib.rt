@@ -7,6 +7,7 @@
 
 mod gathered;
 pub mod laws;
+mod lookup;
 mod naming;
 mod numbered;
 mod orders;

@@ -12,19 +12,19 @@ use Rattle.numbering.proofs.plans.+expressions.Goals as goal
 
 pub number_expression-number_expression-requires-in-Chain : goal.number_expression-number_expression-requires-in-Chain
 number_expression-number_expression-requires-in-Chain t c =
-    (search (rules, the_lemmas), first_known (is_held c.args.dict.now) c.in-Chain.first c.in-Chain.steps c.args.expression.now c.deref-in-Chain.result.now c.in-Chain.is c.deref-in-Chain.ensures c.requires)
+    (search (rules, the_lemmas), first_known (is_held c.args.numbers.now) c.in-Chain.first c.in-Chain.steps c.args.expression.now c.deref-in-Chain.result.now c.in-Chain.is c.deref-in-Chain.ensures c.requires)
 
 pub number_expression-number_steps-requires : goal.number_expression-number_steps-requires
 number_expression-number_steps-requires t c =
-    (search (rules, the_lemmas), steps_known (is_held c.args.dict.now) c.in-Chain.first c.in-Chain.steps c.args.expression.now c.as_slice.result.now c.in-Chain.is c.as_slice.ensures.value c.requires)
+    (search (rules, the_lemmas), steps_known (is_held c.args.numbers.now) c.in-Chain.first c.in-Chain.steps c.args.expression.now c.as_slice.result.now c.in-Chain.is c.as_slice.ensures.value c.requires)
 
 pub number_steps-number_expression-requires : goal.number_steps-number_expression-requires
 number_steps-number_expression-requires t c =
-    (search (rules, the_lemmas), step_known (is_held c.args.dict.now) c.args.steps.now c.loop-step.step-index c.step-item.result c.loop-step-test.true c.step-item.is c.loop-step.invariant.held)
+    (search (rules, the_lemmas), step_known (is_held c.args.numbers.now) c.args.steps.now c.loop-step.step-index c.step-item.result c.loop-step-test.true c.step-item.is c.loop-step.invariant.held)
 
 pub number_expression-returns-in_ok-steps-in-Chain-clause-known : goal.number_expression-returns-in_ok-steps-in-Chain-clause-known
 number_expression-returns-in_ok-steps-in-Chain-clause-known t c =
-    let known = is_known c.args.dict.now in
+    let known = is_known c.args.numbers.now in
     let first = c.in_ok-first-in-Chain.first in
     let steps = c.in_ok-steps-in-Chain.steps in
     chain_known known first steps
@@ -34,9 +34,9 @@ number_expression-returns-in_ok-steps-in-Chain-clause-known t c =
 
 pub number_steps-loop-step-preserved : goal.number_steps-loop-step-preserved
 number_steps-loop-step-preserved t c =
-    let f = term_of c.args.dict.now in
-    let held = is_held c.args.dict.now in
-    let known = is_known c.args.dict.now in
+    let f = term_of c.args.numbers.now in
+    let held = is_held c.args.numbers.now in
+    let known = is_known c.args.numbers.now in
     let step = c.step-item.result in
     let made = c.in_ok-number_expression.field-0 in
     let list = c.loop-step.list.items in

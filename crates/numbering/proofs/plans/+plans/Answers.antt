@@ -15,9 +15,9 @@ use Rattle.numbering.proofs.plans.+plans.Goals as goal
 
 pub number_parts-loop-part-preserved : goal.number_parts-loop-part-preserved
 number_parts-loop-part-preserved t c =
-    let f = term_of c.args.dict.now in
-    let held = is_held c.args.dict.now in
-    let known = is_known c.args.dict.now in
+    let f = term_of c.args.numbers.now in
+    let held = is_held c.args.numbers.now in
+    let known = is_known c.args.numbers.now in
     let part = c.part-item.result in
     let link = c.in_ok-link.link in
     let plan = c.in_ok-number_plan.field-0 in
@@ -40,7 +40,7 @@ number_parts-loop-part-preserved t c =
 
 pub number_plan-returns-in_ok-filters-in-Group-clause-renamed : goal.number_plan-returns-in_ok-filters-in-Group-clause-renamed
 number_plan-returns-in_ok-filters-in-Group-clause-renamed t c =
-    let f = term_of c.args.dict.now in
+    let f = term_of c.args.numbers.now in
     let parts = c.in_ok-parts-in-Group.parts in
     let filters = c.in_ok-filters-in-Group.filters in
     let made = linked_all nothing (parts_of parts.items) in
@@ -52,7 +52,7 @@ number_plan-returns-in_ok-filters-in-Group-clause-renamed t c =
 
 pub number_plan-returns-in_ok-filters-in-Group-clause-known : goal.number_plan-returns-in_ok-filters-in-Group-clause-known
 number_plan-returns-in_ok-filters-in-Group-clause-known t c =
-    let known = is_known c.args.dict.now in
+    let known = is_known c.args.numbers.now in
     let parts = c.in_ok-parts-in-Group.parts in
     let filters = c.in_ok-filters-in-Group.filters in
     group_known known parts filters
@@ -60,12 +60,12 @@ number_plan-returns-in_ok-filters-in-Group-clause-known t c =
 
 pub number_plan-number_parts-requires : goal.number_plan-number_parts-requires
 number_plan-number_parts-requires t c =
-    (search (rules, the_lemmas), parts_known (is_held c.args.dict.now) c.in-Group.parts c.in-Group.filters c.args.plan.now c.as_slice-in-Group.result.now c.in-Group.is c.as_slice-in-Group.ensures.value c.requires)
+    (search (rules, the_lemmas), parts_known (is_held c.args.numbers.now) c.in-Group.parts c.in-Group.filters c.args.plan.now c.as_slice-in-Group.result.now c.in-Group.is c.as_slice-in-Group.ensures.value c.requires)
 
 pub number_plan-number_plans-requires : goal.number_plan-number_plans-requires
 number_plan-number_plans-requires t c =
-    (search (rules, the_lemmas), plans_known (is_held c.args.dict.now) c.in-Union.plans c.args.plan.now c.as_slice-in-Union.result.now c.in-Union.is c.as_slice-in-Union.ensures.value c.requires)
+    (search (rules, the_lemmas), plans_known (is_held c.args.numbers.now) c.in-Union.plans c.args.plan.now c.as_slice-in-Union.result.now c.in-Union.is c.as_slice-in-Union.ensures.value c.requires)
 
 pub number_plan-returns-in_ok-number_plans-in-Union-clause-known : goal.number_plan-returns-in_ok-number_plans-in-Union-clause-known
 number_plan-returns-in_ok-number_plans-in-Union-clause-known t c =
-    union_known (is_known c.args.dict.now) c.in_ok-number_plans-in-Union.field-0 ∙ c.in_ok-number_plans-in-Union.ensures.known
+    union_known (is_known c.args.numbers.now) c.in_ok-number_plans-in-Union.field-0 ∙ c.in_ok-number_plans-in-Union.ensures.known

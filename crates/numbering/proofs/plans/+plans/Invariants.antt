@@ -11,10 +11,10 @@ use Rattle.numbering.proofs.plans.+plans.Given as goal
 
 abbrev pub invariant-number_parts-loop-part : goal.invariant-number_parts-loop-part
 invariant-number_parts-loop-part l = record {
-  is : (before : Plan Id) → linked_all (renamed_plan (term_of l.dict) (linked_all before (parts_of l.list.items))) (parts_of (drop l.part-index l.parts)) ≡ linked_all (renamed_plan (term_of l.dict) before) (parts_of l.parts);
-  known : list_all (part_known (is_known l.dict)) (parts_of l.list.items) ≡ true;
-  held : list_all (part_known (is_held l.dict)) (parts_of (drop l.part-index l.parts)) ≡ true;
+  is : (before : Plan Id) → linked_all (renamed_plan (term_of l.numbers) (linked_all before (parts_of l.list.items))) (parts_of (drop l.part-index l.parts)) ≡ linked_all (renamed_plan (term_of l.numbers) before) (parts_of l.parts);
+  known : list_all (part_known (is_known l.numbers)) (parts_of l.list.items) ≡ true;
+  held : list_all (part_known (is_held l.numbers)) (parts_of (drop l.part-index l.parts)) ≡ true;
 }
 
 abbrev pub invariant-number_plans-loop-plan : goal.invariant-number_plans-loop-plan
-invariant-number_plans-loop-plan l = SoFar (renamed_plan (term_of l.dict)) (plan_known (is_known l.dict)) (plan_known (is_held l.dict)) (map plan_of l.list.items) (map plan_of (drop l.plan-index l.plans)) (map plan_of l.plans)
+invariant-number_plans-loop-plan l = SoFar (renamed_plan (term_of l.numbers)) (plan_known (is_known l.numbers)) (plan_known (is_held l.numbers)) (map plan_of l.list.items) (map plan_of (drop l.plan-index l.plans)) (map plan_of l.plans)

@@ -7,4 +7,4 @@ use Rattle.store.proofs.Loops.{SoFar}
 use Rattle.numbering.proofs.plans.number_expressions.Given as goal
 
 abbrev pub invariant-loop-expression : goal.invariant-loop-expression
-invariant-loop-expression l = SoFar (renamed_expression (term_of l.dict)) (expression_known (is_known l.dict)) (expression_known (is_held l.dict)) (map expression_of l.list.items) (map expression_of (drop l.expression-index l.expressions)) (map expression_of l.expressions)
+invariant-loop-expression l = SoFar (renamed_expression (term_of l.numbers)) (expression_known (is_known l.numbers)) (expression_known (is_held l.numbers)) (map expression_of l.list.items) (map expression_of (drop l.expression-index l.expressions)) (map expression_of l.expressions)

@@ -6,4 +6,4 @@ use Rattle.store.proofs.Loops.{SoFar}
 use Rattle.numbering.proofs.plans.number_patterns.Given as goal
 
 abbrev pub invariant-loop-pattern : goal.invariant-loop-pattern
-invariant-loop-pattern l = SoFar (renamed_pattern (term_of l.dict)) (pattern_known (is_known l.dict)) (pattern_known (is_held l.dict)) l.list.items (drop l.pattern-index l.patterns) l.patterns
+invariant-loop-pattern l = SoFar (renamed_pattern (term_of l.numbers)) (pattern_known (is_known l.numbers)) (pattern_known (is_held l.numbers)) l.list.items (drop l.pattern-index l.patterns) l.patterns

@@ -6,4 +6,4 @@ use Rattle.store.proofs.Loops.{SoFar}
 use Rattle.numbering.proofs.requests.number_operations.Given as goal
 
 abbrev pub invariant-loop-operation : goal.invariant-loop-operation
-invariant-loop-operation l = SoFar (renamed_operation (term_of l.dict)) (operation_known (is_known l.dict)) (operation_known (is_held l.dict)) l.list.items (drop l.operation-index l.operations) l.operations
+invariant-loop-operation l = SoFar (renamed_operation (term_of l.numbers)) (operation_known (is_known l.numbers)) (operation_known (is_held l.numbers)) l.list.items (drop l.operation-index l.operations) l.operations

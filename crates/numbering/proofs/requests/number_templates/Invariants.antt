@@ -6,4 +6,4 @@ use Rattle.store.proofs.Loops.{SoFar}
 use Rattle.numbering.proofs.requests.number_templates.Given as goal
 
 abbrev pub invariant-loop-template : goal.invariant-loop-template
-invariant-loop-template l = SoFar (renamed_template (term_of l.dict)) (template_known (is_known l.dict)) (template_known (is_held l.dict)) l.list.items (drop l.template-index l.templates) l.templates
+invariant-loop-template l = SoFar (renamed_template (term_of l.numbers)) (template_known (is_known l.numbers)) (template_known (is_held l.numbers)) l.list.items (drop l.template-index l.templates) l.templates

@@ -1,0 +1,114 @@
+//! The numbers of a dictionary's terms, found by the terms' hashes.
+ghost use Rattle.std.specs.Prelude.{◌≡◌, true, IfOk, IfSome};
+ghost use Rattle.datasets.specs.declared.id.Id.TheVariants.{Known as AtNumber};
+ghost use Rattle.dict.specs.Dictionary.{term_of, is_known};
+ghost use Rattle.store.specs.Held.{is_held};
+
+use dict::{Dict, Id};
+use std::alloc::{AllocError, Global};
+use std::hash::{FoldHasher, Hash, Hasher};
+use std::marker::Model;
+use store::number_term;
+use terms::Term;
+
+/// How many slots a term may stand in.
+const REACH: usize = 16;
+
+/// What stands in a slot that has no term.
+const EMPTY: u32 = u32::MAX;
+
+/// A dictionary, and slots that lead to its terms by their hashes. Contracts see the dictionary alone: the term that a slot leads to is compared,
+/// so nothing has to be known of the slots. One that they do not lead to is searched for.
+#[derive(Drop)]
+pub(crate) struct Numbers<'a> {
+    dict: &'a Dict,
+    slots: Vec<u32>,
+}
+
+impl<'a> Model for Numbers<'a> {
+    ghost use Rattle.std.specs.Prelude.{List};
+    ghost use Rattle.terms.specs.declared.term.Term.{Term};
+
+    ghost Value = { List Term };
+
+    ghost view = { λ n. n.dict.now };
+}
+
+fn hash_of(term: &Term) -> usize {
+    let mut hasher = FoldHasher::default();
+    term.hash(&mut hasher);
+    let hash = hasher.finish();
+    (hash ^ (hash >> 32)) as usize
+}
+
+// The slot so many steps behind the one that a hash leads to.
+fn slot_at(slots: &[u32], hash: usize, step: usize) -> usize {
+    hash.wrapping_add(step) % slots.len().max(1)
+}
+
+// Leads a hash to a term's place, if one of the slots within reach is free.
+fn put_slot(slots: &mut [u32], hash: usize, place: u32) {
+    for step in 0..REACH {
+        let at = slot_at(slots, hash, step);
+        if let Some(slot) = slots.get_mut(at) {
+            if *slot == EMPTY {
+                *slot = place;
+                return;
+            }
+        }
+    }
+}
+
+impl<'a> Numbers<'a> {
+    /// The numbers of this dictionary, of which so many terms at least will be asked for. Where they are few beside it, each is searched for.
+    /// An error comes only where memory runs out.
+    pub(crate) fn new(
+        alloc: Global,
+        dict: &'a Dict,
+        asked: usize,
+    ) -> Result<Numbers<'a>, AllocError>
+        ensures { IfOk result (λ numbers. numbers ≡ dict.entry.now) }
+    {
+        if asked < dict.len() / 8 {
+            let slots = Vec::new(alloc);
+            return Ok(Numbers { dict, slots });
+        }
+        let mut slots = vec![in alloc; EMPTY; dict.len().saturating_mul(2)]?;
+        let mut place = 0u32;
+        for term in dict.terms() {
+            put_slot(slots.as_mut_slice(), hash_of(term), place);
+            place = place.saturating_add(1);
+        }
+        Ok(Numbers { dict, slots })
+    }
+
+    // The place of a term, if the slots lead to it.
+    #[tactic(auto, using(terms::specs::Hashed::equal_terms))]
+    fn place_of(&self, term: &Term) -> Option<u32>
+        ensures term { IfSome result (λ place. term_of self.now (AtNumber place) ≡ term.now) }
+        ensures known { IfSome result (λ place. is_known self.now (AtNumber place) ≡ true) }
+    {
+        let terms = self.dict.terms();
+        let hash = hash_of(term);
+        for step in 0..REACH {
+            let place = *self.slots.get(slot_at(self.slots.as_slice(), hash, step))?;
+            let found = terms.get(place as usize)?;
+            if found == term {
+                return Some(place);
+            }
+        }
+        None
+    }
+
+    /// The number of a term that the dictionary holds.
+    pub(crate) fn number_of(&self, term: &Term) -> Id
+        requires { is_held self.now term.now ≡ true }
+        ensures renamed { term_of self.now result ≡ term.now }
+        ensures known { is_known self.now result ≡ true }
+    {
+        match self.place_of(term) {
+            Some(place) => Id::Known(place),
+            None => number_term(self.dict, term),
+        }
+    }
+}
