@@ -265,6 +265,7 @@ impl Order {
         ensures looks { IfOk result (λ _. looks.new ≡ looks.old + (past - first)) }
     {
         let mut found = Vec::new(alloc);
+        found.reserve_exact(past - first)?;
         for place in first..past {
             let quad = self.look(place, looks);
             if matches(pattern, &quad) {

@@ -55,14 +55,14 @@ pub fn quads_without(quads: Vec<Quad<Id>>, set: &[Quad<Id>]) -> Vec<Quad<Id>>
 pub fn copied_quads(alloc: Global, quads: &[Quad<Id>]) -> Result<Vec<Quad<Id>>, AllocError>
     ensures { IfOk result (λ copy. copy.items ≡ quads.now) }
 {
-    quads.iter().copied().collect(alloc)
+    Vec::from_slice(alloc, quads)
 }
 
 /// The same names again.
 pub fn copied_names(alloc: Global, names: &[Id]) -> Result<Vec<Id>, AllocError>
     ensures { IfOk result (λ copy. copy.items ≡ names.now) }
 {
-    names.iter().copied().collect(alloc)
+    Vec::from_slice(alloc, names)
 }
 
 /// The name alone, or nothing.
@@ -84,6 +84,7 @@ pub fn quads_union(
     ensures { IfOk result (λ all. all.items ≡ union (quad_order id_order) quads.items
         others.items) }
 {
+    quads.reserve_exact(others.len())?;
     quads.append(&mut others)?;
     merged(quads)
 }
@@ -92,6 +93,7 @@ pub fn quads_union(
 pub fn names_union(mut names: Vec<Id>, mut others: Vec<Id>) -> Result<Vec<Id>, AllocError>
     ensures { IfOk result (λ all. all.items ≡ union id_order names.items others.items) }
 {
+    names.reserve_exact(others.len())?;
     names.append(&mut others)?;
     merged(names)
 }

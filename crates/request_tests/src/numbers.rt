@@ -1,4 +1,5 @@
-//! A dataset of one quad, to numbers and back.
+//! A dataset of one quad, to numbers and back, and a request beside few terms and many.
+use algebra::{Operation, Slot};
 use datasets::{Id, Quad};
 use meaning::Refusal;
 use nquads::{BaseFault, canonical_text, read_bytes};
@@ -8,9 +9,32 @@ use rules::{Block, split};
 use std::alloc::{AllocError, Global};
 use std::test::Fail;
 use store::Alone;
-use terms::DataSet;
+use terms::{DataSet, Term};
 
 const BASE: &str = "<x:c> <x:b> <x:a> <x:d> .\n";
+
+/// 33 terms.
+const MANY: &str = "\
+<x:s10> <x:b> <x:o10> .\n\
+<x:s11> <x:b> <x:o11> .\n\
+<x:s12> <x:b> <x:o12> .\n\
+<x:s13> <x:b> <x:o13> .\n\
+<x:s14> <x:b> <x:o14> .\n\
+<x:s15> <x:b> <x:o15> .\n\
+<x:s16> <x:b> <x:o16> .\n\
+<x:s17> <x:b> <x:o17> .\n\
+<x:s18> <x:b> <x:o18> .\n\
+<x:s19> <x:b> <x:o19> .\n\
+<x:s20> <x:b> <x:o20> .\n\
+<x:s21> <x:b> <x:o21> .\n\
+<x:s22> <x:b> <x:o22> .\n\
+<x:s23> <x:b> <x:o23> .\n\
+<x:s24> <x:b> <x:o24> .\n\
+<x:s25> <x:b> <x:o25> .\n\
+";
+
+/// Its terms are all of the first base, or one of the second.
+const INSERTION: &[u8] = b"INSERT DATA { <x:a> <x:b> <x:c> }";
 
 fn is_numbered(numbered: &Numbered, dataset: &View) -> bool {
     let quad = Quad {
@@ -60,5 +84,41 @@ fn comes_back(alloc: Global, block: Block) -> Result<bool, BaseFault> {
 fn to_numbers_and_back(rt: HostRuntime) -> Result<(), Fail> {
     assert!(rt; comes_to_numbers(rt.alloc(), split(rt.alloc(), b"INSERT")?)?);
     assert!(rt; comes_back(rt.alloc(), split(rt.alloc(), b"INSERT")?)?);
+    Ok(())
+}
+
+/// The subject of the one triple that the block inserts.
+fn inserted(numbered: &Numbered) -> Option<Id> {
+    let [Ok(operations)] = numbered.block.as_slice() else {
+        return None;
+    };
+    let [Operation::Modify(modify)] = operations.as_slice() else {
+        return None;
+    };
+    match modify.insert.as_slice() {
+        [only] => match only.subject {
+            Slot::Term(subject) => Some(subject),
+            _ => None,
+        },
+        _ => None,
+    }
+}
+
+/// Whether the subject has its number, in a dictionary of so many terms.
+fn has_number(alloc: Global, base: &str, count: usize) -> Result<bool, Fail> {
+    let dataset = read_bytes(alloc, base.as_bytes())?;
+    let numbered = number(&Alone, alloc, &dataset, split(alloc, INSERTION)?)?;
+    let terms = numbered.base.terms().terms();
+    let Some(Id::Known(place)) = inserted(&numbered) else {
+        return Ok(false);
+    };
+    let is_it = matches!(terms.get(place as usize), Some(Term::Iri(iri)) if iri.as_str() == "x:a");
+    Ok(is_it && terms.len() == count)
+}
+
+#[test]
+fn a_request_has_its_numbers_beside_few_terms_and_many(rt: HostRuntime) -> Result<(), Fail> {
+    assert!(rt; has_number(rt.alloc(), "", 3)? && has_number(rt.alloc(), BASE, 4)?);
+    assert!(rt; has_number(rt.alloc(), MANY, 35)?);
     Ok(())
 }
