@@ -62,10 +62,15 @@ fn bytes_from(text: &[u8], from: usize) -> u64 {
 }
 
 impl<'a> Parts<'a> {
-    /// The parts that some of these terms make.
-    pub(crate) fn new(alloc: Global, terms: &'a [Term]) -> Result<Parts<'a>, AllocError> {
+    /// The parts that some of these terms make, and of more.
+    pub(crate) fn new(
+        alloc: Global,
+        terms: &'a [Term],
+        more: &'a [Term],
+    ) -> Result<Parts<'a>, AllocError> {
         let mut marks = Vec::new(alloc);
-        for term in terms.iter().step_by(terms.len() / MOST_MARKS + 1) {
+        let step = terms.len().saturating_add(more.len()) / MOST_MARKS + 1;
+        for term in terms.iter().chain(more.iter()).step_by(step) {
             marks.push(term)?;
         }
         marks.sort_unstable();

@@ -59,7 +59,7 @@ fn gathered<'a>(
 ) -> Result<Vec<Placed<'a>>, AllocError>
     ensures { IfOk result (λ placed. IsGathered (terms.now ++ more.now) placed.items) }
 {
-    let parts = Parts::new(alloc, terms)?;
+    let parts = Parts::new(alloc, terms, more)?;
     let mut placed = Vec::new(alloc);
     push_placed(&mut placed, &parts, terms)?;
     push_placed(&mut placed, &parts, more)?;
