@@ -3,24 +3,9 @@ ghost use Rattle.std.specs.Prelude.{◌≡◌, true, IfOk, OnOk};
 ghost use Rattle.numbering.specs.Gathered.{HasTerms};
 
 use indexmap::IndexSet;
-use iris::Iri;
 use rules::TermRef;
 use std::alloc::{AllocError, Global};
 use terms::Term;
-
-/// The same term, an IRI with a text of its own. What stays of a request that is let go leaves its memory in pieces that are too small for what
-/// comes later.
-fn apart(alloc: Global, term: &Term) -> Result<Term, AllocError>
-    ensures { IfOk result (λ copy. copy ≡ term.now) }
-{
-    let Term::Iri(iri) = term else {
-        return term.copied(alloc);
-    };
-    match Iri::check(alloc, iri.as_str())? {
-        Some(iri) => Ok(Term::Iri(iri)),
-        None => term.copied(alloc),
-    }
-}
 
 /// Adds the terms that are not in the set yet.
 #[tactic(auto, using(crate::proofs::Gathering::there_already, crate::proofs::Gathering::is_put_in))]
@@ -33,7 +18,7 @@ fn add_terms(
 {
     for term in terms {
         if !set.contains(term.get()) {
-            set.insert(apart(alloc, term.get())?)?;
+            set.insert(term.get().copied(alloc)?)?;
         }
     }
     Ok(())
