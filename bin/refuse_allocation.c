@@ -3,6 +3,8 @@
 #include <errno.h>
 #include <stdio.h>
 #include <stdlib.h>
+#include <sys/syscall.h>
+#include <unistd.h>
 
 static unsigned long asked;
 static unsigned long refused;
@@ -47,7 +49,7 @@ int posix_memalign(void **place, size_t alignment, size_t size) {
   return *place ? 0 : ENOMEM;
 }
 
-__attribute__((destructor)) static void end(void) {
+static void end(void) {
   const char *name = getenv("COUNTED");
   unsigned long all = asked;
   if (name) {
@@ -57,4 +59,11 @@ __attribute__((destructor)) static void end(void) {
       fclose(file);
     }
   }
+}
+
+/* The program ends so, which runs no destructor. */
+void _exit(int status) {
+  end();
+  syscall(SYS_exit_group, status);
+  __builtin_unreachable();
 }
