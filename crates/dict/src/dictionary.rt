@@ -1,5 +1,5 @@
 //! A frozen dictionary.
-ghost use Rattle.std.specs.Prelude.{◌≡◌, ◌<◌, ◌++◌, true, false, length, map, filter, IfOk, IfSome, IfNone};
+ghost use Rattle.std.specs.Prelude.{◌≡◌, ◌<◌, ◌≤◌, ◌++◌, true, false, OnErr, length, map, filter, IfOk, IfSome, IfNone};
 ghost use Rattle.std.specs.List.{list_all};
 ghost use Rattle.sets.specs.Sets.{set_of as the_set_of, has};
 ghost use Rattle.terms.specs.Term.{term_order};
@@ -36,7 +36,8 @@ impl Dict {
     /// The dictionary that is this list. 2^32 terms and more are out of memory, since a number has 32 bits.
     fn of(terms: Vec<Term>) -> Result<Dict, AllocError>
         requires { IsDictionary terms.items }
-        ensures { IfOk result (λ dict. dict ≡ terms.items) }
+        ensures ok { IfOk result (λ dict. dict ≡ terms.items) }
+        ensures err { OnErr result (4294967296 ≤ length terms.items) }
     {
         if terms.len() >= 0x1_0000_0000 {
             return Err(AllocError);
@@ -50,10 +51,11 @@ impl Dict {
         ensures terms { IfOk result (λ dict. dict
             ≡ the_set_of term_order (filter is_written terms.items)) }
         ensures form { IfOk result (λ dict. IsDictionary dict) }
+        ensures err { OnErr result (4294967296
+            ≤ length (the_set_of term_order (filter is_written terms.items))) }
     {
         terms.retain(|term| is_written(term));
-        let dict = Dict::of(set_of(terms))?;
-        Ok(dict)
+        Dict::of(set_of(terms))
     }
 
     /// The dictionary of these terms and of more, in any order and with doubles, and the numbers of the first list's terms, each at its term's

@@ -21,7 +21,7 @@ pub fn scan_for(quad: Quad<Id>) -> Read<Id>
     })
 }
 
-/// The quad that a read asks for alone, if it asks for one, of known terms whose numbers are below 2^32.
+/// The quad that a read asks for alone, if it asks for one, of known terms.
 pub fn quad_scanned(read: &Read<Id>) -> Option<KnownQuad>
     ensures { IfSome result (λ known. the_scan_for (quad_of known) ≡ read.now) }
 {

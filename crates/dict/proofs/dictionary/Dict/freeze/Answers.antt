@@ -1,5 +1,6 @@
-use Rattle.std.proofs.Common.{rules, ◌≡◌, List, filter, sym, ap, ◌∙◌, subst}
+use Rattle.std.proofs.Common.{rules, ◌≡◌, ◌≤◌, List, length, filter, sym, ap, ◌∙◌, subst}
 use Rattle.std.proofs.lemmas.Fn.{filter_same}
+use Rattle.std.proofs.lemmas.Result.{IfOk-weaker, on_err_weaker}
 use Rattle.sets.specs.Sets.{set_of}
 use Rattle.terms.specs.Term.{term_order}
 use Rattle.terms.specs.declared.term.Term.{Term}
@@ -15,4 +16,18 @@ of-requires c =
 
 pub returns-clause-terms : goal.returns-clause-terms
 returns-clause-terms c =
-    c.in_ok-dict.ensures ∙ c.set_of.ensures ∙ ap (set_of term_order) (filter_same _ is_written _ (λ x b f' k. search rules) _ _ c.retain.ensures.filtered)
+    let items : c.set_of.result.items ≡ set_of term_order (filter is_written c.args.terms.items) =
+    c.set_of.ensures ∙ ap (set_of term_order) (filter_same _ is_written _ (λ x b f' k. search rules) _ _ c.retain.ensures.filtered) in
+    IfOk-weaker c.of.result _ _ (λ dict e. e ∙ items) c.of.ensures.ok
+
+pub returns-clause-form : goal.returns-clause-form
+returns-clause-form c =
+    let items : c.set_of.result.items ≡ set_of term_order (filter is_written c.args.terms.items) =
+    c.set_of.ensures ∙ ap (set_of term_order) (filter_same _ is_written _ (λ x b f' k. search rules) _ _ c.retain.ensures.filtered) in
+    IfOk-weaker c.of.result _ _ (λ dict e. subst (λ (ts : List Term). IsDictionary ts) (sym (e ∙ items)) (frozen c.args.terms.items)) c.of.ensures.ok
+
+pub returns-clause-err : goal.returns-clause-err
+returns-clause-err c =
+    let items : c.set_of.result.items ≡ set_of term_order (filter is_written c.args.terms.items) =
+    c.set_of.ensures ∙ ap (set_of term_order) (filter_same _ is_written _ (λ x b f' k. search rules) _ _ c.retain.ensures.filtered) in
+    on_err_weaker c.of.result (subst (λ (ts : List Term). 4294967296 ≤ length ts) items) c.of.ensures.err

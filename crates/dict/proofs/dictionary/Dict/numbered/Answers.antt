@@ -24,17 +24,17 @@ of-requires c =
 
 pub returns-clause-terms : goal.returns-clause-terms
 returns-clause-terms c =
-    c.in_ok-dict.ensures ∙ found_is c.args.terms.now c.args.more.now c.in_ok-placed.placed.items c.in_ok-placed.ensures.placed c.in_ok-placed.ensures.same c.in_ok-found.found.items
+    c.in_ok-dict.ensures.ok ∙ found_is c.args.terms.now c.args.more.now c.in_ok-placed.placed.items c.in_ok-placed.ensures.placed c.in_ok-placed.ensures.same c.in_ok-found.found.items
     c.in_ok-placed.ensures.sorted (c.in_ok-found.ensures.terms ∙ ap (λ (xs : List Placed). taken (map term_in xs)) c.as_slice.ensures.value)
 
 pub returns-clause-renamed : goal.returns-clause-renamed
 returns-clause-renamed c =
-    subst (λ (ts : List Term). map (term_of ts) c.truncate.new.self.items ≡ c.args.terms.now) (sym c.in_ok-dict.ensures) (numbers_stand c.args.terms.now c.args.more.now c.in_ok-placed.placed.items c.in_ok-placed.ensures.placed c.in_ok-placed.ensures.same c.in_ok-found.found.items
+    subst (λ (ts : List Term). map (term_of ts) c.truncate.new.self.items ≡ c.args.terms.now) (sym c.in_ok-dict.ensures.ok) (numbers_stand c.args.terms.now c.args.more.now c.in_ok-placed.placed.items c.in_ok-placed.ensures.placed c.in_ok-placed.ensures.same c.in_ok-found.found.items
     c.in_ok-found.ids.items c.truncate.new.self.items (c.in_ok-found.ensures.length ∙ c.len.ensures ∙ c.in_ok-placed.placed.ok.0) c.truncate.ensures.items
     (λ all placed. c.in_ok-found.ensures.numbers all (subst (λ (xs : List Placed). ArePlaced all xs) (sym c.as_slice.ensures.value) placed))).0
 
 pub returns-clause-known : goal.returns-clause-known
 returns-clause-known c =
-    subst (λ (ts : List Term). list_all (is_known ts) c.truncate.new.self.items ≡ true) (sym c.in_ok-dict.ensures) (numbers_stand c.args.terms.now c.args.more.now c.in_ok-placed.placed.items c.in_ok-placed.ensures.placed c.in_ok-placed.ensures.same c.in_ok-found.found.items
+    subst (λ (ts : List Term). list_all (is_known ts) c.truncate.new.self.items ≡ true) (sym c.in_ok-dict.ensures.ok) (numbers_stand c.args.terms.now c.args.more.now c.in_ok-placed.placed.items c.in_ok-placed.ensures.placed c.in_ok-placed.ensures.same c.in_ok-found.found.items
     c.in_ok-found.ids.items c.truncate.new.self.items (c.in_ok-found.ensures.length ∙ c.len.ensures ∙ c.in_ok-placed.placed.ok.0) c.truncate.ensures.items
     (λ all placed. c.in_ok-found.ensures.numbers all (subst (λ (xs : List Placed). ArePlaced all xs) (sym c.as_slice.ensures.value) placed))).1
