@@ -16,7 +16,7 @@ use crate::state::{Event, Noted, Pass, Reply, Status};
 use crate::validate::Verdict;
 use delta::Finished;
 use quad_index::Arrangement;
-use reads::{IndexedView, Scanned, View};
+use reads::{CompactView, IndexedView, Scanned, View};
 use stamp_tree::{Due, StampTree, Standing};
 use std::alloc::{AllocError, Global};
 use std::marker::Model;
@@ -129,7 +129,11 @@ impl<'a> Machine<'a> {
     }
 
     /// The same, where the machine is not needed any more.
-    pub fn into_front_view(self, alloc: Global, base: &IndexedView) -> Result<View, AllocError>
+    pub fn into_front_view(
+        self,
+        alloc: Global,
+        base: &IndexedView,
+    ) -> Result<CompactView, AllocError>
         requires { self.front ≤ length self.slots }
         ensures { IfOk result (λ view. view ≡ view_at base.now self.entry.slots self.entry.front) }
     {

@@ -15,7 +15,7 @@ use crate::transcripts::is_transcript;
 use crate::validate::{self, Verdict};
 use delta::Finished;
 use quad_index::{Arrangement, OrderSet};
-use reads::{IndexedView, Scanned, View};
+use reads::{CompactView, IndexedView, Scanned, View};
 use stamp_tree::Standing;
 use std::alloc::{AllocError, Global};
 use std::marker::Model;
@@ -148,12 +148,18 @@ impl<'a> Slots<'a> {
     }
 
     /// The same, where nothing else is needed any more: notes and hints are let go first.
-    pub fn into_view(self, alloc: Global, base: &IndexedView, n: usize) -> Result<View, AllocError>
+    pub fn into_view(
+        self,
+        alloc: Global,
+        base: &IndexedView,
+        n: usize,
+    ) -> Result<CompactView, AllocError>
         requires { n ≤ length self }
         ensures { IfOk result (λ view. view ≡ view_at base.now self.entry n) }
     {
         if n != self.kept.low {
-            return self.view(alloc, base, n);
+            let view = self.view(alloc, base, n)?;
+            return CompactView::from_view(alloc, view);
         }
         let Kept {
             slots,
@@ -163,8 +169,8 @@ impl<'a> Slots<'a> {
         } = self.kept;
         drop(slots);
         drop(spoken);
-        let view = base.copied(alloc)?;
-        settled.into_applied(alloc, view)
+        let dataset = base.compact(alloc)?;
+        settled.into_applied(alloc, dataset)
     }
 
     /// The replies of the first `n` requests' last publications.

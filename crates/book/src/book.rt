@@ -18,7 +18,7 @@ use datasets::Id;
 use delta::Outcome;
 use dict::Dict;
 use meaning::Request;
-use reads::{IndexedView, Scanned, View};
+use reads::{CompactView, IndexedView, Scanned, View};
 use sets::Items;
 use std::alloc::{AllocError, Global};
 use std::marker::Model;
@@ -269,7 +269,7 @@ impl<'a> Book<'a> {
     pub fn outcome(&self, alloc: Global) -> Result<Outcome, AllocError>
         ensures { IfOk result (λ outcome. (outcome.dataset, outcome.replies) ≡ front_run self.now) }
     {
-        let dataset = self.front_dataset(alloc)?;
+        let dataset = CompactView::from_view(alloc, self.front_dataset(alloc)?)?;
         let replies = self.committed_replies(alloc)?;
         Ok(Outcome {
             dataset,

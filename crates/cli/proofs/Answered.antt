@@ -33,6 +33,31 @@ fault_of_journal (Some b) None j d r bytes f hb hk hj h = tt
 fault_of_journal (Some b) (Some k) None d r bytes f hb hk hj h = tt
 fault_of_journal (Some b) (Some k) (Some j) d r bytes f hb hk hj h = journal_fault b k j d r f hb hk (subst (λ (x : List ℕ). IsReplayFault d r x f) hj h)
 
+-- a fault of the block
+block_fault : (b k j : List ℕ) (d : Dataset Term) (f : Fault) → IsBaseAnswer b (Ok d) → IsBlockAnswer k (Err f) → IsFaultOfReplay b k j f
+block_fault b k j d told.BlockTooLong hb hk = ((d, hb), hk)
+block_fault b k j d told.TooManyRequests hb hk = ((d, hb), hk)
+block_fault b k j d told.BadUtf8 hb hk = ((d, hb), hk)
+block_fault b k j d told.Memory hb hk = tt
+block_fault b k j d (told.CannotRead file.Block) hb hk = (d, hb)
+block_fault b k j d (told.CannotRead file.Base) hb hk = absurd hk
+block_fault b k j d (told.CannotRead file.Journal) hb hk = absurd hk
+block_fault b k j d (told.CannotRead file.Answer) hb hk = absurd hk
+block_fault b k j d (told.Line l) hb hk = absurd hk
+block_fault b k j d (told.BadLine n) hb hk = absurd hk
+block_fault b k j d told.BaseTooLong hb hk = absurd hk
+block_fault b k j d (told.BadEntry n) hb hk = absurd hk
+block_fault b k j d (told.Illegal n) hb hk = absurd hk
+block_fault b k j d (told.CannotWrite f) hb hk = absurd hk
+
+pub fault_of_block : (b k j : Option (List ℕ)) (d : Dataset Term) (f : Fault)
+    → IfSome b (λ t. IsBaseAnswer t (Ok d)) → IfSome k (λ t. IsBlockAnswer t (Err f))
+    → IfSome b (λ b. IfSome k (λ k. IfSome j (λ j. IsFaultOfReplay b k j f)))
+fault_of_block None k j d f hb hk = tt
+fault_of_block (Some b) None j d f hb hk = tt
+fault_of_block (Some b) (Some k) None d f hb hk = tt
+fault_of_block (Some b) (Some k) (Some j) d f hb hk = block_fault b k j d f hb hk
+
 module _ (b k j : Option (List ℕ)) (d : Dataset Term) (r : List (Request Term)) (bytes dataset replies : List ℕ)
     (hb : IfSome b (λ t. IsBaseAnswer t (Ok d))) (hk : IfSome k (λ t. IsBlockAnswer t (Ok r))) (hj : IfSome j (λ t. bytes ≡ t)) (h : IsReplay d r bytes dataset replies) where
   pub wrote_in_part : {T E : Type 0} (result : Result T E) (e : E) (written told : Taken)

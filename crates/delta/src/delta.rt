@@ -2,21 +2,20 @@
 ghost use Rattle.std.specs.Prelude.{◌≡◌, IfOk, [], ◌∷◌, filter, true, ◌||◌, if◌then◌else◌};
 ghost use Rattle.std.specs.List.{list_any};
 ghost use Rattle.std.specs.List.Sorted.{IsStrictlySortedBy};
-ghost use Rattle.sets.specs.Sets.{has, without, union, set_of as the_set_of};
+ghost use Rattle.sets.specs.Sets.{has, set_of as the_set_of};
 ghost use Rattle.datasets.specs.Id.{id_order};
 ghost use Rattle.datasets.specs.Dataset.{quad_order, matches};
-ghost use Rattle.change_laws.specs.Laws.{IsRising};
 ghost use Rattle.reads.specs.Reads.{View as Dataset, says, applied, covers as the_covers, no_change};
 ghost use Rattle.delta.specs.Same.{delta_eq};
 
-use crate::lists::{has_names, names_after, names_changed, quads_after, quads_changed};
+use crate::lists::{has_names, names_after, quads_and_more, same_sets};
 use crate::parts::Parts;
 use datasets::{Id, Quad, QuadPattern, Read};
-use quad_index::matching::{is_any_in_set, matching};
-use quad_index::part_of_set;
-use reads::View;
-use reads::lists::{copied_names, copied_quads, name_if, names_union, quads_union};
-use reads::same::{same_names, same_quads};
+use quad_sets::lists::merged;
+use quad_sets::{QuadSet, QuadSlice};
+use reads::lists::{copied_names, name_if, names_union};
+use reads::same::same_names;
+use reads::{CompactView, View};
 use sets::{is_member, set_of};
 use std::alloc::{AllocError, Global};
 use std::marker::Model;
@@ -62,7 +61,8 @@ impl Delta {
         ensures there { IfOk result (λ change. change.there ≡ the_set_of id_order there.items) }
         ensures gone { IfOk result (λ change. change.gone ≡ the_set_of id_order gone.items) }
     {
-        let (present, absent) = (set_of(present), set_of(absent));
+        let present = QuadSet::of_quads(alloc, present)?;
+        let absent = QuadSet::of_quads(alloc, absent)?;
         let (there, gone) = (set_of(there), set_of(gone));
         Delta::from_sets(alloc, present, absent, there, gone)
     }
@@ -70,21 +70,15 @@ impl Delta {
     /// The change that speaks of these sets.
     pub fn from_sets(
         alloc: Global,
-        present: Vec<Quad<Id>>,
-        absent: Vec<Quad<Id>>,
+        present: QuadSet,
+        absent: QuadSet,
         there: Vec<Id>,
         gone: Vec<Id>,
     ) -> Result<Self, AllocError>
-        requires come { IsRising id_order (record { quads = present.items; names = there.items }) }
-        requires go { IsRising id_order (record { quads = absent.items; names = gone.items }) }
+        requires there { IsStrictlySortedBy id_order there.items }
+        requires gone { IsStrictlySortedBy id_order gone.items }
         ensures { IfOk result (λ change. change
-            ≡ record {
-              present = present.items;
-              absent = absent.items;
-              there = there.items;
-              gone =
-                  gone.items;
-            }) }
+            ≡ record { present = present; absent = absent; there = there.items; gone = gone.items }) }
     {
         let parts = Parts {
             present,
@@ -98,24 +92,24 @@ impl Delta {
     }
 
     /// The quads that come to be present.
-    pub fn present(&self) -> &[Quad<Id>]
-        ensures value { result.now ≡ self.now.present }
-        ensures set { IsStrictlySortedBy (quad_order id_order) result.now }
+    pub fn present(&self) -> QuadSlice<'_>
+        ensures value { result ≡ self.now.present }
+        ensures set { IsStrictlySortedBy (quad_order id_order) result }
     {
         match &self.parts {
             Some(parts) => parts.present(),
-            None => &[],
+            None => QuadSlice::new(),
         }
     }
 
     /// The quads that come to be absent.
-    pub fn absent(&self) -> &[Quad<Id>]
-        ensures value { result.now ≡ self.now.absent }
-        ensures set { IsStrictlySortedBy (quad_order id_order) result.now }
+    pub fn absent(&self) -> QuadSlice<'_>
+        ensures value { result ≡ self.now.absent }
+        ensures set { IsStrictlySortedBy (quad_order id_order) result }
     {
         match &self.parts {
             Some(parts) => parts.absent(),
-            None => &[],
+            None => QuadSlice::new(),
         }
     }
 
@@ -148,7 +142,7 @@ impl Delta {
     {
         match read {
             Read::Scan(pattern) => {
-                is_any_in_set(self.present(), pattern) || is_any_in_set(self.absent(), pattern)
+                self.present().has_match(pattern) || self.absent().has_match(pattern)
             }
             Read::GraphIs(name) => is_member(self.there(), name) || is_member(self.gone(), name),
             Read::Graphs => has_names(self.there()) || has_names(self.gone()),
@@ -165,8 +159,8 @@ impl Delta {
           gone = [];
         }) }
     {
-        let present = matching(alloc, pattern, part_of_set(self.present(), pattern))?;
-        let absent = matching(alloc, pattern, part_of_set(self.absent(), pattern))?;
+        let present = matching_set(alloc, &self.present(), pattern)?;
+        let absent = matching_set(alloc, &self.absent(), pattern)?;
         Delta::from_sets(alloc, present, absent, Vec::new(alloc), Vec::new(alloc))
     }
 
@@ -183,7 +177,7 @@ impl Delta {
     {
         let there = name_if(alloc, is_member(self.there(), name), name)?;
         let gone = name_if(alloc, is_member(self.gone(), name), name)?;
-        Delta::from_sets(alloc, Vec::new(alloc), Vec::new(alloc), there, gone)
+        Delta::from_sets(alloc, QuadSet::new(alloc), QuadSet::new(alloc), there, gone)
     }
 
     // The graphs.
@@ -193,7 +187,7 @@ impl Delta {
     {
         let there = copied_names(alloc, self.there())?;
         let gone = copied_names(alloc, self.gone())?;
-        Delta::from_sets(alloc, Vec::new(alloc), Vec::new(alloc), there, gone)
+        Delta::from_sets(alloc, QuadSet::new(alloc), QuadSet::new(alloc), there, gone)
     }
 
     /// The part of the change that the read asks for: what the read says after the part is what it says after the whole.
@@ -214,54 +208,37 @@ impl Delta {
         ensures { IfOk result (λ after. after ≡ applied self.now view) }
     {
         let (quads, names) = view.into_parts();
-        let quads = quads_after(alloc, quads, self.absent(), self.present())?;
+        let quads = merged(quads_and_more(quads, &self.absent(), &self.present())?)?;
         let names = names_after(alloc, names, self.gone(), self.there())?;
         Ok(View::from_sets(quads, names))
     }
 
-    /// The same, where the change is not needed any more: what comes is moved, if it has no other owner.
+    /// The same of a dataset in little memory.
     #[tactic(auto, unfolding(reads::specs::Reads::applied))]
-    pub fn into_applied(self, alloc: Global, view: View) -> Result<View, AllocError>
-        ensures { IfOk result (λ after. after ≡ applied self view) }
+    pub fn apply_compact(
+        &self,
+        alloc: Global,
+        dataset: CompactView,
+    ) -> Result<CompactView, AllocError>
+        ensures { IfOk result (λ after. after ≡ applied self.now dataset) }
     {
-        let Parts {
-            present,
-            absent,
-            there,
-            gone,
-        } = self.into_parts(alloc)?;
-        let (quads, names) = view.into_parts();
-        let quads = quads_changed(quads, &absent, present)?;
-        let names = names_changed(names, &gone, there)?;
-        Ok(View::from_sets(quads, names))
-    }
-
-    // What it speaks of: copied where there is another owner.
-    fn into_parts(self, alloc: Global) -> Result<Parts, AllocError>
-        ensures { IfOk result (λ parts. parts ≡ self) }
-    {
-        let Some(shared) = self.parts else {
-            return Ok(Parts::new(alloc));
-        };
-        match Arc::try_unwrap(shared) {
-            Ok(parts) => Ok(parts),
-            Err(shared) => shared.copied(alloc),
-        }
+        let (quads, names) = dataset.into_parts();
+        let quads = QuadSet::changed(alloc, &quads.as_slice(), &self.absent(), &self.present())?;
+        let names = names_after(alloc, names, self.gone(), self.there())?;
+        Ok(CompactView::from_sets(quads, names))
     }
 
     /// This change and then a later one, as one change. What the later one speaks of is as it says.
-    pub fn followed_by(self, alloc: Global, later: &Delta) -> Result<Delta, AllocError>
+    pub fn followed_by(&self, alloc: Global, later: &Delta) -> Result<Delta, AllocError>
         ensures { IfOk result (λ both. (d : Dataset)
-            → applied both d ≡ applied later.now (applied self d)) }
+            → applied both d ≡ applied later.now (applied self.now d)) }
     {
-        let Parts {
-            present,
-            absent,
-            there,
-            gone,
-        } = self.into_parts(alloc)?;
-        let (present, absent) = quads_followed(alloc, present, absent, later)?;
-        let (there, gone) = names_followed(alloc, there, gone, later)?;
+        let present = QuadSet::changed(alloc, &self.present(), &later.absent(), &later.present())?;
+        let absent = QuadSet::union(alloc, &self.absent(), &later.absent())?;
+        let own = copied_names(alloc, self.there())?;
+        let there = names_after(alloc, own, later.gone(), later.there())?;
+        let left = copied_names(alloc, self.gone())?;
+        let gone = names_union(left, copied_names(alloc, later.gone())?)?;
         Delta::from_sets(alloc, present, absent, there, gone)
     }
 
@@ -280,43 +257,21 @@ impl Delta {
     pub fn is_same(&self, other: &Delta) -> bool
         ensures { result ≡ delta_eq self.now other.now }
     {
-        same_quads(self.present(), other.present())
-            && same_quads(self.absent(), other.absent())
+        same_sets(&self.present(), &other.present())
+            && same_sets(&self.absent(), &other.absent())
             && same_names(self.there(), other.there())
             && same_names(self.gone(), other.gone())
     }
 }
 
-// The quads of a change, present and absent, and then those of a later one.
-fn quads_followed(
+// Of a set's quads those that match.
+fn matching_set(
     alloc: Global,
-    present: Vec<Quad<Id>>,
-    absent: Vec<Quad<Id>>,
-    later: &Delta,
-) -> Result<(Vec<Quad<Id>>, Vec<Quad<Id>>), AllocError>
-    ensures present { IfOk result (λ both. both.0.items
-        ≡ union (quad_order id_order) (without (quad_order id_order) present.items later.now.absent)
-        later.now.present) }
-    ensures absent { IfOk result (λ both. both.1.items
-        ≡ union (quad_order id_order) absent.items later.now.absent) }
+    quads: &QuadSlice<'_>,
+    pattern: &QuadPattern<Id>,
+) -> Result<QuadSet, AllocError>
+    ensures { IfOk result (λ part. part ≡ filter (matches id_order pattern.now) quads.now) }
 {
-    let present = quads_after(alloc, present, later.absent(), later.present())?;
-    let absent = quads_union(absent, copied_quads(alloc, later.absent())?)?;
-    Ok((present, absent))
-}
-
-// The graphs of a change, there and gone, and then those of a later one.
-fn names_followed(
-    alloc: Global,
-    there: Vec<Id>,
-    gone: Vec<Id>,
-    later: &Delta,
-) -> Result<(Vec<Id>, Vec<Id>), AllocError>
-    ensures there { IfOk result (λ both. both.0.items
-        ≡ union id_order (without id_order there.items later.now.gone) later.now.there) }
-    ensures gone { IfOk result (λ both. both.1.items ≡ union id_order gone.items later.now.gone) }
-{
-    let there = names_after(alloc, there, later.gone(), later.there())?;
-    let gone = names_union(gone, copied_names(alloc, later.gone())?)?;
-    Ok((there, gone))
+    quads.rises();
+    QuadSet::from_set(alloc, quads.matching(alloc, pattern)?)
 }

@@ -2,7 +2,7 @@
 ghost use Rattle.std.specs.Prelude.{◌≡◌, IfOk};
 
 use crate::delta::Delta;
-use reads::{Note, SharedItems, View};
+use reads::{CompactView, Note, SharedItems};
 use sets::Items;
 use std::alloc::{AllocError, Global};
 
@@ -18,7 +18,7 @@ pub struct Finished {
 /// What first requests of a block come to: the dataset that they leave, and their replies in order.
 #[derive(Drop)]
 pub struct Outcome {
-    pub dataset: View,
+    pub dataset: CompactView,
     pub replies: Items<meaning::Reply>,
 }
 

@@ -1,13 +1,15 @@
 //! Lists of quads and of graph names: differences, sets after a change, and whether there is any.
-ghost use Rattle.std.specs.Prelude.{◌≡◌, true, IfOk};
+ghost use Rattle.std.specs.Prelude.{◌≡◌, ◌++◌, true, IfOk};
 ghost use Rattle.std.specs.List.{list_any};
 ghost use Rattle.std.specs.List.Sorted.{IsStrictlySortedBy};
 ghost use Rattle.sets.specs.Sets.{union, without};
 ghost use Rattle.datasets.specs.Id.{id_order};
 ghost use Rattle.datasets.specs.Dataset.{quad_order};
+ghost use Rattle.reads.specs.Same.{quads_eq};
 
 use datasets::{Id, Quad};
-use reads::lists::{copied_names, copied_quads, names_union, quads_union, quads_without};
+use quad_sets::QuadSlice;
+use reads::lists::{copied_names, names_union};
 use sets::is_member;
 use std::alloc::{AllocError, Global};
 
@@ -16,6 +18,13 @@ pub(crate) fn has_names(names: &[Id]) -> bool
     ensures { result ≡ list_any (λ name. true) names.now }
 {
     names.iter().any(|_name| true)
+}
+
+/// Whether two sets of quads are the same.
+pub(crate) fn same_sets(a: &QuadSlice<'_>, b: &QuadSlice<'_>) -> bool
+    ensures { result ≡ quads_eq a.now b.now }
+{
+    a.is_same(b)
 }
 
 // The names that are none of a set's.
@@ -27,50 +36,22 @@ fn names_without(mut names: Vec<Id>, others: &[Id]) -> Vec<Id>
     names
 }
 
-/// The set of the quads that are none of a set's, and of more.
-pub(crate) fn quads_changed(
+/// The quads that are none of a set's, and then more.
+pub(crate) fn quads_and_more(
     quads: Vec<Quad<Id>>,
-    gone: &[Quad<Id>],
-    more: Vec<Quad<Id>>,
+    gone: &QuadSlice<'_>,
+    more: &QuadSlice<'_>,
 ) -> Result<Vec<Quad<Id>>, AllocError>
-    requires { IsStrictlySortedBy (quad_order id_order) gone.now }
     ensures { IfOk result (λ after. after.items
-        ≡ union (quad_order id_order) (without (quad_order id_order) quads.items gone.now)
-        more.items) }
+        ≡ without (quad_order id_order) quads.items gone.now ++ more.now) }
 {
-    quads_union(quads_without(quads, gone), more)
-}
-
-/// The same, where what comes is copied.
-pub(crate) fn quads_after(
-    alloc: Global,
-    quads: Vec<Quad<Id>>,
-    gone: &[Quad<Id>],
-    more: &[Quad<Id>],
-) -> Result<Vec<Quad<Id>>, AllocError>
-    requires { IsStrictlySortedBy (quad_order id_order) gone.now }
-    ensures { IfOk result (λ after. after.items
-        ≡ union (quad_order id_order) (without (quad_order id_order) quads.items gone.now)
-        more.now) }
-{
-    let more = copied_quads(alloc, more)?;
-    quads_changed(quads, gone, more)
+    let mut after = gone.lacked(quads);
+    after.reserve_exact(more.len())?;
+    more.push_all(&mut after)?;
+    Ok(after)
 }
 
 /// The set of the names that are none of a set's, and of more.
-pub(crate) fn names_changed(
-    names: Vec<Id>,
-    gone: &[Id],
-    more: Vec<Id>,
-) -> Result<Vec<Id>, AllocError>
-    requires { IsStrictlySortedBy id_order gone.now }
-    ensures { IfOk result (λ after. after.items
-        ≡ union id_order (without id_order names.items gone.now) more.items) }
-{
-    names_union(names_without(names, gone), more)
-}
-
-/// The same, where what comes is copied.
 pub(crate) fn names_after(
     alloc: Global,
     names: Vec<Id>,
@@ -82,5 +63,5 @@ pub(crate) fn names_after(
         ≡ union id_order (without id_order names.items gone.now) more.now) }
 {
     let more = copied_names(alloc, more)?;
-    names_changed(names, gone, more)
+    names_union(names_without(names, gone), more)
 }

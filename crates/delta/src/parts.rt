@@ -1,20 +1,18 @@
 //! What a change speaks of, as sets.
-ghost use Rattle.std.specs.Prelude.{◌≡◌, IfOk};
+ghost use Rattle.std.specs.Prelude.{◌≡◌};
 ghost use Rattle.std.specs.List.Sorted.{IsStrictlySortedBy};
 ghost use Rattle.datasets.specs.Id.{id_order};
 ghost use Rattle.datasets.specs.Dataset.{quad_order};
-ghost use Rattle.reads.specs.Reads.{no_change};
 
-use datasets::{Id, Quad};
-use reads::lists::{copied_names, copied_quads};
-use std::alloc::{AllocError, Global};
+use datasets::Id;
+use quad_sets::{QuadSet, QuadSlice};
 use std::marker::Model;
 
 /// The sets that a change speaks of: quads that come to be present or absent, and graphs that come to be there or gone.
 #[derive(Drop)]
 pub struct Parts {
-    pub present: Vec<Quad<Id>>,
-    pub absent: Vec<Quad<Id>>,
+    pub present: QuadSet,
+    pub absent: QuadSet,
     pub there: Vec<Id>,
     pub gone: Vec<Id>,
 }
@@ -25,39 +23,27 @@ impl Model for Parts {
 
     ghost Value = { Change Id };
 
-    ghost view = { λ p. record { present = p.present.items; absent = p.absent.items; there = p.there.items; gone = p.gone.items } };
+    ghost view = { λ p. record { present = p.present; absent = p.absent; there = p.there.items; gone = p.gone.items } };
 
+    ghost use Rattle.std.specs.List.Sorted.{IsStrictlySortedBy};
     ghost use Rattle.datasets.specs.Id.{id_order};
-    ghost use Rattle.change_laws.specs.Laws.{IsRising};
 
-    ghost invariant = { λ p. IsRising id_order (record { quads = p.present.items; names = p.there.items }) × IsRising id_order (record { quads = p.absent.items; names = p.gone.items }) };
+    ghost invariant = { λ p. IsStrictlySortedBy id_order p.there.items × IsStrictlySortedBy id_order p.gone.items };
 }
 
 impl Parts {
-    /// Empty sets. They take no memory.
-    pub fn new(alloc: Global) -> Self
-        ensures { result ≡ no_change }
-    {
-        Parts {
-            present: Vec::new(alloc),
-            absent: Vec::new(alloc),
-            there: Vec::new(alloc),
-            gone: Vec::new(alloc),
-        }
-    }
-
     /// The quads that come to be present.
-    pub fn present(&self) -> &[Quad<Id>]
-        ensures value { result.now ≡ self.now.present }
-        ensures set { IsStrictlySortedBy (quad_order id_order) result.now }
+    pub fn present(&self) -> QuadSlice<'_>
+        ensures value { result ≡ self.now.present }
+        ensures set { IsStrictlySortedBy (quad_order id_order) result }
     {
         self.present.as_slice()
     }
 
     /// The quads that come to be absent.
-    pub fn absent(&self) -> &[Quad<Id>]
-        ensures value { result.now ≡ self.now.absent }
-        ensures set { IsStrictlySortedBy (quad_order id_order) result.now }
+    pub fn absent(&self) -> QuadSlice<'_>
+        ensures value { result ≡ self.now.absent }
+        ensures set { IsStrictlySortedBy (quad_order id_order) result }
     {
         self.absent.as_slice()
     }
@@ -76,21 +62,5 @@ impl Parts {
         ensures set { IsStrictlySortedBy id_order result.now }
     {
         self.gone.as_slice()
-    }
-
-    /// The same sets again.
-    pub fn copied(&self, alloc: Global) -> Result<Parts, AllocError>
-        ensures { IfOk result (λ copy. copy ≡ self.now) }
-    {
-        let present = copied_quads(alloc, &self.present)?;
-        let absent = copied_quads(alloc, &self.absent)?;
-        let there = copied_names(alloc, &self.there)?;
-        let gone = copied_names(alloc, &self.gone)?;
-        Ok(Parts {
-            present,
-            absent,
-            there,
-            gone,
-        })
     }
 }

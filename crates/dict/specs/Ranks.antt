@@ -1,7 +1,7 @@
 -- Terms by their places in a list, and the list that comes of taking them in their order.
-use Rattle.std.specs.Prelude.{◌≡◌, ℕ, ◌==◌, Bool, true, false, List, [], ◌∷◌, ◌++◌, All, map, slice_index_or, if◌then◌else◌}
+use Rattle.std.specs.Prelude.{◌≡◌, ℕ, ◌-◌, ◌<◌, ◌==◌, length, Bool, true, false, List, [], ◌∷◌, ◌++◌, All, map, slice_index_or, if◌then◌else◌}
 use Rattle.std.specs.List.{list_any, fold}
-use Rattle.std.specs.Ordering.{eq_by_cmp}
+use Rattle.std.specs.Ordering.{eq_by_cmp, is_lt}
 use Rattle.terms.specs.Term.{term_order}
 use Rattle.terms.specs.Placed.{term_at, is_within}
 use Rattle.terms.specs.declared.term.Term.{Term}
@@ -12,6 +12,14 @@ use Rattle.dict.specs.declared.ranks.Placed.{Placed}
 
 abbrev pub term_in : Placed → Term
 term_in p = p.term.now
+
+-- its term is before another's
+abbrev pub is_before : Placed → Placed → Bool
+is_before x y = is_lt (term_order (term_in x) (term_in y))
+
+-- the term at a place is not before the one in front of it
+pub record RisesAt (list : List Placed) (place : ℕ) : Type 0 where
+  pub rises : (d : Placed) → 0 < place → place < length list → is_before (slice_index_or list place d) (slice_index_or list (place - 1) d) ≡ false
 
 abbrev pub is_at : ℕ → Placed → Bool
 is_at place p = place == p.place

@@ -3,6 +3,7 @@ ghost use Rattle.std.specs.Prelude.{◌≡◌, ◌<◌, ◌≤◌, ◌++◌, tru
 ghost use Rattle.std.specs.List.{list_all};
 ghost use Rattle.sets.specs.Sets.{set_of as the_set_of, has};
 ghost use Rattle.terms.specs.Term.{term_order};
+ghost use Rattle.terms.specs.Placed.{AreApart};
 ghost use Rattle.dict.specs.Dictionary.{IsDictionary, is_written, is_known, term_of as the_term_of, numbers};
 
 use crate::ranks::{in_order, in_order_by, numbered};
@@ -108,9 +109,11 @@ impl Dict {
     }
 
     /// Its terms, each once and in their order: the number of a term is its place here.
+    #[tactic(auto, using(crate::proofs::Apart::dictionary_apart))]
     pub fn terms(&self) -> &[Term]
         ensures terms { result.now ≡ self.now }
         ensures form { IsDictionary self.now }
+        ensures apart { AreApart self.now }
     {
         self.terms.as_slice()
     }

@@ -8,6 +8,7 @@ mod dictionary;
 pub mod laws;
 mod parts;
 mod ranks;
+mod rising;
 
 pub use datasets::Id;
 pub use dictionary::Dict;

@@ -1,6 +1,7 @@
 //! Where terms stand in an order of which some terms are known, so that most of a sort compares numbers.
+use rayon::prelude::*;
 use std::alloc::{AllocError, Global};
-use std::cmp::Ordering;
+use std::thread::Threads;
 use terms::Term;
 
 /// How many terms part a list at most.
@@ -13,10 +14,13 @@ pub(crate) struct Stand {
     bytes: u64,
 }
 
+/// Where a term stands before all others.
+pub(crate) const FIRST: Stand = Stand { part: 0, bytes: 0 };
+
 /// Some terms in their order, which part it, and how many bytes the terms of each part share at the front. Nothing is known of the bytes
 /// where a part has terms of two kinds.
 #[derive(Drop)]
-pub(crate) struct Parts<'a> {
+struct Parts<'a> {
     marks: Vec<&'a Term>,
     shared: Vec<Option<usize>>,
 }
@@ -63,11 +67,7 @@ fn bytes_from(text: &[u8], from: usize) -> u64 {
 
 impl<'a> Parts<'a> {
     /// The parts that some of these terms make, and of more.
-    pub(crate) fn new(
-        alloc: Global,
-        terms: &'a [Term],
-        more: &'a [Term],
-    ) -> Result<Parts<'a>, AllocError> {
+    fn new(alloc: Global, terms: &'a [Term], more: &'a [Term]) -> Result<Parts<'a>, AllocError> {
         let mut marks = Vec::new(alloc);
         let step = terms.len().saturating_add(more.len()) / MOST_MARKS + 1;
         for term in terms.iter().chain(more.iter()).step_by(step) {
@@ -79,7 +79,7 @@ impl<'a> Parts<'a> {
     }
 
     /// Where a term stands. Of two terms that stand apart the one that stands before is before.
-    pub(crate) fn stand_of(&self, term: &Term) -> Stand {
+    fn stand_of(&self, term: &Term) -> Stand {
         let part = self.marks.partition_point(|mark| mark.cmp(&term).is_le());
         let bytes = match self.shared.get(part) {
             Some(Some(from)) => bytes_from(text_of(term), *from),
@@ -98,4 +98,39 @@ fn shared_of(alloc: Global, marks: &[&Term]) -> Result<Vec<Option<usize>>, Alloc
         shared.push(shared_by(low, high))?;
     }
     Ok(shared)
+}
+
+/// Where these terms stand, and then more.
+pub(crate) fn stands(
+    alloc: Global,
+    terms: &[Term],
+    more: &[Term],
+) -> Result<Vec<Stand>, AllocError> {
+    let parts = Parts::new(alloc, terms, more)?;
+    let mut stands = Vec::new(alloc);
+    stands.reserve(terms.len())?;
+    for term in terms.iter().chain(more.iter()) {
+        stands.push(parts.stand_of(term))?;
+    }
+    Ok(stands)
+}
+
+/// The same, found by several threads.
+pub(crate) fn stands_by<T: Threads + Sync>(
+    rt: &T,
+    alloc: Global,
+    terms: &[Term],
+    more: &[Term],
+) -> Result<Vec<Stand>, AllocError> {
+    let parts = Parts::new(alloc, terms, more)?;
+    let mut stands: Vec<Stand> = terms
+        .par_iter()
+        .map(|term: &Term| -> Stand { parts.stand_of(term) })
+        .collect(rt, alloc)?;
+    let mut others: Vec<Stand> = more
+        .par_iter()
+        .map(|term: &Term| -> Stand { parts.stand_of(term) })
+        .collect(rt, alloc)?;
+    stands.append(&mut others)?;
+    Ok(stands)
 }

@@ -7,7 +7,8 @@ ghost use Rattle.terms.specs.Placed.{term_at, is_within};
 ghost use Rattle.dict.specs.Dictionary.{is_written};
 ghost use Rattle.dict.specs.Ranks.{IsGathered, ArePlaced, IsNumberOf, term_in, ends_with as ends_with_term, with_next, taken, number_in};
 
-use crate::parts::{Parts, Stand};
+use crate::parts::{FIRST, Stand, stands, stands_by};
+use crate::rising::rises_by;
 use datasets::Id;
 use sorting::sorted_by;
 use std::alloc::{AllocError, Global};
@@ -18,7 +19,7 @@ use terms::Term;
 /// A term that lies in a list, its place there, and where it stands in its order.
 #[derive(Clone, Copy, Drop)]
 pub(crate) struct Placed<'a> {
-    term: &'a Term,
+    pub(crate) term: &'a Term,
     place: u32,
     stand: Stand,
 }
@@ -33,10 +34,10 @@ fn narrowed(place: usize) -> Result<u32, AllocError>
     }
 }
 
-/// Adds the terms of a list that goes on where the others ended.
+/// Adds the terms of a list that goes on where the others ended, each with where it stands by its place.
 fn push_placed<'a>(
     placed: &mut Vec<Placed<'a>>,
-    parts: &Parts<'_>,
+    stands: &[Stand],
     terms: &'a [Term],
 ) -> Result<(), AllocError>
     ensures { OnOk result ((all : List OneTerm) → IsGathered all placed.old.items
@@ -45,10 +46,25 @@ fn push_placed<'a>(
     placed.reserve(terms.len())?;
     for term in terms {
         let place = narrowed(placed.len())?;
-        let stand = parts.stand_of(term);
+        let stand = stands.get(place as usize).copied().unwrap_or(FIRST);
         placed.push(Placed { term, place, stand })?;
     }
     Ok(())
+}
+
+/// The terms of these two lists, one after the other, with their places, each with where it stands by its place.
+fn gathered_with<'a>(
+    alloc: Global,
+    terms: &'a [Term],
+    more: &'a [Term],
+    stands: &[Stand],
+) -> Result<Vec<Placed<'a>>, AllocError>
+    ensures { IfOk result (λ placed. IsGathered (terms.now ++ more.now) placed.items) }
+{
+    let mut placed = Vec::new(alloc);
+    push_placed(&mut placed, stands, terms)?;
+    push_placed(&mut placed, stands, more)?;
+    Ok(placed)
 }
 
 /// The terms of these two lists, one after the other, with their places.
@@ -59,11 +75,21 @@ fn gathered<'a>(
 ) -> Result<Vec<Placed<'a>>, AllocError>
     ensures { IfOk result (λ placed. IsGathered (terms.now ++ more.now) placed.items) }
 {
-    let parts = Parts::new(alloc, terms, more)?;
-    let mut placed = Vec::new(alloc);
-    push_placed(&mut placed, &parts, terms)?;
-    push_placed(&mut placed, &parts, more)?;
-    Ok(placed)
+    let stands = stands(alloc, terms, more)?;
+    gathered_with(alloc, terms, more, stands.as_slice())
+}
+
+/// The same, where several threads look for where the terms stand.
+fn gathered_by<'a, T: Threads + Sync>(
+    rt: &T,
+    alloc: Global,
+    terms: &'a [Term],
+    more: &'a [Term],
+) -> Result<Vec<Placed<'a>>, AllocError>
+    ensures { IfOk result (λ placed. IsGathered (terms.now ++ more.now) placed.items) }
+{
+    let stands = stands_by(rt, alloc, terms, more)?;
+    gathered_with(alloc, terms, more, stands.as_slice())
 }
 
 /// The order of two terms, from where they stand where that differs.
@@ -92,6 +118,17 @@ pub(crate) fn in_order<'a>(
     Ok(placed)
 }
 
+/// These terms in their order, in which they are likely to be, so that several threads look first whether they are.
+fn by_terms<'a, T: Threads + Sync>(rt: &T, mut moved: Vec<Placed<'a>>) -> Vec<Placed<'a>>
+    ensures same { IsPermutation moved.entry.items result.items }
+    ensures sorted { IsSortedByKey term_in term_order result.items }
+{
+    if !rises_by(rt, moved.as_slice()) {
+        moved.sort_unstable_by(|left, right| left.term.cmp(right.term));
+    }
+    moved
+}
+
 /// The same, put in order by several threads.
 pub(crate) fn in_order_by<'a, T: Threads + Sync>(
     rt: &T,
@@ -104,10 +141,9 @@ pub(crate) fn in_order_by<'a, T: Threads + Sync>(
         (map term_in placed.items)) }
     ensures sorted { IfOk result (λ placed. IsSortedByKey term_in term_order placed.items) }
 {
-    let placed = gathered(alloc, terms, more)?;
-    let mut moved = sorted_by(rt, placed, |left, right| by_stands(left, right));
-    moved.sort_unstable_by(|left, right| left.term.cmp(right.term));
-    Ok(moved)
+    let placed = gathered_by(rt, alloc, terms, more)?;
+    let moved = sorted_by(rt, placed, |left, right| by_stands(left, right));
+    Ok(by_terms(rt, moved))
 }
 
 fn ends_with(found: &[Term], term: &Term) -> bool

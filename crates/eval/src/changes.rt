@@ -1,17 +1,17 @@
 //! Changes that a request made and that are not published.
 ghost use Rattle.std.specs.Prelude.{◌≡◌, ◌&&◌, ◌||◌, not, IfOk};
 ghost use Rattle.sets.specs.Sets.{has, union, without};
-ghost use Rattle.datasets.specs.Dataset.{names_of as the_names_of};
+ghost use Rattle.datasets.specs.Dataset.{quad_order, names_of as the_names_of};
 ghost use Rattle.datasets.specs.Id.{id_order};
 ghost use Rattle.eval.specs.Changes.{seen_through, replaced_change, with_replaced};
 ghost use Rattle.reads.specs.Reads.{View, applied};
 
-use crate::lacking::{names_outside, quads_lacking, quads_outside};
+use crate::lacking::names_outside;
 use datasets::{Id, Quad, QuadPattern};
 use delta::Delta;
 use quad_index::matching::matching;
-use quad_index::part_of_set;
-use reads::lists::{copied_names, copied_quads, names_union, quads_union};
+use quad_sets::QuadSet;
+use reads::lists::{copied_names, names_union, quads_union};
 use sets::is_member;
 use std::alloc::{AllocError, Global};
 
@@ -25,9 +25,8 @@ pub fn quads_after(
     ensures { IfOk result (λ quads. quads.items ≡ seen_through changes.now pattern.now told.now) }
 {
     let matched = matching(alloc, pattern, told)?;
-    let kept = quads_outside(alloc, &matched, changes.absent())?;
-    let part = part_of_set(changes.present(), pattern);
-    let added = matching(alloc, pattern, part)?;
+    let kept = changes.absent().lacked(matched);
+    let added = changes.present().matching(alloc, pattern)?;
     quads_union(kept, added)
 }
 
@@ -56,6 +55,30 @@ fn names_of(alloc: Global, quads: &[Quad<Id>]) -> Result<Vec<Id>, AllocError>
     quads.iter().filter_map(|quad| quad.graph).collect(alloc)
 }
 
+// The quads of a change, present and absent, with some deleted and then others inserted.
+fn quads_replaced(
+    alloc: Global,
+    changes: &Delta,
+    deleted: Vec<Quad<Id>>,
+    inserted: Vec<Quad<Id>>,
+) -> Result<(QuadSet, QuadSet), AllocError>
+    ensures present { IfOk result (λ both. both.0 ≡ union (quad_order id_order)
+        (without (quad_order id_order) changes.now.present deleted.items) inserted.items) }
+    ensures absent { IfOk result (λ both. both.1 ≡ union (quad_order id_order) changes.now.absent
+        deleted.items) }
+{
+    let gone = QuadSet::of_quads(alloc, deleted)?;
+    let come = QuadSet::of_quads(alloc, inserted)?;
+    let present = QuadSet::changed(
+        alloc,
+        &changes.present(),
+        &gone.as_slice(),
+        &come.as_slice(),
+    )?;
+    let absent = QuadSet::union(alloc, &changes.absent(), &gone.as_slice())?;
+    Ok((present, absent))
+}
+
 /// The change that goes on with quads deleted and then others inserted, whose graphs come to be there.
 pub fn replaced(
     alloc: Global,
@@ -71,9 +94,7 @@ pub fn replaced(
     let names = names_of(alloc, &inserted)?;
     let there = names_union(copied_names(alloc, changes.there())?, names)?;
     let gone = copied_names(alloc, changes.gone())?;
-    let kept = quads_lacking(alloc, changes.present(), &deleted)?;
-    let present = quads_union(kept, inserted)?;
-    let absent = quads_union(copied_quads(alloc, changes.absent())?, deleted)?;
+    let (present, absent) = quads_replaced(alloc, changes, deleted, inserted)?;
     let change = Delta::from_sets(alloc, present, absent, there, gone)?;
     Ok(change)
 }

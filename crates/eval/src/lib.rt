@@ -15,7 +15,7 @@ mod scanning;
 mod solving;
 
 pub use changes::replaced;
-pub use lacking::{names_outside, quads_outside};
+pub use lacking::names_outside;
 pub use limited::solve_up_to;
 pub use naming::{graphs, is_graph};
 pub use query::Query;

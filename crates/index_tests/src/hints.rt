@@ -3,6 +3,7 @@ use crate::quads::{fits, pattern_of, quad_of};
 use datasets::{Id, Quad, QuadPattern};
 use quad_hints::Hints;
 use quad_index::{Arrangement, BESIDE_SPOG, OrderSet};
+use quad_sets::QuadSet;
 use std::alloc::{AllocError, Global};
 
 /// How many requests speak.
@@ -49,7 +50,8 @@ fn spoken(alloc: Global, request: usize, are_made: bool) -> Result<Vec<Quad<Id>>
 fn hints_of(alloc: Global, orders: &[Arrangement], are_made: bool) -> Result<Hints, AllocError> {
     let mut hints = Hints::new(alloc, OrderSet::of(orders));
     for request in 0..REQUESTS {
-        hints.put_all(alloc, &spoken(alloc, request, are_made)?, request)?;
+        let quads = QuadSet::of_quads(alloc, spoken(alloc, request, are_made)?)?;
+        hints.put_all(alloc, &quads.as_slice(), request)?;
     }
     Ok(hints)
 }

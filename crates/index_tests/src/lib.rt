@@ -1,4 +1,4 @@
-//! Worked examples of quads in sorted orders and of hints, beside plain filters. It has tests alone.
+//! Worked examples of quads in sorted orders, of sets of quads and of hints, beside plain filters. It has tests alone.
 #![tactic(auto)]
 
 #[cfg(test)]
@@ -7,3 +7,5 @@ mod hints;
 mod quads;
 #[cfg(test)]
 mod scans;
+#[cfg(test)]
+mod set_walks;

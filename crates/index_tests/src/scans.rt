@@ -1,4 +1,6 @@
 //! Scans of an index by each of the sixteen sets of bound places, beside a plain filter.
+ghost use Rattle.std.specs.Prelude.{◌<◌, ◌^◌};
+
 use crate::quads::{fits, pattern_of, quad_of};
 use datasets::{Id, Quad, QuadPattern};
 use quad_index::{Arrangement, BESIDE_SPOG, Index, Looks, QuadList};
@@ -165,6 +167,34 @@ fn quads_are_put_in_order_by_threads(rt: HostRuntime) -> Result<(), AllocError> 
         let scans = scans_of(alloc, &index, &set, &last)?;
         assert!(rt; scans.are_right && scans.are_short);
         assert!(rt; index.quads(alloc)?.as_slice() == set.as_slice());
+    }
+    Ok(())
+}
+
+// 3,000 quads of one predicate, which stand otherwise by their objects than by their subjects.
+fn quads_of_a_predicate(alloc: Global, least: u32) -> Result<Vec<Quad<Id>>, AllocError>
+    requires { least < 2 ^ 23 }
+{
+    let mut quads = Vec::new(alloc);
+    for i in 0..3000u32 {
+        quads.push(Quad {
+            subject: Id::Known(least + i * 7919 % 3001),
+            object: Id::Known(i % 1000),
+            ..quad_of(1)
+        })?;
+    }
+    Ok(quads)
+}
+
+#[test]
+fn many_quads_of_a_predicate_come_by_subject(rt: HostRuntime) -> Result<(), AllocError> {
+    let alloc = rt.alloc();
+    for least in [0, 0x50_0000] {
+        let set = set_of(quads_of_a_predicate(alloc, least)?);
+        let index = indexed(alloc, &set, &BESIDE_SPOG)?;
+        assert!(rt; set.len() == 3000);
+        let found = index.scan(alloc, &pattern_of(2, &quad_of(1)))?;
+        assert!(rt; found.as_slice() == set.as_slice());
     }
     Ok(())
 }

@@ -96,7 +96,7 @@ fn is_come_to(
         alloc,
         numbered.base.terms(),
         b'+',
-        outcome.dataset.quads(),
+        &outcome.dataset.quads().quads(alloc)?,
         &mut text,
     )?;
     Ok(outcome.replies.as_slice() == replies && text.as_slice() == quads.as_bytes())

@@ -272,7 +272,7 @@ fn is_come_to(
         alloc,
         numbered.base.terms(),
         b'+',
-        outcome.dataset.quads(),
+        &outcome.dataset.quads().quads(alloc)?,
         &mut quads,
     )?;
     Ok(

@@ -232,7 +232,8 @@ fn come_to<R: Threads + Wait + Sync>(
     let (terms, base) = (numbered.base.terms(), numbered.base.dataset());
     let outcome = run_block(rt, alloc, terms, base, block, workers, &gate)?;
     let mut text = Vec::new(alloc);
-    tell_quads(alloc, terms, b'+', outcome.dataset.quads(), &mut text)?;
+    let quads = outcome.dataset.quads().quads(alloc)?;
+    tell_quads(alloc, terms, b'+', &quads, &mut text)?;
     Ok(
         !gate.gave_in.load(Ordering::SeqCst)
             && outcome.replies.as_slice() == row.replies

@@ -67,8 +67,8 @@ fn tell_delta(
     delta: &Delta,
     text: &mut Vec<u8>,
 ) -> Result<(), AllocError> {
-    tell_quads(alloc, terms, b'+', delta.present(), text)?;
-    tell_quads(alloc, terms, b'-', delta.absent(), text)?;
+    tell_quads(alloc, terms, b'+', &delta.present().quads(alloc)?, text)?;
+    tell_quads(alloc, terms, b'-', &delta.absent().quads(alloc)?, text)?;
     tell_names(alloc, terms, b'#', delta.there(), text)?;
     tell_names(alloc, terms, b'~', delta.gone(), text)
 }

@@ -1,5 +1,8 @@
 -- Lines of quads and names by places, from the texts of the terms at these places.
-use Rattle.std.specs.Prelude.{ℕ, ◌==◌, Bool, false, List, [], ◌∷◌, ◌++◌, Option, Some, None, codes, slice_index_or}
+use Rattle.std.specs.Prelude.{◌≡◌, Result, IfOk, ℕ, ◌==◌, Bool, false, List, [], ◌∷◌, ◌++◌, Option, Some, None, codes, slice_index_or}
+use Rattle.std.specs.declared.alloc.AllocError.{AllocError}
+use Rattle.terms.specs.declared.term.Term.{Term}
+use Rattle.terms.specs.Canonical.{term_text}
 use Rattle.datasets.specs.declared.quad.Quad.{Quad}
 use Rattle.nquads_lines.specs.Line.{graph_mark}
 
@@ -23,3 +26,7 @@ is_name_at place (Some name) = place == name
 
 abbrev pub is_in_at : ℕ → Quad ℕ → Bool
 is_in_at place q = is_name_at place q.graph
+
+-- where there is a text, it is the term's
+abbrev pub IsTextOf : ℕ → Term → Result (List ℕ) AllocError → Type 0
+IsTextOf tag t made = IfOk made (λ text. text ≡ term_text tag t)

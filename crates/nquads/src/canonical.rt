@@ -7,13 +7,14 @@ ghost use Rattle.terms.specs.Term.{text_cmp};
 ghost use Rattle.terms.specs.Canonical.{term_text};
 ghost use Rattle.terms.specs.Placed.{is_within, is_name_within, is_quad_within};
 ghost use Rattle.nquads.specs.Canonical.{ended, canonical as canonical_of};
-ghost use Rattle.nquads.specs.Placed.{text_at, graph_text_at, quad_text_at, graph_line_at, is_name_at, is_in_at};
+ghost use Rattle.nquads.specs.Placed.{text_at, graph_text_at, quad_text_at, graph_line_at, is_name_at, is_in_at, IsTextOf};
 
 use crate::rising::rising_text;
 use crate::rising_pieces::rising_text_by;
 use crate::text_line::TextLine;
 use crate::text_order::{names_by_text, quads_by_text, quads_by_text_by};
 use datasets::Quad;
+use rayon::prelude::*;
 use sets::set_of;
 use std::alloc::{AllocError, Global};
 use std::collections::HashSet;
@@ -21,15 +22,42 @@ use std::thread::Threads;
 use terms::laws::{quads_name_their_graphs, sets_pass_alike};
 use terms::{DataSet, Term, term_text};
 
+/// The text of a term.
+fn text_line(alloc: Global, term: &Term, tag: u32) -> Result<TextLine, AllocError>
+    ensures { IsTextOf tag term.now result }
+{
+    Ok(TextLine::new(term_text(alloc, term, tag)?))
+}
+
 /// The texts of terms, each made once.
 fn texts_of(alloc: Global, terms: &[Term], tag: u32) -> Result<Vec<TextLine>, AllocError>
     ensures { IfOk result (λ texts. texts.items ≡ map (term_text tag) terms.now) }
 {
     let mut texts = Vec::new(alloc);
     for term in terms {
-        texts.push(TextLine::new(term_text(alloc, term, tag)?))?;
+        texts.push(text_line(alloc, term, tag)?)?;
     }
     Ok(texts)
+}
+
+/// The same, made by several threads.
+fn texts_of_by<T: Threads + Sync>(
+    rt: &T,
+    alloc: Global,
+    terms: &[Term],
+    tag: u32,
+) -> Result<Vec<TextLine>, AllocError>
+    ensures { IfOk result (λ texts. texts.items ≡ map (term_text tag) terms.now) }
+{
+    let texts: Result<Vec<TextLine>, AllocError> = terms
+        .par_iter()
+        .map(
+            |term: &Term| -> Result<TextLine, AllocError>
+                ensures { IsTextOf tag term.now result }
+            { text_line(alloc, term, tag) },
+        )
+        .collect(rt, alloc)?;
+    texts
 }
 
 /// Adds the text of the term at a place.
@@ -287,7 +315,7 @@ pub fn canonical_text_by<T: Threads + Sync>(
         return canonical_text(alloc, dataset, tag);
     }
     let parts = dataset.parts();
-    let texts = texts_of(alloc, parts.terms, tag)?;
+    let texts = texts_of_by(rt, alloc, parts.terms, tag)?;
     let full = full_graphs(alloc, parts.quads)?;
     let text = text_of_lines_by(
         rt,

@@ -72,6 +72,6 @@ pub fn read_pieces<T: Threads + Sync>(
         { read_pieces(rt, alloc, rest, threads - threads / 2) },
     );
     let mut dataset = low?;
-    dataset.unite(high?)?;
+    dataset.unite_by(rt, high?)?;
     Ok(dataset)
 }

@@ -3,20 +3,18 @@ use Rattle.std.specs.Prelude.{map, slice_index_or}
 use Rattle.std.proofs.Common.{◌≡◌, ℕ, ◌<◌, true, List, [], ◌∷◌, ◌++◌, length, Option, Some, None, refl, sym, ap, ◌∙◌, subst, ◌+◌, take, arith, add-one, append_assoc}
 use Rattle.std.specs.List.{list_all}
 use Rattle.std.specs.Option.{option_map}
-use Rattle.std.proofs.lemmas.Bool.{and_parts, and_from, ltb-true}
-use Rattle.std.proofs.lemmas.List.{append-nil, map-append}
-use Rattle.std.proofs.Math.Seq.{take-suc}
+use Rattle.std.proofs.lemmas.Bool.{and_parts, and_from, lt-ltb}
+use Rattle.std.proofs.lemmas.List.{map-append, length-append}
+use Rattle.std.proofs.Math.Seq.{take-suc, get_or-append_seam}
 use Rattle.sets.proofs.Filters.{each_joined}
 use Rattle.terms.specs.declared.term.Term.{Term}
 use Rattle.terms.specs.declared.term.Term.TheVariants as term
 use Rattle.terms.specs.Placed.{term_at, quad_at, is_within, is_name_within, is_quad_within, GoesOn, TermsKeepPlaces}
 use Rattle.datasets.specs.declared.id.Id.{Id}
-use Rattle.datasets.specs.declared.id.Id.TheVariants.{Known}
 use Rattle.datasets.specs.declared.quad.Quad.{Quad}
-use Rattle.dict.specs.Dictionary.{term_of, is_known}
+use Rattle.dict.specs.Dictionary.{term_of}
 use Rattle.meaning_laws.specs.Renaming.{renamed_quad}
 use Rattle.numbering.specs.Tables.{ArePlaces, StandFor, NamesStandFor}
-use Rattle.store.proofs.Places.{all_at}
 
 -- ---- the places of a dictionary's terms
 
@@ -125,3 +123,17 @@ loop_next P xs i d lt h = rw add-one (subst P (sym (take-suc xs i d lt)) h)
 
 pub loop_item : {A : Type 0} (P : List A → Type 0) (xs : List A) (i : ℕ) (x : A) → i < length xs → x ≡ slice_index_or xs i x → P (take i xs ++ x ∷ []) → P (take (i + 1) xs)
 loop_item P xs i x lt is h = loop_next P xs i x lt (subst (λ y. P (take i xs ++ y ∷ [])) is h)
+
+-- ---- a list that is copied
+
+-- one more of a list's terms, at the place behind those before it
+pub copied_more : (keep : TermsKeepPlaces) (terms : List Term) (i : ℕ) (t copy : Term) → i < length terms → t ≡ slice_index_or terms i t → copy ≡ t
+    → (old new : List Term) (places after : List ℕ) (p : ℕ) → p ≡ length old → new ≡ old ++ copy ∷ [] → after ≡ places ++ p ∷ []
+    → old ≡ take i terms → ArePlaces (take i terms) old places → (new ≡ take (i + 1) terms) × ArePlaces (take (i + 1) terms) new after
+copied_more keep terms i t copy lt is same old new places after p behind made put done are =
+    let on : GoesOn old new = (copy ∷ [], made) in
+    let here : term_at new p ≡ t = (λ j. term_at (made j) (behind j)) ∙ get_or-append_seam old copy [] (term.Made 0 0 0 0) ∙ same in
+    let within : is_within new p ≡ true = lt-ltb p (length new) (omega (arith, behind, ap length made, length-append old (copy ∷ []))) in (
+      loop_item (λ (ts : List Term). new ≡ ts) terms i t lt is (made ∙ (λ j. done j ++ same j ∷ [])),
+      loop_item (λ (ts : List Term). ArePlaces ts new after) terms i t lt is (place_more keep (take i terms) old new on places after p t put here within are),
+    )

@@ -1,5 +1,5 @@
 //! Datasets of numbers at terms again.
-ghost use Rattle.std.specs.Prelude.{◌≡◌, ◌++◌, ◌∷◌, [], true, OnOk, IfOk, List};
+ghost use Rattle.std.specs.Prelude.{◌≡◌, ◌++◌, ◌∷◌, [], true, OnOk, IfOk, List, length};
 ghost use Rattle.std.specs.List.{list_all};
 ghost use Rattle.std.specs.Option.{option_map};
 ghost use Rattle.datasets.specs.declared.id.Id.{Id};
@@ -13,23 +13,47 @@ ghost use Rattle.numbering.specs.Tables.{ArePlaces, StandFor, NamesStandFor};
 
 use datasets::Quad;
 use dict::{Dict, Id};
-use reads::View;
+use quad_sets::QuadSlice;
+use reads::CompactView;
 use std::alloc::{AllocError, Global};
 use terms::laws::terms_keep_places;
-use terms::{DataSet, TermTable};
+use terms::{DataSet, Term, TermTable};
 
-/// Puts a dictionary's terms into an empty table, and gives their places.
-fn places_of(alloc: Global, dict: &Dict, table: &mut TermTable) -> Result<Vec<u32>, AllocError>
-    ensures { IfOk result (λ places. ArePlaces dict.now table.new places.items) }
+/// The place behind a list of terms, as 32 bits. More terms than that do not fit into memory.
+fn place_behind(terms: &[Term]) -> Result<u32, AllocError>
+    ensures { IfOk result (λ place. place ≡ length terms.now) }
+{
+    match u32::try_from(terms.len()) {
+        Ok(place) => Ok(place),
+        Err(_) => Err(AllocError),
+    }
+}
+
+/// A dictionary's terms, and their places among them.
+fn copied(alloc: Global, dict: &Dict) -> Result<(Vec<Term>, Vec<u32>), AllocError>
+    ensures terms { IfOk result (λ r. r.0.items ≡ dict.now) }
+    ensures places { IfOk result (λ r. ArePlaces dict.now r.0.items r.1.items) }
 {
     terms_keep_places();
-    let mut places = Vec::new(alloc);
     let terms = dict.terms();
+    let mut list = Vec::new(alloc);
+    let mut places = Vec::new(alloc);
+    list.reserve(terms.len())?;
+    places.reserve(terms.len())?;
     for term in terms {
-        let place = table.place_of(term.copied(alloc)?)?;
-        places.push(place)?;
+        places.push(place_behind(list.as_slice())?)?;
+        list.push(term.copied(alloc)?)?;
     }
-    Ok(places)
+    Ok((list, places))
+}
+
+/// The table of a dictionary's terms, and their places. None of them is looked for, as each is there once.
+fn table_of(alloc: Global, dict: &Dict) -> Result<(TermTable, Vec<u32>), AllocError>
+    ensures { IfOk result (λ r. ArePlaces dict.now r.0 r.1.items) }
+{
+    let _terms = dict.terms();
+    let (list, places) = copied(alloc, dict)?;
+    Ok((TermTable::from_list(list), places))
 }
 
 /// The place of a number's term: a made node is put into the table.
@@ -125,7 +149,7 @@ fn place_quads(
     dict: &Dict,
     table: &mut TermTable,
     places: &[u32],
-    quads: &[Quad<Id>],
+    quads: &QuadSlice<'_>,
 ) -> Result<Vec<Quad<u32>>, AllocError>
     requires known { list_all (quad_known (is_known dict.now)) quads.now ≡ true }
     requires places { ArePlaces dict.now table.old places.now }
@@ -134,8 +158,9 @@ fn place_quads(
 {
     let mut list = Vec::new(alloc);
     list.reserve(quads.len())?;
-    for quad in quads {
-        push_quad(alloc, dict, table, places, &mut list, quad)?;
+    for place in 0..quads.len() {
+        let quad = quads.get(place);
+        push_quad(alloc, dict, table, places, &mut list, &quad)?;
     }
     Ok(list)
 }
@@ -183,15 +208,14 @@ fn place_names(
 
 /// The dataset of terms that a dataset of numbers stands for: each term once, and no term made again for a quad. An error comes only where
 /// memory runs out.
-pub fn named(alloc: Global, terms: &Dict, view: &View) -> Result<DataSet, AllocError>
+pub fn named(alloc: Global, terms: &Dict, view: &CompactView) -> Result<DataSet, AllocError>
     requires known { dataset_known (is_known terms.now) view.now ≡ true }
     requires dataset { IsDataset term_order (renamed (term_of terms.now) view.now) }
     ensures { IfOk result (λ d. d ≡ renamed (term_of terms.now) view.now) }
 {
     terms_keep_places();
-    let mut table = TermTable::new(alloc);
-    let places = places_of(alloc, terms, &mut table)?;
-    let quads = place_quads(alloc, terms, &mut table, places.as_slice(), view.quads())?;
+    let (mut table, places) = table_of(alloc, terms)?;
+    let quads = place_quads(alloc, terms, &mut table, places.as_slice(), &view.quads())?;
     let names = place_names(alloc, terms, &mut table, places.as_slice(), view.names())?;
     Ok(DataSet::from_parts(table, quads, names))
 }

@@ -1,2 +1,3 @@
+pub mod Filtering
 pub mod Joined
 pub mod Requests

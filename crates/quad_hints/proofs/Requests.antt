@@ -35,16 +35,6 @@ module _ (p : QuadPattern Id) (runs : List Run) (found next all : List ℕ) (k :
       ∙ ap (λ (rs : List Run). found ++ named_by p (all_entries rs)) (ap (λ (y : Run). y ∷ drop (k + 1) runs) is ∙ sym (drop_more runs k x lt))
       ∙ so_far
 
--- what is kept of hints in little memory
-
-mapped_head : {A B : Type 0} (b : Bool) (f : A → B) (x : A) (xs : List A) (ys : List B) → ys ≡ map f xs → cond b (f x ∷ ys) ys ≡ map f (cond b (x ∷ xs) xs)
-mapped_head true f x xs ys e = ap (λ zs. f x ∷ zs) e
-mapped_head false f x xs ys e = e
-
-pub filter-map : {A B : Type 0} (p : B → Bool) (f : A → B) (xs : List A) → filter p (map f xs) ≡ map f (filter (λ x. p (f x)) xs)
-filter-map p f [] = refl
-filter-map p f (x ∷ xs) = mapped_head (p (f x)) f x (filter (λ y. p (f y)) xs) _ (filter-map p f xs)
-
 head_named : (j : ℕ) (b : Bool) (h : Hint) (hs : List Hint) → list_any (λ r. r == j) (map (λ (x : Hint). x.request) (cond b (h ∷ hs) hs)) ≡ ((b && (h.request == j)) || list_any (λ r. r == j) (map (λ (x : Hint). x.request) hs))
 head_named j true h hs = refl
 head_named j false h hs = refl

@@ -1,3 +1,4 @@
 pub mod Hint
 pub mod HintList
 pub mod Hints
+pub mod Seen

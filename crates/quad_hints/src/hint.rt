@@ -10,6 +10,7 @@ ghost use Rattle.quad_hints.specs.Hint.{hint_of, hints_of as the_hints_of};
 use datasets::{Id, Quad, QuadPattern};
 use quad_index::matching::matches;
 use quad_index::{Arrangement, Entry, Key, KnownQuad};
+use quad_sets::QuadSlice;
 use std::alloc::{AllocError, Global};
 
 /// A quad, and a request whose delta speaks of it, or did.
@@ -65,22 +66,26 @@ impl KnownHint {
 }
 
 /// A hint of the request for each of these quads.
-pub fn hints_of(alloc: Global, quads: &[Quad<Id>], request: usize) -> Result<Vec<Hint>, AllocError>
+pub fn hints_of(
+    alloc: Global,
+    quads: &QuadSlice<'_>,
+    request: usize,
+) -> Result<Vec<Hint>, AllocError>
     ensures { IfOk result (λ hints. hints.items ≡ the_hints_of request quads.now) }
 {
-    quads
-        .iter()
-        .map(|quad| Hint {
-            quad: *quad,
-            request,
-        })
-        .collect(alloc)
+    let mut hints = Vec::new(alloc);
+    hints.reserve(quads.len())?;
+    for place in 0..quads.len() {
+        let quad = quads.get(place);
+        hints.push(Hint { quad, request })?;
+    }
+    Ok(hints)
 }
 
 /// The same in little memory, if all are of known terms and all numbers are below 2^32.
 pub fn known_hints_of(
     alloc: Global,
-    quads: &[Quad<Id>],
+    quads: &QuadSlice<'_>,
     request: usize,
 ) -> Result<Option<Vec<KnownHint>>, AllocError>
     ensures { IfOk result (λ list. IfSome list
@@ -88,11 +93,9 @@ pub fn known_hints_of(
 {
     let mut known = Vec::new(alloc);
     known.reserve(quads.len())?;
-    for quad in quads {
-        let hint = Hint {
-            quad: *quad,
-            request,
-        };
+    for place in 0..quads.len() {
+        let quad = quads.get(place);
+        let hint = Hint { quad, request };
         match KnownHint::from_hint(&hint) {
             Some(entry) => known.push(entry)?,
             None => return Ok(None),

@@ -12,8 +12,9 @@ use crate::hint::{
     Hint, KnownHint, add_known_requests, add_requests, hints_of, known_hints, known_hints_of,
     sorted_hints, sorted_known_hints, widened,
 };
-use datasets::{Id, Quad, QuadPattern};
+use datasets::{Id, QuadPattern};
 use quad_index::{Arrangement, part_for};
+use quad_sets::QuadSlice;
 use std::alloc::{AllocError, Global};
 
 /// Hints one after another, in little memory where all are of known terms and all numbers are below 2^32.
@@ -27,7 +28,7 @@ impl HintList {
     /// A hint of the request for each of these quads.
     pub fn of_quads(
         alloc: Global,
-        quads: &[Quad<Id>],
+        quads: &QuadSlice<'_>,
         request: usize,
     ) -> Result<HintList, AllocError>
         ensures { IfOk result (λ list. hints_in list ≡ the_hints_of request quads.now) }

@@ -9,8 +9,9 @@ ghost use Rattle.quad_hints.specs.Hint.{hints_of as the_hints_of};
 use crate::hint::{Hint, add_requests, hints_of};
 use crate::hint_list::HintList;
 use crate::ordered_hints::OrderedHints;
-use datasets::{Id, Quad, QuadPattern};
+use datasets::{Id, QuadPattern};
 use quad_index::OrderSet;
+use quad_sets::QuadSlice;
 use std::alloc::{AllocError, Global};
 use std::marker::Model;
 
@@ -49,7 +50,7 @@ impl Hints {
     pub fn put_all(
         &mut self,
         alloc: Global,
-        quads: &[Quad<Id>],
+        quads: &QuadSlice<'_>,
         request: usize,
     ) -> Result<(), AllocError>
         ensures added { OnOk result ((p : Hint → Bool)

@@ -1,7 +1,8 @@
 //! Hints, which say at which requests of a block a quad may have been spoken of: quads, each with a request, in sorted runs, in those orders
-//! that are kept. Stands on `quad_index`, whose orders and search it uses, and on `datasets`.
+//! that are kept; and filters of patterns. Stands on `quad_index`, whose orders and search it uses, and on `datasets`.
 //!
-//! The contract used above: what `Hints::put_all` put, `Hints::requests` finds, and it puts nothing else.
+//! The contracts used above: what `Hints::put_all` put, `Hints::requests` finds, and it puts nothing else; what `SeenQuads::put` put,
+//! `SeenQuads::may_match` lets through.
 #![tactic(auto)]
 
 mod hint;
@@ -9,6 +10,8 @@ mod hint_list;
 mod hints;
 mod ordered_hints;
 mod run;
+mod seen;
 mod sorted_hints;
 
 pub use hints::Hints;
+pub use seen::SeenQuads;

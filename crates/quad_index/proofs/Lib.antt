@@ -1,5 +1,4 @@
 pub mod Alike
-pub mod Filtering
 pub mod Looking
 pub mod Mapped
 pub mod Moved

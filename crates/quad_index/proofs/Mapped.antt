@@ -1,4 +1,5 @@
--- The set of what a map makes of a list.
+-- What a map makes of a list: its set, and what a filter leaves of it.
+use Rattle.std.specs.Prelude.{Bool, true, false, cond, filter}
 use Rattle.std.proofs.Common.{◌≡◌, List, [], ◌∷◌, map, refl, ap, ◌∙◌}
 use Rattle.std.specs.declared.cmp.Ordering.{Ordering}
 use Rattle.std.specs.declared.cmp.Ordering.TheVariants.{Less, Equal, Greater}
@@ -19,3 +20,11 @@ module _ {A B : Type 0} (f : A → B) (R : B → B → Ordering) where
   pub map_set : (xs : List A) → map f (set_of (λ a b. R (f a) (f b)) xs) ≡ set_of R (map f xs)
   map_set [] = refl
   map_set (x ∷ xs) = map_with x (set_of (λ a b. R (f a) (f b)) xs) ∙ ap (with R (f x)) (map_set xs)
+
+mapped_head : {A B : Type 0} (b : Bool) (f : A → B) (x : A) (xs : List A) (ys : List B) → ys ≡ map f xs → cond b (f x ∷ ys) ys ≡ map f (cond b (x ∷ xs) xs)
+mapped_head true f x xs ys e = ap (λ zs. f x ∷ zs) e
+mapped_head false f x xs ys e = e
+
+pub filter-map : {A B : Type 0} (p : B → Bool) (f : A → B) (xs : List A) → filter p (map f xs) ≡ map f (filter (λ x. p (f x)) xs)
+filter-map p f [] = refl
+filter-map p f (x ∷ xs) = mapped_head (p (f x)) f x (filter (λ y. p (f y)) xs) _ (filter-map p f xs)

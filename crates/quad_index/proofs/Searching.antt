@@ -1,6 +1,6 @@
 -- Binary search in sorted entries finds what a filter keeps.
 use Rattle.std.specs.Prelude.{Bool, filter, slice_range}
-use Rattle.std.proofs.Common.{◌≡◌, ◌<◌, ◌≤◌, ◌+◌, ◌-◌, ℕ, true, false, List, [], ◌∷◌, inl, inr, refl, sym, ap, ◌∙◌, length, get_or, arith}
+use Rattle.std.proofs.Common.{◌≡◌, ◌<◌, ◌≤◌, ◌+◌, ℕ, true, false, List, [], ◌∷◌, inl, inr, refl, sym, ap, ◌∙◌, length, get_or, arith}
 use Rattle.std.proofs.lemmas.Bool.{false≢true, cases_lt, false_from_ne_true}
 use Rattle.std.proofs.lemmas.List.{get_or_default}
 use Rattle.std.proofs.lemmas.List.Sorted.{searchable_from_sorted, IsPartitionedBy-ltb}
@@ -101,6 +101,18 @@ front_more p xs m x parts lt is h k e low high =
 pub back_more : {E : Type 0} (p : E → Bool) (xs : List E) (m : ℕ) (x : E) → IsPartitionedBy p xs → m < length xs → x ≡ get_or xs m x → p x ≡ false → AllWithin (λ e. p e ≡ false) xs m (length xs)
 back_more p xs m x parts lt is h k e low high =
     false_from_ne_true _ (λ t. false≢true (sym h ∙ ap p (is ∙ get_or_default xs m x e lt) ∙ parts m k e low high t))
+
+-- the same of the entry at a place
+pub front_at : {E : Type 0} (p : E → Bool) (xs : List E) (m : ℕ) → IsPartitionedBy p xs → m < length xs → ((e : E) → p (get_or xs m e) ≡ true) → AllWithin (λ e. p e ≡ true) xs 0 (m + 1)
+front_at p xs m parts lt at k e low high = parts k m e (omega arith) lt (at e)
+
+pub back_at : {E : Type 0} (p : E → Bool) (xs : List E) (m : ℕ) → IsPartitionedBy p xs → ((e : E) → p (get_or xs m e) ≡ false) → AllWithin (λ e. p e ≡ false) xs m (length xs)
+back_at p xs m parts at k e low high = false_from_ne_true _ (λ t. false≢true (sym (at e) ∙ parts m k e low high t))
+
+pub past_back : (r : Ordering) → is_before true r ≡ false → is_before false r ≡ false
+past_back Less e = absurd (false≢true (sym e))
+past_back Equal e = refl
+past_back Greater e = refl
 
 -- the places found are in order: an entry at the second and before the first would be both less and greater
 less_than_all : (r : Ordering) → is_before false r ≡ true → is_before true r ≡ false → ⊥

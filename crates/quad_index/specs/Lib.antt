@@ -3,8 +3,9 @@ pub mod OrderSet
 pub mod Looks
 pub mod Known
 pub mod KnownOrder
+pub mod KnownKey
 pub mod Sorted
 pub mod Indexed
 pub mod Index
 pub mod QuadList
-pub mod Seen
+pub mod Part

@@ -8,13 +8,13 @@ ghost use Rattle.datasets.specs.Dataset.{quad_order, matches};
 ghost use Rattle.quad_index.specs.Keys.{arrangement_for};
 ghost use Rattle.quad_index.specs.Index.{AllAlike, arrangements_of};
 ghost use Rattle.quad_index.specs.Looks.{IsScan};
+ghost use Rattle.quad_index.specs.QuadList.{quads_in};
 
 use crate::key::{Arrangement, order_for};
 use crate::looks::Looks;
 use crate::order::Order;
-use crate::quad_list::QuadList;
+use crate::quad_list::{Entries, QuadList};
 use datasets::{Id, Quad, QuadPattern};
-use sets::set_of;
 use std::alloc::{AllocError, Global};
 use std::marker::Model;
 use std::thread::Threads;
@@ -140,6 +140,13 @@ impl Index {
         self.spog.quads(alloc)
     }
 
+    /// The same, in little memory where all are of known terms.
+    pub fn entries(&self, alloc: Global) -> Result<Entries, AllocError>
+        ensures { IfOk result (λ entries. quads_in entries ≡ self.now.quads) }
+    {
+        self.spog.copied_entries(alloc)
+    }
+
     /// The orders beside SPOG, in which its quads are kept.
     pub fn orders(&self, alloc: Global) -> Result<Vec<Arrangement>, AllocError>
         ensures { IfOk result (λ orders. Arrangement.Spog ∷ orders.items ≡ self.now.orders) }
@@ -183,7 +190,7 @@ impl Index {
             → IsScan looks.old looks.new (length self.now.quads) (length found.items)) }
     {
         match self.other(order_for(pattern)) {
-            Some(order) => Ok(set_of(order.matching(alloc, pattern, looks)?)),
+            Some(order) => order.matching_set(alloc, pattern, looks),
             None => self.spog.matching(alloc, pattern, looks),
         }
     }

@@ -1,5 +1,5 @@
 //! How many entries of sorted orders were read.
-ghost use Rattle.std.specs.Prelude.{◌≡◌, ◌+◌, ◌<◌};
+ghost use Rattle.std.specs.Prelude.{◌≡◌, ◌+◌, ◌<◌, ◌^◌};
 
 use std::marker::Model;
 
@@ -39,5 +39,14 @@ impl Looks {
     {
         let Looks { count } = self;
         *count += 1;
+    }
+
+    // So many more.
+    pub(crate) fn add(&mut self, more: usize)
+        requires { self.old + more < 2 ^ 64 }
+        ensures { self.new ≡ self.old + more }
+    {
+        let Looks { count } = self;
+        *count += more as u64;
     }
 }

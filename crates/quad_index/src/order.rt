@@ -1,26 +1,29 @@
 //! The quads of a set, sorted in one of the orders, whose entries are looked at one by one.
 ghost use Rattle.std.specs.Prelude.{◌≡◌, ◌+◌, ◌-◌, ◌<◌, ◌≤◌, ◌^◌, IfOk, filter, map, slice_range, length, true, false};
-ghost use Rattle.std.specs.List.{AllWithin};
-ghost use Rattle.std.specs.List.Sorted.{IsPermutation, IsSortedByKey, IsStrictlySortedBy};
+ghost use Rattle.std.specs.List.{AllWithin, HoldsAt};
 ghost use Rattle.std.proofs.Common.{get_or};
+ghost use Rattle.std.specs.List.Sorted.{IsPermutation, IsSortedByKey, IsStrictlySortedBy};
 ghost use Rattle.sets.specs.Sets.{set_of as the_set_of};
 ghost use Rattle.datasets.specs.Id.{id_order};
 ghost use Rattle.datasets.specs.Dataset.{quad_order, matches as the_matches};
 ghost use Rattle.quad_index.specs.Known.{quad_of};
-ghost use Rattle.quad_index.specs.Keys.{arrangement_for, order_at, key_of, key_order, is_before as the_is_before};
-ghost use Rattle.quad_index.specs.Looks.{IsSearch, IsScan};
+ghost use Rattle.quad_index.specs.Keys.{arrangement_for, bounds_of as the_bounds_of, is_sought, order_at, key_of, key_order, is_before as the_is_before};
+ghost use Rattle.quad_index.specs.Looks.{IsSearch, IsNarrowed, IsScan};
+ghost use Rattle.quad_index.specs.Part.{quads_of_part};
 ghost use Rattle.quad_index.specs.QuadList.{quads_in};
 
-use crate::key::{Arrangement, Depth, Key, is_before};
+use crate::key::{Arrangement, Depth, Key, is_before, order_for};
 use crate::known::{
     KnownQuad, known_quads, known_set, known_set_by, sorted_known, sorted_known_by,
 };
+use crate::known_key::known_beside;
 use crate::looks::Looks;
-use crate::matching::matches;
+use crate::part::Part;
 use crate::quad_list::{Entries, QuadList};
 use datasets::{Id, Quad, QuadPattern};
 use sets::set_of;
 use std::alloc::{AllocError, Global};
+use std::cmp::Ordering;
 use std::marker::Model;
 use std::thread::Threads;
 
@@ -42,6 +45,15 @@ impl Model for Order {
     ghost view = { λ o. record { arrangement = o.arrangement; quads = quads_in o.entries } };
 
     ghost invariant = { λ o. IsOrder o.arrangement (quads_in o.entries) };
+}
+
+// Where entries may be that begin as a target does: from `low` to `high`. Those from `middle` to `after` do.
+#[derive(Clone, Copy)]
+struct Around {
+    low: usize,
+    middle: usize,
+    after: usize,
+    high: usize,
 }
 
 // These quads as entries.
@@ -137,6 +149,44 @@ impl Order {
         }
     }
 
+    /// These quads in an order. 2^62 quads and more are out of memory.
+    pub fn sorted(
+        alloc: Global,
+        quads: &[Quad<Id>],
+        arrangement: Arrangement,
+    ) -> Result<Order, AllocError>
+        ensures arrangement { IfOk result (λ order. order.arrangement ≡ arrangement) }
+        ensures quads { IfOk result (λ order. IsPermutation quads.now order.quads) }
+    {
+        if quads.len() >= 0x4000_0000_0000_0000 {
+            return Err(AllocError);
+        }
+        let entries = Entries::Wide(sorted_quads(alloc, quads, arrangement)?);
+        Ok(Order {
+            arrangement,
+            entries,
+        })
+    }
+
+    /// These quads of known terms in an order. 2^62 quads and more are out of memory.
+    pub fn sorted_known(
+        alloc: Global,
+        known: &[KnownQuad],
+        arrangement: Arrangement,
+    ) -> Result<Order, AllocError>
+        ensures arrangement { IfOk result (λ order. order.arrangement ≡ arrangement) }
+        ensures quads { IfOk result (λ order. IsPermutation (map quad_of known.now) order.quads) }
+    {
+        if known.len() >= 0x4000_0000_0000_0000 {
+            return Err(AllocError);
+        }
+        let entries = Entries::Narrow(sorted_known(alloc, known, arrangement)?);
+        Ok(Order {
+            arrangement,
+            entries,
+        })
+    }
+
     /// The same quads in another order.
     pub fn rearranged(&self, alloc: Global, arrangement: Arrangement) -> Result<Order, AllocError>
         ensures arrangement { IfOk result (λ order. order.arrangement ≡ arrangement) }
@@ -195,7 +245,14 @@ impl Order {
         self.entries.quads(alloc)
     }
 
-    /// The quad at a place, counted from 0: a look, and the one way to read an entry.
+    // The same, as they are kept.
+    pub(crate) fn copied_entries(&self, alloc: Global) -> Result<Entries, AllocError>
+        ensures { IfOk result (λ entries. quads_in entries ≡ self.now.quads) }
+    {
+        self.entries.copied(alloc)
+    }
+
+    /// The quad at a place, counted from 0: a look.
     pub fn look(&self, place: usize, looks: &mut Looks) -> Quad<Id>
         requires within { place < length self.now.quads }
         requires room { looks.old < u64.MAX }
@@ -209,37 +266,104 @@ impl Order {
         }
     }
 
-    // The first place, from one on up to which all are before the target, whose entry isn't before it: not less by so many places, or,
-    // with `past`, greater.
+    // How the entry at a place stands to a target, by so many of their first places: a look.
+    fn look_beside(&self, place: usize, depth: Depth, target: &Key, looks: &mut Looks) -> Ordering
+        requires within { place < length self.now.quads }
+        requires room { looks.old < u64.MAX }
+        ensures answer { HoldsAt (λ q. result ≡ order_at depth
+            (key_of self.now.arrangement q) target.now) self.now.quads place }
+        ensures counted { looks.new ≡ looks.old + 1 }
+    {
+        looks.add_one();
+        match &self.entries {
+            Entries::Narrow(known) => {
+                known_beside(&known[place], self.arrangement, depth, target)
+            }
+            Entries::Wide(quads) => depth.compare(&self.arrangement.key_of(&quads[place]), target),
+        }
+    }
+
+    // Where the entries that begin as the target does may be. Looks at the middle of what is left, until it finds one, or nothing is left.
+    fn around(&self, depth: Depth, target: &Key, looks: &mut Looks) -> Around
+        requires room { looks.old < 2 ^ 63 }
+        ensures ordered { (result.low ≤ result.middle) × (result.middle ≤ result.after)
+            × (result.after ≤ result.high) × (result.high ≤ length self.now.quads) }
+        ensures low_front { AllWithin (λ q. the_is_before false
+            (order_at depth (key_of self.now.arrangement q) target.now) ≡ true) self.now.quads 0
+            result.low }
+        ensures middle_back { AllWithin (λ q. the_is_before false
+            (order_at depth (key_of self.now.arrangement q) target.now) ≡ false) self.now.quads
+            result.middle (length self.now.quads) }
+        ensures after_front { AllWithin (λ q. the_is_before true
+            (order_at depth (key_of self.now.arrangement q) target.now) ≡ true) self.now.quads 0
+            result.after }
+        ensures high_back { AllWithin (λ q. the_is_before true
+            (order_at depth (key_of self.now.arrangement q) target.now) ≡ false) self.now.quads
+            result.high (length self.now.quads) }
+        ensures looks { looks.old ≤ looks.new × IsNarrowed looks.old looks.new
+            (length self.now.quads) (result.middle - result.low) (result.high - result.after) }
+    {
+        // The entries are known to be sorted where one of the fields is read.
+        let _ = &self.arrangement;
+        let mut low = 0;
+        let mut high = self.len();
+        while low < high {
+            let middle = low + (high - low) / 2;
+            match self.look_beside(middle, depth, target, looks) {
+                Ordering::Less => low = middle + 1,
+                Ordering::Greater => high = middle,
+                Ordering::Equal => {
+                    return Around {
+                        low,
+                        middle,
+                        after: middle + 1,
+                        high,
+                    };
+                }
+            }
+        }
+        Around {
+            low,
+            middle: low,
+            after: low,
+            high: low,
+        }
+    }
+
+    // The first place whose entry isn't before the target: not less by so many places, or, with `past`, greater. All before `from` are before
+    // it, and none from `to` on.
     fn place_of(
         &self,
         depth: Depth,
         target: &Key,
         past: bool,
         from: usize,
+        to: usize,
         looks: &mut Looks,
     ) -> usize
-        requires from { from ≤ length self.now.quads }
+        requires ordered { (from ≤ to) × (to ≤ length self.now.quads) }
         requires front { AllWithin (λ q. the_is_before past
             (order_at depth (key_of self.now.arrangement q) target.now) ≡ true) self.now.quads 0
             from }
-        requires room { looks.old < 2 ^ 63 + 64 }
-        ensures within { result ≤ length self.now.quads }
-        ensures not_back { from ≤ result }
+        requires back { AllWithin (λ q. the_is_before past
+            (order_at depth (key_of self.now.arrangement q) target.now) ≡ false) self.now.quads to
+            (length self.now.quads) }
+        requires room { looks.old < 2 ^ 63 + 128 }
+        ensures within { (from ≤ result) × (result ≤ to) }
         ensures front { AllWithin (λ q. the_is_before past
             (order_at depth (key_of self.now.arrangement q) target.now) ≡ true) self.now.quads 0
             result }
         ensures back { AllWithin (λ q. the_is_before past
             (order_at depth (key_of self.now.arrangement q) target.now) ≡ false) self.now.quads
             result (length self.now.quads) }
-        ensures looks { IsSearch looks.old looks.new (length self.now.quads) }
+        ensures looks { IsSearch looks.old looks.new (to - from) }
     {
+        let _ = &self.arrangement;
         let mut low = from;
-        let mut high = self.len();
+        let mut high = to;
         while low < high {
             let middle = low + (high - low) / 2;
-            let key = self.arrangement.key_of(&self.look(middle, looks));
-            if is_before(past, depth.compare(&key, target)) {
+            if is_before(past, self.look_beside(middle, depth, target, looks)) {
                 low = middle + 1;
             } else {
                 high = middle;
@@ -248,31 +372,37 @@ impl Order {
         low
     }
 
-    // The quads of a part that match.
-    fn matching_within(
-        &self,
-        alloc: Global,
-        pattern: &QuadPattern<Id>,
-        first: usize,
-        past: usize,
-        looks: &mut Looks,
-    ) -> Result<Vec<Quad<Id>>, AllocError>
+    // The entries of a part: so many looks.
+    fn look_at_part(&self, first: usize, past: usize, looks: &mut Looks) -> Part<'_>
         requires ordered { first ≤ past }
         requires within { past ≤ length self.now.quads }
         requires room { looks.old + (past - first) < 2 ^ 64 }
-        ensures found { IfOk result (λ found. found.items
-            ≡ filter (the_matches id_order pattern.now) (slice_range self.now.quads first past)) }
-        ensures looks { IfOk result (λ _. looks.new ≡ looks.old + (past - first)) }
+        ensures entries { quads_of_part result ≡ slice_range self.now.quads first past }
+        ensures counted { looks.new ≡ looks.old + (past - first) }
     {
-        let mut found = Vec::new(alloc);
-        found.reserve_exact(past - first)?;
-        for place in first..past {
-            let quad = self.look(place, looks);
-            if matches(pattern, &quad) {
-                found.push(quad)?;
-            }
+        looks.add(past - first);
+        match &self.entries {
+            Entries::Narrow(known) => Part::Narrow(&known[first..past]),
+            Entries::Wide(quads) => Part::Wide(&quads[first..past]),
         }
-        Ok(found)
+    }
+
+    // The entries that begin as the pattern does, as far as its places are bound.
+    fn part_for(&self, pattern: &QuadPattern<Id>, looks: &mut Looks) -> Part<'_>
+        requires { looks.old < 2 ^ 63 }
+        ensures entries { quads_of_part result
+            ≡ filter (λ q. is_sought (the_bounds_of self.now.arrangement pattern.now)
+            (key_of self.now.arrangement q)) self.now.quads }
+        ensures looks { IsScan looks.old looks.new (length self.now.quads)
+            (length (quads_of_part result)) }
+    {
+        let bounds = self.arrangement.bounds_of(pattern);
+        let depth = bounds.depth();
+        let target = bounds.target();
+        let around = self.around(depth, &target, looks);
+        let first = self.place_of(depth, &target, false, around.low, around.middle, looks);
+        let past = self.place_of(depth, &target, true, around.after, around.high, looks);
+        self.look_at_part(first, past, looks)
     }
 
     /// The quads that match, in this order: those that begin as the pattern does, as far as its places are bound.
@@ -288,11 +418,33 @@ impl Order {
         ensures looks { IfOk result (λ found. self.now.arrangement ≡ arrangement_for pattern.now
             → IsScan looks.old looks.new (length self.now.quads) (length found.items)) }
     {
-        let bounds = self.arrangement.bounds_of(pattern);
-        let depth = bounds.depth();
-        let target = bounds.target();
-        let first = self.place_of(depth, &target, false, 0, looks);
-        let past = self.place_of(depth, &target, true, first, looks);
-        self.matching_within(alloc, pattern, first, past, looks)
+        let part = self.part_for(pattern, looks);
+        if self.arrangement == order_for(pattern) {
+            part.quads(alloc)
+        } else {
+            part.matching(alloc, pattern)
+        }
+    }
+
+    /// The set of the quads that match.
+    pub fn matching_set(
+        &self,
+        alloc: Global,
+        pattern: &QuadPattern<Id>,
+        looks: &mut Looks,
+    ) -> Result<Vec<Quad<Id>>, AllocError>
+        requires { looks.old < 2 ^ 63 }
+        ensures found { IfOk result (λ found. found.items ≡ the_set_of (quad_order id_order)
+            (filter (the_matches id_order pattern.now) self.now.quads)) }
+        ensures looks { self.now.arrangement ≡ arrangement_for pattern.now
+            → IsScan looks.old looks.new (length self.now.quads)
+            (length (filter (the_matches id_order pattern.now) self.now.quads)) }
+    {
+        let part = self.part_for(pattern, looks);
+        if self.arrangement == order_for(pattern) {
+            part.set(alloc, self.arrangement)
+        } else {
+            Ok(set_of(part.matching(alloc, pattern)?))
+        }
     }
 }

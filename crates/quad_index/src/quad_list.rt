@@ -13,8 +13,9 @@ pub struct QuadList {
     entries: Entries,
 }
 
+/// Quads one after another: all of known terms, or any.
 #[derive(Drop)]
-pub(crate) enum Entries {
+pub enum Entries {
     Narrow(Vec<KnownQuad>),
     Wide(Vec<Quad<Id>>),
 }
@@ -38,6 +39,16 @@ impl Entries {
         match self {
             Entries::Narrow(known) => known.len(),
             Entries::Wide(quads) => quads.len(),
+        }
+    }
+
+    /// The same again.
+    pub(crate) fn copied(&self, alloc: Global) -> Result<Entries, AllocError>
+        ensures { IfOk result (λ copy. quads_in copy ≡ quads_in self.now) }
+    {
+        match self {
+            Entries::Narrow(known) => Ok(Entries::Narrow(Vec::from_slice(alloc, known)?)),
+            Entries::Wide(quads) => Ok(Entries::Wide(Vec::from_slice(alloc, quads)?)),
         }
     }
 

@@ -8,8 +8,10 @@ ghost use Rattle.datasets.specs.Dataset.{quad_order, matches};
 ghost use Rattle.datasets.specs.declared.id.Id.{Id as Number};
 ghost use Rattle.datasets.specs.declared.quad.Quad.{Quad as Spoken};
 ghost use Rattle.quad_index.specs.Keys.{key_order, key_of, order_at, is_before as the_is_before};
+ghost use Rattle.quad_index.specs.Known.{quad_of};
 
 use crate::key::{Arrangement, Depth, Key, is_before};
+use crate::known::KnownQuad;
 use datasets::{Id, Quad, QuadPattern};
 
 /// What has a quad, by which it is sorted and looked for: a quad itself, or one with more beside it.
@@ -26,6 +28,14 @@ impl Entry for Quad<Id> {
 
     fn key(&self, arrangement: Arrangement) -> Key {
         arrangement.key_of(self)
+    }
+}
+
+impl Entry for KnownQuad {
+    ghost quad = { quad_of };
+
+    fn key(&self, arrangement: Arrangement) -> Key {
+        arrangement.key_of(&self.to_quad())
     }
 }
 

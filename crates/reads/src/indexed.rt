@@ -7,10 +7,12 @@ ghost use Rattle.change_laws.specs.Laws.{IsRising};
 ghost use Rattle.reads.specs.Reads.{says};
 
 use crate::answered::Answered;
+use crate::compact::CompactView;
 use crate::lists::copied_names;
 use crate::view::View;
 use datasets::{Answer, Id, QuadPattern, Read};
 use quad_index::{Arrangement, Index, QuadList};
+use quad_sets::QuadSet;
 use std::alloc::{AllocError, Global};
 use std::marker::Model;
 use std::thread::Threads;
@@ -106,6 +108,16 @@ impl IndexedView {
         let quads = self.quads.quads(alloc)?;
         let names = copied_names(alloc, self.names())?;
         Ok(View::from_sets(quads, names))
+    }
+
+    /// The same dataset, in little memory. An error comes only where memory runs out.
+    pub fn compact(&self, alloc: Global) -> Result<CompactView, AllocError>
+        ensures { IfOk result (λ copy. copy ≡ self.now) }
+    {
+        self.rises();
+        let quads = QuadSet::of_index(alloc, &self.quads)?;
+        let names = copied_names(alloc, self.names())?;
+        Ok(CompactView::from_sets(quads, names))
     }
 
     /// Its quads and its names are sets.

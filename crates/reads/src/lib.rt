@@ -5,9 +5,9 @@
 #![tactic(auto)]
 
 mod answered;
+mod compact;
 mod indexed;
 pub mod lists;
-mod near;
 mod note;
 pub mod presence;
 pub mod same;
@@ -17,6 +17,7 @@ mod source;
 mod view;
 
 pub use answered::Answered;
+pub use compact::CompactView;
 pub use indexed::IndexedView;
 pub use note::Note;
 pub use scanned::Scanned;

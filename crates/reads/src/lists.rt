@@ -1,55 +1,12 @@
-//! Lists of quads and of graph names: unions, differences, copies.
+//! Lists of quads and of graph names: unions and copies.
 ghost use Rattle.std.specs.Prelude.{◌≡◌, ◌∷◌, [], IfOk, if◌then◌else◌};
-ghost use Rattle.std.specs.List.Sorted.{IsStrictlySortedBy};
-ghost use Rattle.sets.specs.Sets.{set_of, union, without};
+ghost use Rattle.sets.specs.Sets.{union};
 ghost use Rattle.datasets.specs.Id.{id_order};
 ghost use Rattle.datasets.specs.Dataset.{quad_order};
 
-use crate::near::is_member_near;
 use datasets::{Id, Quad};
-use sets::Exact;
+use quad_sets::lists::merged;
 use std::alloc::{AllocError, Global};
-
-// The set of the members of a vector. Of members that come in a few sorted runs it takes time in their number.
-fn merged<T: Exact + Drop>(mut members: Vec<T>) -> Result<Vec<T>, AllocError>
-    ensures { IfOk result (λ set. set.items ≡ set_of T.cmp members.items) }
-{
-    members.sort()?;
-    members.dedup();
-    Ok(members)
-}
-
-// The members of a vector that are none of a set's, in their order. Where they rise, it goes along both lists.
-fn lacking<T: Exact + Copy + Drop>(mut members: Vec<T>, set: &[T]) -> Vec<T>
-    requires { IsStrictlySortedBy T.cmp set.now }
-    ensures { result.items ≡ without T.cmp members.items set.now }
-{
-    let mut kept = 0;
-    let mut place = 0;
-    for i in 0..members.len() {
-        let member = members[i];
-        let (is_there, next) = is_member_near(set, place, &member);
-        place = next;
-        if is_there {
-            continue;
-        }
-        members[kept] = member;
-        kept += 1;
-    }
-    members.truncate(kept);
-    members
-}
-
-/// The quads that are none of a set's, in their order. It is fastest where they rise.
-pub fn quads_without(quads: Vec<Quad<Id>>, set: &[Quad<Id>]) -> Vec<Quad<Id>>
-    requires { IsStrictlySortedBy (quad_order id_order) set.now }
-    ensures { result.items ≡ without (quad_order id_order) quads.items set.now }
-{
-    if set.is_empty() {
-        return quads;
-    }
-    lacking(quads, set)
-}
 
 /// The same quads again.
 pub fn copied_quads(alloc: Global, quads: &[Quad<Id>]) -> Result<Vec<Quad<Id>>, AllocError>

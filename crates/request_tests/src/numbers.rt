@@ -65,7 +65,7 @@ fn comes_to_numbers(alloc: Global, block: Block) -> Result<bool, BaseFault> {
 fn back(alloc: Global, dataset: &DataSet, block: Block) -> Result<DataSet, AllocError> {
     let _ = dataset.parts();
     let numbered = number(&Alone, alloc, dataset, block)?;
-    let dataset = numbered.base.dataset().copied(alloc)?;
+    let dataset = numbered.base.dataset().compact(alloc)?;
     named(alloc, numbered.base.terms(), &dataset)
 }
 

@@ -4,7 +4,7 @@ ghost use Rattle.reads.specs.Reads.{says, applied};
 
 use datasets::{Id, Read};
 use delta::Delta;
-use reads::{Answered, IndexedView, Scanned, Source, Stop, View};
+use reads::{Answered, CompactView, IndexedView, Scanned, Source, Stop};
 use std::alloc::{AllocError, Global};
 use std::marker::Model;
 use version_overlay::Settled;
@@ -56,10 +56,10 @@ impl<'a> Current<'a> {
     }
 
     /// The dataset, by itself. An error comes only where memory runs out.
-    pub(crate) fn into_dataset(self, alloc: Global) -> Result<View, AllocError>
+    pub(crate) fn into_dataset(self, alloc: Global) -> Result<CompactView, AllocError>
         ensures { IfOk result (λ dataset. dataset ≡ self.entry) }
     {
-        let dataset = self.base.copied(alloc)?;
+        let dataset = self.base.compact(alloc)?;
         self.changes.into_applied(alloc, dataset)
     }
 }

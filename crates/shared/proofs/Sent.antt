@@ -54,10 +54,11 @@ use Rattle.quad_index.specs.contracts.known.KnownQuad as KnownQuad
 use Rattle.quad_index.specs.contracts.quad_list.Entries as Entries
 use Rattle.quad_index.specs.contracts.order.Order as Order
 use Rattle.quad_index.specs.contracts.index.Index as Index
+use Rattle.quad_sets.specs.contracts.quad_set.QuadSet as QuadSet
 use Rattle.quad_hints.specs.contracts.hints.Hints as Hints
 use Rattle.quad_hints.specs.contracts.ordered_hints.OrderedHints as OrderedHints
-use Rattle.quad_index.specs.contracts.seen.Seen as Seen
-use Rattle.quad_index.specs.contracts.seen.SeenQuads as SeenQuads
+use Rattle.quad_hints.specs.contracts.seen.Seen as Seen
+use Rattle.quad_hints.specs.contracts.seen.SeenQuads as SeenQuads
 use Rattle.quad_hints.specs.contracts.sorted_hints.SortedHints as SortedHints
 use Rattle.version_overlay.specs.contracts.generation.Generation as Generation
 use Rattle.version_overlay.specs.contracts.spoken.Spoken as Spoken
@@ -188,12 +189,6 @@ quad = let i = id.the_field_send in search (sendable, crosses) depth 20
 pub view : IsSync (View.the_row)
 view = let q = quad_sync in let i = id.the_sync in search (sendable, crosses) depth 20
 
-parts : IsSend (Parts.the_row)
-parts = let q = quad in let i = id.the_send in search (sendable, crosses) depth 20
-
-parts_sync : IsSync (Parts.the_row)
-parts_sync = let q = quad_sync in let i = id.the_sync in search (sendable, crosses) depth 20
-
 answer : IsSend (Answer.the_row Id.the_row)
 answer = let q = quad in let i = id.the_send in search (sendable, crosses) depth 20
 
@@ -203,8 +198,26 @@ answer_sync = let q = quad_sync in let i = id.the_sync in search (sendable, cros
 known_quad : IsSync (KnownQuad.the_row)
 known_quad = search (sendable, crosses) depth 20
 
+known_quad_send : IsSend (KnownQuad.the_row)
+known_quad_send = search (sendable, crosses) depth 20
+
 entries : IsSync (Entries.the_field).row
 entries = let k = known_quad in let q = quad_sync in search (sendable, crosses) depth 20
+
+entries_send : IsSend (Entries.the_field).row
+entries_send = let k = known_quad_send in let q = quad in search (sendable, crosses) depth 20
+
+quad_set : IsSync (QuadSet.the_field).row
+quad_set = let e = entries in search (sendable, crosses) depth 20
+
+quad_set_send : IsSend (QuadSet.the_field).row
+quad_set_send = let e = entries_send in search (sendable, crosses) depth 20
+
+parts : IsSend (Parts.the_row)
+parts = let q = quad_set_send in let i = id.the_send in search (sendable, crosses) depth 20
+
+parts_sync : IsSync (Parts.the_row)
+parts_sync = let q = quad_set in let i = id.the_sync in search (sendable, crosses) depth 20
 
 order : IsSync (Order.the_row)
 order = let e = entries in let a = arrangement.the_field_sync in search (sendable, crosses) depth 20
@@ -247,9 +260,6 @@ replied = option.the_field_send Replied.the_row a_reply.the_send
 passed : IsSend (Option.the_field MachinePass.the_row).row
 passed = option.the_field_send MachinePass.the_row a_pass.the_send
 
-known_quad_send : IsSend (KnownQuad.the_row)
-known_quad_send = search (sendable, crosses) depth 20
-
 hint : IsSend (Hint.the_row)
 hint = let q = quad_field in search (sendable, crosses) depth 20
 
@@ -286,23 +296,14 @@ generation = let h = hints in let i = id.the_send in let o = order_set in search
 spoken : IsSend (Spoken.the_field).row
 spoken = let g = generation in let s = seen_quads in let o = order_set in search (sendable, crosses) depth 20
 
-entries_send : IsSend (Entries.the_field).row
-entries_send = let k = known_quad_send in let q = quad in search (sendable, crosses) depth 20
-
 order_send : IsSend (Order.the_row)
 order_send = let e = entries_send in let a = arrangement.the_field_send in search (sendable, crosses) depth 20
-
-first_order_send : IsSend (Order.the_field).row
-first_order_send = let e = entries_send in let a = arrangement.the_field_send in search (sendable, crosses) depth 20
-
-index_send : IsSend (Index.the_field).row
-index_send = let o = order_send in let f = first_order_send in search (sendable, crosses) depth 20
 
 delta_field : IsSend (Delta.the_field).row
 delta_field = let p = parts in let y = parts_sync in search (sendable, crosses) depth 20
 
 level : IsSend (Level.the_row)
-level = let d = delta_field in let i = index_send in search (sendable, crosses) depth 20
+level = let d = delta_field in let o = order_send in search (sendable, crosses) depth 20
 
 settled : IsSend (Settled.the_field).row
 settled = let l = level in let s = seen_quads in let a = arrangement.the_send in search (sendable, crosses) depth 20

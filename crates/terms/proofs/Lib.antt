@@ -2,3 +2,4 @@ pub mod DataSetLaws
 pub mod PlacedLaws
 pub mod UniteLaws
 pub mod FormLaws
+pub mod TableLaws

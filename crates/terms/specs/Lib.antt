@@ -9,3 +9,4 @@ pub mod Placed
 pub mod DataSet
 pub mod Canonical
 pub mod TermCow
+pub mod Table

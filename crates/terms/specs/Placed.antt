@@ -1,5 +1,5 @@
 -- Quads and names by places in a list of terms.
-use Rattle.std.specs.Prelude.{◌≡◌, ℕ, Bool, true, ◌&&◌, nat_lt, List, ◌++◌, Option, Some, None, length, map, slice_index, slice_index_or}
+use Rattle.std.specs.Prelude.{◌≡◌, ℕ, Bool, true, ◌&&◌, nat_lt, List, ◌++◌, Option, Some, None, length, map, slice_index, slice_index_or, IfSome}
 use Rattle.std.specs.List.{list_all}
 use Rattle.std.specs.Option.{option_map}
 use Rattle.datasets.specs.declared.quad.Quad.{Quad}
@@ -48,6 +48,14 @@ TermsKeepPlaces = (old new : List Term) → GoesOn old new → (place : ℕ) →
 -- these places of a list have the terms of another, one after another
 abbrev pub AreAt : List Term → List ℕ → List Term → Type 0
 AreAt terms places others = (map (term_at terms) places ≡ others) × (list_all (is_within terms) places ≡ true)
+
+-- a term stands at a place of a list, and where it was found if it was
+pub record IsAt (terms : List Term) (t : Term) (place : ℕ) : Type 0 where
+  pub term : term_at terms place ≡ t
+  pub within : is_within terms place ≡ true
+
+abbrev pub IsFoundAt : List Term → Term → Option ℕ → Type 0
+IsFoundAt terms t found = IfSome found (IsAt terms t)
 
 -- a quad of numbers of places, with those places
 abbrev pub quad_of_places : List ℕ → Quad ℕ → Quad ℕ

@@ -12,6 +12,7 @@ use crate::term::Term;
 use datasets::Quad;
 use std::alloc::{AllocError, Global};
 use std::marker::Model;
+use std::thread::Threads;
 
 /// A dataset (RDF 1.1 Concepts, section 4). Contracts see the set of its quads and the set of its graph names, each as a rising list,
 /// however they lie in memory: each term once, and quads and names by the places of their terms. The name of each quad's graph is among
@@ -177,6 +178,29 @@ fn parts_in(
     Ok((quads, names))
 }
 
+/// The same, where several threads look for the terms that the table has.
+fn parts_in_by<T: Threads + Sync>(
+    rt: &T,
+    alloc: Global,
+    terms: &mut TermTable,
+    other: DataSet,
+) -> Result<(Vec<Quad<u32>>, Vec<u32>), AllocError>
+    ensures parts { IfOk result (λ r. dataset_at terms.new r.0.items r.1.items ≡ other) }
+    ensures within { IfOk result (λ r. AreWithin terms.new r.0.items r.1.items) }
+    ensures dataset { IsDataset term_order other }
+    ensures kept { GoesOn terms.old terms.new }
+{
+    let DataSet {
+        terms: others,
+        quads,
+        names,
+    } = other;
+    let places = terms.places_of_by(rt, alloc, others)?;
+    let quads = quads_of_places(alloc, places.as_slice(), quads.as_slice())?;
+    let names = names_of_places(alloc, places.as_slice(), names.as_slice())?;
+    Ok((quads, names))
+}
+
 impl DataSet {
     /// No quad and no name.
     pub fn new(alloc: Global) -> DataSet
@@ -229,6 +253,22 @@ impl DataSet {
     {
         let alloc = *self.quads.allocator();
         let (quads, names) = parts_in(alloc, &mut self.terms, other)?;
+        append_both(
+            &mut self.quads,
+            &mut self.names,
+            quads.as_slice(),
+            names.as_slice(),
+        )?;
+        Ok(())
+    }
+
+    /// The same, where several threads look for the terms that both have.
+    pub fn unite_by<T: Threads + Sync>(&mut self, rt: &T, other: DataSet) -> Result<(), AllocError>
+        ensures ok { OnOk result (self.new ≡ united self.old other) }
+        ensures err { OnErr result (self.new ≡ self.old) }
+    {
+        let alloc = *self.quads.allocator();
+        let (quads, names) = parts_in_by(rt, alloc, &mut self.terms, other)?;
         append_both(
             &mut self.quads,
             &mut self.names,

@@ -255,8 +255,7 @@ pub fn graphs<S: Source>(
 {
     match own_change(alloc, operation, changes, source, notes)? {
         Ok(own) => {
-            let before = changes.copied(alloc)?;
-            let change = before.followed_by(alloc, &own)?;
+            let change = changes.followed_by(alloc, &own)?;
             Ok(Ok(change))
         }
         Err(cause) => Ok(Err(cause)),

@@ -9,7 +9,8 @@ ghost use Rattle.update.specs.Changed.{difference};
 use crate::known::known_of;
 use crate::presence::{names_that, quads_that};
 use delta::Delta;
-use eval::{names_outside, quads_outside};
+use eval::names_outside;
+use quad_sets::QuadSet;
 use reads::{Note, Source, Stop};
 use std::alloc::Global;
 
@@ -27,11 +28,11 @@ pub fn least_of<S: Source>(
     ensures least { IfOk result (λ change. (d : View) → IsDataset d → Agrees notes.new.items d
         → change ≡ difference d (applied changes.now d)) }
 {
-    let others = quads_outside(alloc, changes.absent(), changes.present())?;
+    let others = QuadSet::without(alloc, &changes.absent(), &changes.present())?;
     let other_names = names_outside(alloc, changes.gone(), changes.there())?;
     let known = known_of(alloc, notes.as_slice())?;
-    let present = quads_that(alloc, &known, false, changes.present(), source, notes)?;
-    let absent = quads_that(alloc, &known, true, &others, source, notes)?;
+    let present = quads_that(alloc, &known, false, &changes.present(), source, notes)?;
+    let absent = quads_that(alloc, &known, true, &others.as_slice(), source, notes)?;
     let there = names_that(alloc, &known, false, changes.there(), source, notes)?;
     let gone = names_that(alloc, &known, true, &other_names, source, notes)?;
     let change = Delta::from_parts(alloc, present, absent, there, gone)?;

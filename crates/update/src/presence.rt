@@ -16,6 +16,7 @@ ghost use Rattle.update.specs.Known.{scans_for_untold as the_scans_for_untold, K
 use crate::known::Known;
 use asking::{ask, ask_all};
 use datasets::{Id, Quad, Read};
+use quad_sets::QuadSlice;
 use reads::presence::scan_for;
 use reads::same::same_bool;
 use reads::{Answered, Note, Source, Stop};
@@ -168,7 +169,7 @@ pub fn quads_that<S: Source>(
     alloc: Global,
     known: &Known,
     are_there: bool,
-    quads: &[Quad<Id>],
+    quads: &QuadSlice<'_>,
     source: &mut S,
     notes: &mut Vec<Note>,
 ) -> Result<Vec<Quad<Id>>, Stop>
@@ -181,13 +182,15 @@ pub fn quads_that<S: Source>(
         quads.now) }
 {
     let mut found = Vec::new(alloc);
-    let mut left = quads;
-    while !left.is_empty() {
-        let (part, later) = left.split_at(left.len().min(AT_ONCE));
+    let mut place = 0;
+    while place < quads.len() {
+        let past = quads.len().min(place.saturating_add(AT_ONCE));
+        let part = quads.part(alloc, place, past)?;
+        let lot = part.as_slice();
         let before = notes.len();
-        ask_for_untold(alloc, known, part, source, notes)?;
-        push_those(known, are_there, part, &notes[before..], &mut found)?;
-        left = later;
+        ask_for_untold(alloc, known, lot, source, notes)?;
+        push_those(known, are_there, lot, &notes[before..], &mut found)?;
+        place = past;
     }
     Ok(found)
 }

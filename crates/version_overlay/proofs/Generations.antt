@@ -6,8 +6,8 @@ use Rattle.std.proofs.Math.Bool.{and-false}
 use Rattle.datasets.specs.declared.id.Id.{Id}
 use Rattle.datasets.specs.declared.read.QuadPattern.{QuadPattern}
 use Rattle.datasets.specs.declared.read.Read.TheVariants.{Scan}
-use Rattle.quad_index.specs.declared.seen.SeenQuads.{SeenQuads}
-use Rattle.quad_index.specs.Seen.{may_match}
+use Rattle.quad_hints.specs.declared.seen.SeenQuads.{SeenQuads}
+use Rattle.quad_hints.specs.Seen.{may_match}
 use Rattle.reads.specs.Reads.{Delta, Read, covers}
 use Rattle.version_overlay.specs.declared.generation.Generation.{Generation}
 use Rattle.version_overlay.specs.Generation.{has_spoken, IsKept}

@@ -7,8 +7,8 @@ use Rattle.datasets.specs.declared.read.QuadPattern.{QuadPattern}
 use Rattle.datasets.specs.declared.read.Read.TheVariants.{Scan, GraphIs, Graphs}
 use Rattle.datasets.specs.Id.{id_order}
 use Rattle.datasets.specs.Dataset.{matches}
-use Rattle.quad_index.specs.declared.seen.SeenQuads.{SeenQuads}
-use Rattle.quad_index.specs.Seen.{may_match}
+use Rattle.quad_hints.specs.declared.seen.SeenQuads.{SeenQuads}
+use Rattle.quad_hints.specs.Seen.{may_match}
 use Rattle.reads.specs.Reads.{Read}
 use Rattle.version_overlay.specs.declared.generation.Generation.{Generation}
 

@@ -5,8 +5,8 @@ use Rattle.datasets.specs.declared.read.QuadPattern.{QuadPattern}
 use Rattle.datasets.specs.declared.read.Read.TheVariants.{Scan}
 use Rattle.datasets.specs.Id.{id_order}
 use Rattle.change_laws.specs.Laws.{IsRising}
-use Rattle.quad_index.specs.declared.seen.SeenQuads.{SeenQuads}
-use Rattle.quad_index.specs.Seen.{may_match}
+use Rattle.quad_hints.specs.declared.seen.SeenQuads.{SeenQuads}
+use Rattle.quad_hints.specs.Seen.{may_match}
 use Rattle.reads.specs.Reads.{View, Delta, says, applied}
 
 -- the dataset after these changes, the first of them first

@@ -6,12 +6,12 @@ ghost use Rattle.datasets.specs.declared.read.QuadPattern.{QuadPattern as Patter
 ghost use Rattle.datasets.specs.declared.read.Read.TheVariants.{Scan};
 ghost use Rattle.datasets.specs.Dataset.{matches};
 ghost use Rattle.datasets.specs.Id.{id_order};
-ghost use Rattle.quad_index.specs.Seen.{may_match};
+ghost use Rattle.quad_hints.specs.Seen.{may_match};
 ghost use Rattle.reads.specs.Reads.{covers};
 
-use datasets::{Id, Quad};
 use delta::Delta;
-use quad_index::SeenQuads;
+use quad_hints::SeenQuads;
+use quad_sets::QuadSlice;
 use std::alloc::AllocError;
 
 /// Lets through what a change speaks of. What was let through still is, also where memory runs out.
@@ -22,18 +22,18 @@ pub fn put_all(seen: &mut SeenQuads, delta: &Delta) -> Result<(), AllocError>
     ensures kept { (p : PatternOf Number) → may_match seen.old p ≡ true
         → may_match seen.new p ≡ true }
 {
-    put_quads(seen, delta.present())?;
-    put_quads(seen, delta.absent())
+    put_quads(seen, &delta.present())?;
+    put_quads(seen, &delta.absent())
 }
 
-fn put_quads(seen: &mut SeenQuads, quads: &[Quad<Id>]) -> Result<(), AllocError>
+fn put_quads(seen: &mut SeenQuads, quads: &QuadSlice<'_>) -> Result<(), AllocError>
     ensures added { OnOk result ((p : PatternOf Number)
         → list_any (matches id_order p) quads.now ≡ true → may_match seen.new p ≡ true) }
     ensures kept { (p : PatternOf Number) → may_match seen.old p ≡ true
         → may_match seen.new p ≡ true }
 {
-    for quad in quads {
-        seen.put(quad)?;
+    for place in 0..quads.len() {
+        seen.put(&quads.get(place))?;
     }
     Ok(())
 }

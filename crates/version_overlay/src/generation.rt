@@ -10,10 +10,11 @@ ghost use Rattle.quad_hints.specs.declared.hint.Hint.{Hint};
 ghost use Rattle.reads.specs.Reads.{Read as Asked, covers};
 ghost use Rattle.version_overlay.specs.Generation.{requests_of, has_spoken};
 
-use datasets::{Id, Quad, Read};
+use datasets::{Id, Read};
 use delta::Delta;
 use quad_hints::Hints;
 use quad_index::OrderSet;
+use quad_sets::QuadSlice;
 use std::alloc::{AllocError, Global};
 use std::collections::BTreeMap;
 
@@ -88,15 +89,15 @@ fn put_quads_of(
         → list_any (λ h. p h.quad && (h.request == j)) hints.old ≡ false
         → list_any (λ h. p h.quad && (h.request == j)) hints.new ≡ false }
 {
-    put_quads(alloc, hints, delta.present(), request)?;
-    put_quads(alloc, hints, delta.absent(), request)
+    put_quads(alloc, hints, &delta.present(), request)?;
+    put_quads(alloc, hints, &delta.absent(), request)
 }
 
 // A hint of the request for each quad.
 fn put_quads(
     alloc: Global,
     hints: &mut Hints,
-    quads: &[Quad<Id>],
+    quads: &QuadSlice<'_>,
     request: usize,
 ) -> Result<(), AllocError>
     ensures added { OnOk result ((p : Named Number → Bool) → list_any p quads.now ≡ true

@@ -8,14 +8,16 @@ ghost use Rattle.datasets.specs.declared.quad.Quad.{Quad as Named};
 ghost use Rattle.datasets.specs.Id.{id_order};
 ghost use Rattle.datasets.specs.Dataset.{quad_order, matches};
 ghost use Rattle.change_laws.specs.Laws.{IsRising};
+ghost use Rattle.quad_index.specs.Index.{AllAlike};
 ghost use Rattle.reads.specs.Reads.{View as Dataset, says, applied};
 ghost use Rattle.version_overlay.specs.Settled.{part_or};
 
 use crate::along::{changed_part, part_of};
 use datasets::{Id, Quad, QuadPattern, Read};
 use delta::Delta;
-use quad_index::{Arrangement, Index};
-use reads::lists::{quads_union, quads_without};
+use quad_index::{Arrangement, Order};
+use quad_sets::QuadSlice;
+use reads::lists::quads_union;
 use reads::{Scanned, View};
 use sets::is_member;
 use std::alloc::{AllocError, Global};
@@ -24,22 +26,37 @@ use std::marker::Model;
 /// With fewer present quads a search of them all is as fast as one by an order.
 const WORTH_ORDERS: usize = 32;
 
+// The quads of a set in these orders, where there are many.
+fn orders_worth(
+    alloc: Global,
+    quads: &QuadSlice<'_>,
+    orders: &[Arrangement],
+) -> Result<Vec<Order>, AllocError>
+    ensures { IfOk result (λ orders. AllAlike quads.now orders.items) }
+{
+    if quads.len() < WORTH_ORDERS {
+        return Ok(Vec::new(alloc));
+    }
+    quads.in_orders(alloc, orders)
+}
+
 /// A change whose present quads are found by binary search. Contracts see the change.
 #[derive(Drop)]
 pub struct Level {
     change: Delta,
-    present: Index,
+    // The present quads in orders beside SPOG.
+    orders: Vec<Order>,
 }
 
 impl Model for Level {
-    ghost use Rattle.std.specs.Prelude.{◌≡◌};
     ghost use Rattle.reads.specs.Reads.{Delta};
+    ghost use Rattle.quad_index.specs.Index.{AllAlike};
 
     ghost Value = { Delta };
 
     ghost view = { λ l. l.change };
 
-    ghost invariant = { λ l. l.present.quads ≡ l.change.present };
+    ghost invariant = { λ l. AllAlike l.change.present l.orders.items };
 }
 
 impl Level {
@@ -47,14 +64,8 @@ impl Level {
     pub fn new(alloc: Global, change: Delta, orders: &[Arrangement]) -> Result<Level, AllocError>
         ensures { IfOk result (λ level. level ≡ change) }
     {
-        let quads = change.present();
-        let orders = if quads.len() < WORTH_ORDERS {
-            &orders[0..0]
-        } else {
-            orders
-        };
-        let present = Index::new(alloc, quads, orders)?;
-        Ok(Level { change, present })
+        let orders = orders_worth(alloc, &change.present(), orders)?;
+        Ok(Level { change, orders })
     }
 
     /// The change.
@@ -97,13 +108,13 @@ impl Level {
             → says scanned.now.read (part_or scanned.now.dataset next)
             ≡ says scanned.now.read (applied self.now d)) }
     {
-        let coming = self.present.scan(alloc, pattern)?;
+        let coming = self.change.present().scan(alloc, &self.orders, pattern)?;
         let going = self.change.absent();
-        if coming.is_empty() && !is_any_gone(alloc, scanned, pattern, &part, going)? {
+        if coming.is_empty() && !is_any_gone(alloc, scanned, pattern, &part, &going)? {
             return Ok(part);
         }
         let (quads, _names) = part_of(alloc, scanned, part)?.into_parts();
-        let quads = quads_union(quads_without(quads, going), coming)?;
+        let quads = quads_union(going.lacked(quads), coming)?;
         Ok(Some(View::from_sets(quads, Vec::new(alloc))))
     }
 }
@@ -114,10 +125,9 @@ fn is_any_gone(
     scanned: &Scanned<'_>,
     pattern: &QuadPattern<Id>,
     part: &Option<View>,
-    going: &[Quad<Id>],
+    going: &QuadSlice<'_>,
 ) -> Result<bool, AllocError>
     requires scan { scanned.now.read ≡ Read.Scan pattern.now }
-    requires set { IsStrictlySortedBy (quad_order id_order) going.now }
     ensures { IfOk result (λ so. so ≡ false → (q : Named Number)
         → has (quad_order id_order) (filter (matches id_order pattern.now)
         (part_or scanned.now.dataset part.now).quads) q ≡ true
@@ -137,10 +147,9 @@ fn is_any_told_gone(
     alloc: Global,
     scanned: &Scanned<'_>,
     pattern: &QuadPattern<Id>,
-    going: &[Quad<Id>],
+    going: &QuadSlice<'_>,
 ) -> Result<bool, AllocError>
     requires scan { scanned.now.read ≡ Read.Scan pattern.now }
-    requires set { IsStrictlySortedBy (quad_order id_order) going.now }
     ensures { IfOk result (λ so. so ≡ false → (q : Named Number)
         → has (quad_order id_order) (filter (matches id_order pattern.now)
         scanned.now.dataset.quads) q ≡ true → has (quad_order id_order) going.now q ≡ false) }
@@ -155,23 +164,34 @@ fn is_any_told_gone(
 }
 
 // Whether two sets of quads have a quad in common. Those of the smaller one are looked for in the other.
-fn have_common(first: &[Quad<Id>], second: &[Quad<Id>]) -> bool
-    requires first { IsStrictlySortedBy (quad_order id_order) first.now }
-    requires second { IsStrictlySortedBy (quad_order id_order) second.now }
+fn have_common(first: &[Quad<Id>], second: &QuadSlice<'_>) -> bool
+    requires { IsStrictlySortedBy (quad_order id_order) first.now }
     ensures { result ≡ false → (q : Named Number) → has (quad_order id_order) first.now q ≡ true
         → has (quad_order id_order) second.now q ≡ false }
 {
     if first.len() <= second.len() {
         is_any_in(first, second)
     } else {
-        is_any_in(second, first)
+        is_any_of(second, first)
     }
 }
 
 // Whether any of these quads is one of a set's.
-fn is_any_in(quads: &[Quad<Id>], set: &[Quad<Id>]) -> bool
+fn is_any_in(quads: &[Quad<Id>], set: &QuadSlice<'_>) -> bool
+    ensures { result ≡ list_any (λ q. has (quad_order id_order) set.now q) quads.now }
+{
+    quads.iter().any(|quad| set.contains(quad))
+}
+
+// Whether any of a set's quads is one of another's.
+fn is_any_of(quads: &QuadSlice<'_>, set: &[Quad<Id>]) -> bool
     requires { IsStrictlySortedBy (quad_order id_order) set.now }
     ensures { result ≡ list_any (λ q. has (quad_order id_order) set.now q) quads.now }
 {
-    quads.iter().any(|quad| is_member(set, quad))
+    for place in 0..quads.len() {
+        if is_member(set, &quads.get(place)) {
+            return true;
+        }
+    }
+    false
 }

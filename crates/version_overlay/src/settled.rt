@@ -13,8 +13,9 @@ use crate::filters::put_all;
 use crate::level::Level;
 use datasets::{Id, Read};
 use delta::Delta;
-use quad_index::{Arrangement, SeenQuads};
-use reads::{Scanned, View};
+use quad_hints::SeenQuads;
+use quad_index::Arrangement;
+use reads::{CompactView, Scanned, View};
 use std::alloc::{AllocError, Global};
 use std::marker::Model;
 
@@ -120,16 +121,21 @@ impl Settled {
         }
     }
 
-    /// The same, where they are not needed any more, and are let go as soon as they are one. An error comes only where memory runs out.
-    pub fn into_applied(self, alloc: Global, view: View) -> Result<View, AllocError>
-        ensures { IfOk result (λ after. after ≡ changed_by self view) }
+    /// The same of a dataset in little memory, where they are not needed any more, and are let go as soon as they are one. An error comes only
+    /// where memory runs out.
+    pub fn into_applied(
+        self,
+        alloc: Global,
+        dataset: CompactView,
+    ) -> Result<CompactView, AllocError>
+        ensures { IfOk result (λ after. after ≡ changed_by self dataset) }
     {
         let change = match self.levels.as_slice() {
-            [] => return Ok(view),
+            [] => return Ok(dataset),
             [first, later @ ..] => joined(alloc, first, later)?,
         };
         drop(self);
-        change.into_applied(alloc, view)
+        change.apply_compact(alloc, dataset)
     }
 }
 
@@ -184,7 +190,7 @@ fn join_last(
     ensures count { OnOk result (vec_len levels.new + 1 ≡ vec_len levels.old) }
 {
     let last = levels.len() - 1;
-    let earlier = levels[last - 1].change().copied(alloc)?;
+    let earlier = levels[last - 1].change();
     let change = earlier.followed_by(alloc, levels[last].change())?;
     let level = Level::new(alloc, change, orders)?;
     levels.pop();

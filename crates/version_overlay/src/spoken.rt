@@ -11,7 +11,8 @@ use crate::filters::put_all;
 use crate::generation::Generation;
 use datasets::{Id, Read};
 use delta::Delta;
-use quad_index::{OrderSet, SeenQuads};
+use quad_hints::SeenQuads;
+use quad_index::OrderSet;
 use std::alloc::{AllocError, Global};
 
 /// Which requests may have spoken of what. A filter stands before the generations, made once for all of them.

@@ -43,7 +43,8 @@ returns-in_ok-delta-in-Ok-clause-reply g c d h a =
     let before = agreed (c.in_ok-delta-in-Ok.ensures.goes near (within_of near c.in_ok-changes.field-0 c.in-Ok.changes c.in-Ok.is c.in_ok-changes.ensures.within)) d a in
     let done = sym (ap (performed_so d) c.in-Ok.is) ∙ c.in_ok-changes.ensures.effect d h before in
     let least = c.in_ok-delta-in-Ok.ensures.least d h a in
-    (λ i. Done (length ((c.present.ensures.value ∙ ap (λ (z : Delta). z.present) least) i)) (length ((c.absent.ensures.value ∙ ap (λ (z : Delta). z.absent) least) i)))
+    (λ i. Done (c.len.ensures i) (c.len-in-Ok.ensures i))
+    ∙ (λ i. Done (length ((c.present.ensures.value ∙ ap (λ (z : Delta). z.present) least) i)) (length ((c.absent.ensures.value ∙ ap (λ (z : Delta). z.absent) least) i)))
     ∙ ap (λ z. (settled V d z).1) done
 
 pub returns-in-Err-clause-least : goal.returns-in-Err-clause-least

@@ -12,7 +12,7 @@ use Rattle.update.proofs.graphs.graphs.Goals as goal
 pub returns-in_ok-change-in-Ok-clause-effect : goal.returns-in_ok-change-in-Ok-clause-effect
 returns-in_ok-change-in-Ok-clause-effect g c d a =
     let D = applied c.args.changes.now d in
-    ap Ok (c.in_ok-change-in-Ok.ensures d ∙ ap (λ (z : Delta). applied c.in-Ok.own (applied z d)) c.in_ok-before-in-Ok.ensures)
+    ap Ok (c.in_ok-change-in-Ok.ensures d)
     ∙ ap (changed D) (sym c.in-Ok.is)
     ∙ c.in_ok-own.ensures.effect d a
 
@@ -20,7 +20,7 @@ pub returns-in_ok-change-in-Ok-clause-within : goal.returns-in_ok-change-in-Ok-c
 returns-in_ok-change-in-Ok-clause-within g c allowed near h =
     let own = subst (λ (o : Result Delta Cause). IfOk o (λ z. IsWithin (is_near_graphs id_order c.args.operation.now) z)) c.in-Ok.is c.in_ok-own.ensures.within in
     followed_within allowed c.args.changes.now c.in-Ok.own c.in_ok-change-in-Ok.change
-    (λ d. c.in_ok-change-in-Ok.ensures d ∙ ap (λ (z : Delta). applied c.in-Ok.own (applied z d)) c.in_ok-before-in-Ok.ensures)
+    c.in_ok-change-in-Ok.ensures
     h (within_more (is_near_graphs id_order c.args.operation.now) allowed near c.in-Ok.own own)
 
 pub returns-in-Err-clause-effect : goal.returns-in-Err-clause-effect

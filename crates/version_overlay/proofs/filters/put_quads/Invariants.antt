@@ -4,11 +4,11 @@ use Rattle.datasets.specs.declared.id.Id.{Id}
 use Rattle.datasets.specs.declared.read.QuadPattern.{QuadPattern}
 use Rattle.datasets.specs.Dataset.{matches}
 use Rattle.datasets.specs.Id.{id_order}
-use Rattle.quad_index.specs.Seen.{may_match}
+use Rattle.quad_hints.specs.Seen.{may_match}
 use Rattle.version_overlay.proofs.filters.put_quads.Given as goal
 
-abbrev pub invariant-loop-quad : goal.invariant-loop-quad
-invariant-loop-quad l = record {
-  added : (p : QuadPattern Id) → list_any (matches id_order p) (take l.quad-index l.quads) ≡ true → may_match l.seen p ≡ true;
+abbrev pub invariant-loop-place : goal.invariant-loop-place
+invariant-loop-place l = record {
+  added : (p : QuadPattern Id) → list_any (matches id_order p) (take l.place l.quads) ≡ true → may_match l.seen p ≡ true;
   kept : (p : QuadPattern Id) → may_match l.initial.seen p ≡ true → may_match l.seen p ≡ true;
 }

@@ -11,8 +11,8 @@ use Rattle.reads.specs.Reads.{says}
 use Rattle.version_overlay.proofs.Scanning.{told_some}
 use Rattle.version_overlay.proofs.level.is_any_told_gone.Goals as goal
 
-pub have_common-requires-clause-first : goal.have_common-requires-clause-first
-have_common-requires-clause-first c =
+pub have_common-requires : goal.have_common-requires
+have_common-requires c =
     let d = c.args.scanned.now.dataset in
     let P : List (Quad Id) → Type 0 = λ xs. IsStrictlySortedBy (quad_order id_order) xs in
     subst P

@@ -10,4 +10,4 @@ returns-clause-same c =
     joined_at c.args.levels.now.items c.pop.new.self.items len (len - 1 - 1) c.index.result.now c.index-2.result.now c.in_ok-level.level
     (c.len-last.ensures ∙ c.args.levels.now.ok.0) two (c.pop.ensures.rest ∙ ap (λ n. take (n - 1) c.args.levels.now.items) (sym c.len-last.ensures)) refl
     c.index.ensures c.index-2.ensures
-    (λ d. ap (λ e. applied e d) c.in_ok-level.ensures ∙ c.in_ok-change.ensures d ∙ (λ i. applied (c.change-2.ensures i) (applied ((c.in_ok-earlier.ensures ∙ c.change.ensures) i) d)))
+    (λ d. ap (λ e. applied e d) c.in_ok-level.ensures ∙ c.in_ok-change.ensures d ∙ (λ i. applied (c.change.ensures i) (applied (c.change-earlier.ensures i) d)))

@@ -8,5 +8,5 @@ loop-level-init c d = ap (λ x. applied x d) (c.in_ok-change.ensures ∙ c.chang
 
 pub loop-level-preserved : goal.loop-level-preserved
 loop-level-preserved c d =
-    c.in_ok-change-2.ensures d ∙ (λ i. applied (c.change-in-loop-level.ensures i) (c.loop-level.invariant d i))
+    c.in_ok-change-2.ensures d ∙ (λ i. applied (c.change-in-loop-level-2.ensures i) (c.loop-level.invariant d i))
     ∙ sym (changed_by_more c.args.later.now c.loop-level.level-index c.level-item.result c.loop-level-test.true c.level-item.is (applied c.args.first.now d))

@@ -1,4 +1,4 @@
-use Rattle.std.proofs.Common.{◌≡◌, arith, ◌∙◌, ap, sym}
+use Rattle.std.proofs.Common.{◌≡◌, arith, ◌∙◌, ap}
 use Rattle.std.proofs.lemmas.Result.{IfOk-weaker}
 use Rattle.version_overlay.specs.Settled.{changed_by}
 use Rattle.block_machine.specs.Kept.{shown}
@@ -12,7 +12,7 @@ returns c =
     IfOk-weaker c.into_applied.result _ _
     (λ after e.
     e
-    ∙ ap (changed_by c.self.inside.kept.settled) c.in_ok-view.ensures
+    ∙ ap (changed_by c.self.inside.kept.settled) c.in_ok-dataset.ensures
     ∙ c.self.invariant.folded c.args.base.now
     ∙ ap (λ m. view_at c.args.base.now (shown c.self.inside.kept.slots.items) m) same
     ∙ view_shown c.self.inside.kept.slots.items c.args.base.now c.args.n

@@ -1,8 +1,9 @@
+use Rattle.std.proofs.Common.{[], refl}
 use Rattle.reads.proofs.Rising.{rises-sets}
 use Rattle.delta.proofs.delta.Delta.from_parts.Goals as goal
 
-pub from_sets-requires-clause-come : goal.from_sets-requires-clause-come
-from_sets-requires-clause-come c = rises-sets _ _ c.args.present.items c.args.there.items c.set_of-present.ensures c.set_of-there.ensures
+pub from_sets-requires-clause-there : goal.from_sets-requires-clause-there
+from_sets-requires-clause-there c = (rises-sets [] _ [] c.args.there.items refl c.set_of-there.ensures).names
 
-pub from_sets-requires-clause-go : goal.from_sets-requires-clause-go
-from_sets-requires-clause-go c = rises-sets _ _ c.args.absent.items c.args.gone.items c.set_of-absent.ensures c.set_of-gone.ensures
+pub from_sets-requires-clause-gone : goal.from_sets-requires-clause-gone
+from_sets-requires-clause-gone c = (rises-sets [] _ [] c.args.gone.items refl c.set_of-gone.ensures).names

@@ -1,14 +1,10 @@
-use Rattle.std.proofs.Common.{[]}
-use Rattle.sets.proofs.SetLaws.{sorted-empty}
+use Rattle.std.proofs.Common.{sym, subst}
+use Rattle.std.specs.List.Sorted.{IsStrictlySortedBy}
 use Rattle.datasets.specs.Id.{id_order}
-use Rattle.datasets.specs.Dataset.{quad_order}
-use Rattle.reads.proofs.Rising.{rises-names}
 use Rattle.delta.proofs.delta.Delta.names_part.Goals as goal
 
-pub from_sets-requires-clause-come : goal.from_sets-requires-clause-come
-from_sets-requires-clause-come c =
-    rises-names _ _ (record { quads = []; names = c.there.result.now }) (record { quads = sorted-empty (quad_order id_order); names = c.there.ensures.set }) c.new.ensures.items c.in_ok-there.ensures
+pub from_sets-requires-clause-there : goal.from_sets-requires-clause-there
+from_sets-requires-clause-there c = subst (λ names. IsStrictlySortedBy id_order names) (sym c.in_ok-there.ensures) c.there.ensures.set
 
-pub from_sets-requires-clause-go : goal.from_sets-requires-clause-go
-from_sets-requires-clause-go c =
-    rises-names _ _ (record { quads = []; names = c.gone.result.now }) (record { quads = sorted-empty (quad_order id_order); names = c.gone.ensures.set }) c.new-2.ensures.items c.in_ok-gone.ensures
+pub from_sets-requires-clause-gone : goal.from_sets-requires-clause-gone
+from_sets-requires-clause-gone c = subst (λ names. IsStrictlySortedBy id_order names) (sym c.in_ok-gone.ensures) c.gone.ensures.set

@@ -8,7 +8,6 @@ use Rattle.dict.specs.Dictionary.{is_written, is_known, term_of, IsDictionary}
 use Rattle.dict.specs.Ranks.{ArePlaced, term_in, taken}
 use Rattle.dict.proofs.Frozen.{frozen}
 use Rattle.dict.proofs.Whole.{places_below, found_is, numbers_stand}
-use Rattle.dict.proofs.dictionary.Dict.numbered_by.Given.{Over}
 use Rattle.dict.proofs.dictionary.Dict.numbered_by.Goals as goal
 
 pub numbered-requires : goal.numbered-requires

@@ -10,7 +10,7 @@ use Rattle.quad_hints.specs.declared.hint.Hint.{Hint}
 use Rattle.quad_hints.specs.declared.hint.KnownHint.{KnownHint}
 use Rattle.quad_hints.specs.declared.hint_list.HintList.{HintList}
 use Rattle.quad_index.proofs.Orders.{sorted_unmapped}
-use Rattle.quad_hints.proofs.Requests.{filter-map}
+use Rattle.quad_index.proofs.Mapped.{filter-map}
 use Rattle.quad_hints.proofs.hint_list.HintList.add_requests.Goals as goal
 
 pub part_for-requires : goal.part_for-requires

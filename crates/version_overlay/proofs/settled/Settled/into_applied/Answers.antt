@@ -7,10 +7,10 @@ use Rattle.version_overlay.proofs.settled.Settled.into_applied.Goals as goal
 pub returns-in-empty : goal.returns-in-empty
 returns-in-empty c =
     let is = sym c.self.view_is ∙ sym c.as_slice.ensures.value ∙ below_one c.as_slice.result.now c.in-empty.len_below in
-    sym (ap (λ cs. changed_by cs c.args.view) is ∙ changed_by-nothing c.args.view)
+    sym (ap (λ cs. changed_by cs c.args.dataset) is ∙ changed_by-nothing c.args.dataset)
 
 pub returns : goal.returns
 returns c =
-    IfOk-weaker c.into_applied.result _ _
-    (λ after e. e ∙ c.in_ok-change-in-len1-up.ensures c.args.view ∙ first_apart c.as_slice.result.now c.first-item.result c.in-len1-up.len_at_least c.first-item.is c.args.view
-    ∙ ap (λ cs. changed_by cs c.args.view) (c.as_slice.ensures.value ∙ c.self.view_is)) c.into_applied.ensures
+    IfOk-weaker c.apply_compact.result _ _
+    (λ after e. e ∙ c.in_ok-change-in-len1-up.ensures c.args.dataset ∙ first_apart c.as_slice.result.now c.first-item.result c.in-len1-up.len_at_least c.first-item.is c.args.dataset
+    ∙ ap (λ cs. changed_by cs c.args.dataset) (c.as_slice.ensures.value ∙ c.self.view_is)) c.apply_compact.ensures

@@ -1,6 +1,6 @@
 use Rattle.std.proofs.Common.{◌≡◌, sym, ap, ◌∙◌}
 use Rattle.datasets.specs.declared.read.Read.TheVariants.{Scan}
-use Rattle.quad_index.specs.Seen.{may_match}
+use Rattle.quad_hints.specs.Seen.{may_match}
 use Rattle.reads.specs.Reads.{View, says, applied, covers}
 use Rattle.reads.proofs.Changes.{uncovered, nothing_changed}
 use Rattle.version_overlay.specs.Settled.{changed_by}

@@ -1,0 +1,3 @@
+pub mod Lacking
+pub mod MappedSets
+pub mod Sorted

@@ -1,0 +1,17 @@
+use Rattle.std.proofs.Common.{map, ap, sym, ◌∙◌}
+use Rattle.datasets.specs.Id.{id_order}
+use Rattle.datasets.specs.Dataset.{quad_order}
+use Rattle.sets.specs.Sets.{has}
+use Rattle.quad_index.specs.Known.{quad_of}
+use Rattle.quad_sets.proofs.MappedSets.{has-map, lacks_others, sorted-unmap}
+use Rattle.quad_sets.proofs.narrow.is_near_known.Goals as goal
+
+pub is_member_near-requires-clause-set : goal.is_member_near-requires-clause-set
+is_member_near-requires-clause-set c = sorted-unmap quad_of (quad_order id_order) c.args.known.now c.requires.set
+
+pub returns-in-Some-clause-value : goal.returns-in-Some-clause-value
+returns-in-Some-clause-value c =
+    c.is_member_near.ensures.value ∙ sym (has-map quad_of (quad_order id_order) c.args.known.now c.in-Some.entry) ∙ ap (has (quad_order id_order) (map quad_of c.args.known.now)) c.in-Some.ensures.some
+
+pub returns-in-None-clause-value : goal.returns-in-None-clause-value
+returns-in-None-clause-value c = sym (lacks_others quad_of (quad_order id_order) c.args.quad.now c.in-None.ensures.none c.args.known.now)

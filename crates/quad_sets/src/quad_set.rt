@@ -1,0 +1,165 @@
+//! Sets of quads, in little memory where that is possible.
+ghost use Rattle.std.specs.Prelude.{◌≡◌, [], IfOk};
+ghost use Rattle.std.specs.List.Sorted.{IsStrictlySortedBy};
+ghost use Rattle.sets.specs.Sets.{set_of as the_set_of, union, without};
+ghost use Rattle.datasets.specs.Id.{id_order};
+ghost use Rattle.datasets.specs.Dataset.{quad_order};
+ghost use Rattle.quad_sets.specs.QuadSlice.{quads_of};
+
+use crate::lists::merged;
+use crate::narrow::known_changed;
+use crate::quad_slice::{Part, QuadSlice};
+use datasets::{Id, Quad};
+use quad_index::{Entries, Index, known_quads, known_set};
+use sets::set_of;
+use std::alloc::{AllocError, Global};
+use std::marker::Model;
+
+/// A set of quads, a quarter as long where all are of known terms. Contracts see its list, by subject, predicate, object and graph.
+pub struct QuadSet {
+    entries: Entries,
+}
+
+impl Drop for QuadSet {
+    fn drop(self) {
+        let QuadSet { entries: _ } = self;
+    }
+}
+
+impl Model for QuadSet {
+    ghost use Rattle.std.specs.Prelude.{List};
+    ghost use Rattle.std.specs.List.Sorted.{IsStrictlySortedBy};
+    ghost use Rattle.datasets.specs.declared.id.Id.{Id};
+    ghost use Rattle.datasets.specs.declared.quad.Quad.{Quad};
+    ghost use Rattle.datasets.specs.Id.{id_order};
+    ghost use Rattle.datasets.specs.Dataset.{quad_order};
+    ghost use Rattle.quad_index.specs.QuadList.{quads_in};
+
+    ghost Value = { List (Quad Id) };
+
+    ghost view = { λ s. quads_in s.entries };
+
+    ghost invariant = { λ s. IsStrictlySortedBy (quad_order id_order) (quads_in s.entries) };
+}
+
+// The quads of a changed set, where not all are of known terms.
+fn wide_changed(
+    alloc: Global,
+    quads: &QuadSlice<'_>,
+    gone: &QuadSlice<'_>,
+    more: &QuadSlice<'_>,
+) -> Result<Vec<Quad<Id>>, AllocError>
+    ensures { IfOk result (λ after. after.items ≡ union (quad_order id_order)
+        (without (quad_order id_order) quads.now gone.now) more.now) }
+{
+    let mut all = Vec::new(alloc);
+    all.reserve_exact(quads.len().saturating_add(more.len()))?;
+    quads.push_all(&mut all)?;
+    let mut after = gone.lacked(all);
+    more.push_all(&mut after)?;
+    merged(after)
+}
+
+impl QuadSet {
+    /// No quads. It takes no memory.
+    pub fn new(alloc: Global) -> QuadSet
+        ensures { result ≡ [] }
+    {
+        QuadSet {
+            entries: Entries::Narrow(Vec::new(alloc)),
+        }
+    }
+
+    /// This set of quads.
+    pub fn from_set(alloc: Global, quads: Vec<Quad<Id>>) -> Result<QuadSet, AllocError>
+        requires { IsStrictlySortedBy (quad_order id_order) quads.items }
+        ensures { IfOk result (λ set. set ≡ quads.items) }
+    {
+        let entries = match known_quads(alloc, &quads)? {
+            Some(known) => Entries::Narrow(known),
+            None => Entries::Wide(quads),
+        };
+        Ok(QuadSet { entries })
+    }
+
+    /// The set of these quads, in any order and with repeats.
+    pub fn of_quads(alloc: Global, quads: Vec<Quad<Id>>) -> Result<QuadSet, AllocError>
+        ensures { IfOk result (λ set. set ≡ the_set_of (quad_order id_order) quads.items) }
+    {
+        let entries = match known_quads(alloc, &quads)? {
+            Some(known) => Entries::Narrow(known_set(known)),
+            None => Entries::Wide(set_of(quads)),
+        };
+        Ok(QuadSet { entries })
+    }
+
+    /// The set of the quads that are none of a set's, and of more. It is fastest where both are of known terms.
+    pub fn changed(
+        alloc: Global,
+        quads: &QuadSlice<'_>,
+        gone: &QuadSlice<'_>,
+        more: &QuadSlice<'_>,
+    ) -> Result<QuadSet, AllocError>
+        ensures { IfOk result (λ set. set ≡ union (quad_order id_order)
+            (without (quad_order id_order) quads.now gone.now) more.now) }
+    {
+        if let (Part::Narrow(known), Part::Narrow(going), Part::Narrow(coming)) = (
+            quads.entries(),
+            gone.entries(),
+            more.entries(),
+        ) {
+            let after = known_changed(alloc, known, going, coming)?;
+            return Ok(QuadSet {
+                entries: Entries::Narrow(after),
+            });
+        }
+        let after = wide_changed(alloc, quads, gone, more)?;
+        Ok(QuadSet {
+            entries: Entries::Wide(after),
+        })
+    }
+
+    /// The quads of either set.
+    pub fn union(
+        alloc: Global,
+        quads: &QuadSlice<'_>,
+        more: &QuadSlice<'_>,
+    ) -> Result<QuadSet, AllocError>
+        ensures { IfOk result (λ set. set ≡ union (quad_order id_order) quads.now more.now) }
+    {
+        QuadSet::changed(alloc, quads, &QuadSlice::new(), more)
+    }
+
+    /// The quads of a set that are none of another's.
+    pub fn without(
+        alloc: Global,
+        quads: &QuadSlice<'_>,
+        gone: &QuadSlice<'_>,
+    ) -> Result<QuadSet, AllocError>
+        ensures { IfOk result (λ set. set ≡ without (quad_order id_order) quads.now gone.now) }
+    {
+        quads.rises();
+        QuadSet::changed(alloc, quads, gone, &QuadSlice::new())
+    }
+
+    /// The quads of an index.
+    pub fn of_index(alloc: Global, index: &Index) -> Result<QuadSet, AllocError>
+        ensures { IfOk result (λ set. set ≡ index.now.quads) }
+    {
+        index.rises();
+        let entries = index.entries(alloc)?;
+        Ok(QuadSet { entries })
+    }
+
+    /// Its quads, lent.
+    pub fn as_slice(&self) -> QuadSlice<'_>
+        ensures value { result ≡ self.now }
+        ensures set { IsStrictlySortedBy (quad_order id_order) result }
+    {
+        let entries = match &self.entries {
+            Entries::Narrow(known) => Part::Narrow(known),
+            Entries::Wide(quads) => Part::Wide(quads),
+        };
+        QuadSlice::of_entries(entries)
+    }
+}
