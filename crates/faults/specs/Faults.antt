@@ -15,7 +15,7 @@ use Rattle.syntax_trees.specs.declared.tree.Step.{Step}
 use Rattle.syntax_trees.specs.declared.tree.Step.TheVariants as step
 use Rattle.syntax_trees.specs.declared.tree.Syntax.{Syntax}
 use Rattle.names.specs.Names.{Prefixes, declare, iri_of, is_lang_iri}
-use Rattle.nodes.specs.Nodes.{nodes_of_operation, nodes_of_blocks}
+use Rattle.nodes.specs.Nodes.{nodes_of_operation, nodes_of_blocks, deleted_of}
 use Rattle.names.specs.Numbers.{Labels, labels_of, is_label_in, with_labels}
 
 -- ---- names
@@ -79,17 +79,6 @@ data_of (operation.InsertData qs) = qs
 data_of (operation.DeleteData qs) = qs
 data_of (operation.DeleteWhere qs) = []
 data_of (operation.Modify n xs ys g) = []
-
--- the quads of DELETE DATA, DELETE WHERE and a DELETE template
-abbrev pub deleted_of : Operation → List Block
-deleted_of (operation.Create silent n) = []
-deleted_of (operation.Drop silent t) = []
-deleted_of (operation.Clear silent t) = []
-deleted_of (operation.Transfer how silent from to) = []
-deleted_of (operation.InsertData qs) = []
-deleted_of (operation.DeleteData qs) = qs
-deleted_of (operation.DeleteWhere qs) = qs
-deleted_of (operation.Modify n xs ys g) = xs
 
 -- what an operation is refused for, with the prefixes that are declared before it
 abbrev pub is_refused : Refusal → Prefixes → Operation → Bool

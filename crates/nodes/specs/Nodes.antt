@@ -84,6 +84,17 @@ nodes_of_where (operation.DeleteData qs) = []
 nodes_of_where (operation.DeleteWhere qs) = nodes_of_blocks qs
 nodes_of_where (operation.Modify n xs ys g) = nodes_of_parts (group g)
 
+-- the quads of DELETE DATA, DELETE WHERE and a DELETE template
+abbrev pub deleted_of : Operation → List Block
+deleted_of (operation.Create silent n) = []
+deleted_of (operation.Drop silent t) = []
+deleted_of (operation.Clear silent t) = []
+deleted_of (operation.Transfer how silent from to) = []
+deleted_of (operation.InsertData qs) = []
+deleted_of (operation.DeleteData qs) = qs
+deleted_of (operation.DeleteWhere qs) = qs
+deleted_of (operation.Modify n xs ys g) = xs
+
 abbrev pub nodes_of_operation : Operation → List Node
 nodes_of_operation (operation.Create silent n) = node.Name n ∷ []
 nodes_of_operation (operation.Drop silent t) = nodes_of_target t

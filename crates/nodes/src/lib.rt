@@ -1,9 +1,10 @@
 //! The nodes that stand in an operation of a request, in the order of its text.
 //!
-//! Stands on `syntax_trees`. Used above: `operation_nodes`, `where_nodes` and `block_nodes` give the nodes of an operation, of its WHERE and of
-//! quads, as the definitions list them.
+//! Stands on `syntax_trees`. Used above: `OperationNodes` is an operation with its nodes, gathered once: all of them, those of what it deletes and
+//! those of its WHERE, as the definitions list them.
 #![tactic(auto)]
 
 mod nodes;
+mod operation_nodes;
 
-pub use nodes::{block_nodes, operation_nodes, where_nodes};
+pub use operation_nodes::OperationNodes;

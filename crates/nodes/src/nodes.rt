@@ -1,15 +1,15 @@
-//! The nodes of quads, groups and operations, one after another.
-ghost use Rattle.std.specs.Prelude.{◌≡◌, ◌++◌, ◌∷◌, [], IfOk, OnOk};
+//! The nodes of names, quads and groups, one after another.
+ghost use Rattle.std.specs.Prelude.{◌≡◌, ◌++◌, ◌∷◌, [], OnOk};
 ghost use Rattle.syntax_trees.specs.declared.tree.Node.TheVariants as node;
 ghost use Rattle.std.specs.Option.{option_to_list};
 ghost use Rattle.syntax_trees.specs.Expressions.{tree_of};
 ghost use Rattle.syntax_trees.specs.Groups.{part_of, parts_of, group};
-ghost use Rattle.nodes.specs.Nodes.{nodes_of_property, nodes_of_subject, nodes_of_triples, nodes_of_block, nodes_of_blocks, nodes_of_tree, nodes_of_part, nodes_of_parts, nodes_of_target, nodes_of_place, nodes_of_with, nodes_of_where, nodes_of_operation};
+ghost use Rattle.nodes.specs.Nodes.{nodes_of_property, nodes_of_subject, nodes_of_triples, nodes_of_block, nodes_of_blocks, nodes_of_tree, nodes_of_part, nodes_of_parts, nodes_of_target, nodes_of_place, nodes_of_with};
 
 use algebra::Target;
 use std::alloc::{AllocError, Global};
 use syntax_trees::{
-    Block, Element, Expression, Literal, Name, Node, Operation, Place, Property, SameSubject,
+    Block, Element, Expression, Literal, Name, Node, Place, Property, SameSubject,
 };
 
 /// The same name again.
@@ -101,7 +101,7 @@ fn add_block<'a>(found: &mut Vec<Node<'a>>, block: &Block<'a>) -> Result<(), All
     add_triples(found, block.triples.as_slice())
 }
 
-fn add_blocks<'a>(found: &mut Vec<Node<'a>>, blocks: &[Block<'a>]) -> Result<(), AllocError>
+pub(crate) fn add_blocks<'a>(found: &mut Vec<Node<'a>>, blocks: &[Block<'a>]) -> Result<(), AllocError>
     ensures { OnOk result (found.new.items ≡ found.old.items ++ nodes_of_blocks blocks.now) }
 {
     for block in blocks {
@@ -160,7 +160,7 @@ fn add_expression<'a>(
 }
 
 #[cycle(add_group)]
-fn add_group<'a>(
+pub(crate) fn add_group<'a>(
     alloc: Global,
     found: &mut Vec<Node<'a>>,
     elements: &[Element<'a>],
@@ -202,14 +202,14 @@ fn add_element<'a>(
     }
 }
 
-fn add_name<'a>(found: &mut Vec<Node<'a>>, name: &Name<'a>) -> Result<(), AllocError>
+pub(crate) fn add_name<'a>(found: &mut Vec<Node<'a>>, name: &Name<'a>) -> Result<(), AllocError>
     ensures { OnOk result (found.new.items ≡ found.old.items ++ node.Name name.now ∷ []) }
 {
     found.push(Node::Name(name_again(name)))?;
     Ok(())
 }
 
-fn add_target<'a>(found: &mut Vec<Node<'a>>, target: &Target<Name<'a>>) -> Result<(), AllocError>
+pub(crate) fn add_target<'a>(found: &mut Vec<Node<'a>>, target: &Target<Name<'a>>) -> Result<(), AllocError>
     ensures { OnOk result (found.new.items ≡ found.old.items ++ nodes_of_target target.now) }
 {
     match target {
@@ -218,7 +218,7 @@ fn add_target<'a>(found: &mut Vec<Node<'a>>, target: &Target<Name<'a>>) -> Resul
     }
 }
 
-fn add_place<'a>(found: &mut Vec<Node<'a>>, place: &Place<'a>) -> Result<(), AllocError>
+pub(crate) fn add_place<'a>(found: &mut Vec<Node<'a>>, place: &Place<'a>) -> Result<(), AllocError>
     ensures { OnOk result (found.new.items ≡ found.old.items ++ nodes_of_place place.now) }
 {
     match place {
@@ -227,98 +227,11 @@ fn add_place<'a>(found: &mut Vec<Node<'a>>, place: &Place<'a>) -> Result<(), All
     }
 }
 
-fn add_with<'a>(found: &mut Vec<Node<'a>>, graph: &Option<Name<'a>>) -> Result<(), AllocError>
+pub(crate) fn add_with<'a>(found: &mut Vec<Node<'a>>, graph: &Option<Name<'a>>) -> Result<(), AllocError>
     ensures { OnOk result (found.new.items ≡ found.old.items ++ nodes_of_with graph.now) }
 {
     match graph {
         Some(name) => add_name(found, name),
         None => Ok(()),
     }
-}
-
-fn add_where<'a>(
-    alloc: Global,
-    found: &mut Vec<Node<'a>>,
-    operation: &Operation<'a>,
-) -> Result<(), AllocError>
-    ensures { OnOk result (found.new.items ≡ found.old.items ++ nodes_of_where operation.now) }
-{
-    match operation {
-        Operation::DeleteWhere(quads) => add_blocks(found, quads.as_slice()),
-        Operation::Modify { pattern, .. } => add_group(alloc, found, pattern.elements()),
-        Operation::Create { .. }
-        | Operation::Drop { .. }
-        | Operation::Clear { .. }
-        | Operation::Transfer { .. }
-        | Operation::InsertData(_)
-        | Operation::DeleteData(_) => Ok(()),
-    }
-}
-
-fn add_operation<'a>(
-    alloc: Global,
-    found: &mut Vec<Node<'a>>,
-    operation: &Operation<'a>,
-) -> Result<(), AllocError>
-    ensures { OnOk result (found.new.items ≡ found.old.items ++ nodes_of_operation operation.now) }
-{
-    match operation {
-        Operation::Create { graph, .. } => add_name(found, graph),
-        Operation::Drop { target, .. } => add_target(found, target),
-        Operation::Clear { target, .. } => add_target(found, target),
-        Operation::Transfer { from, to, .. } => {
-            add_place(found, from)?;
-            add_place(found, to)
-        }
-        Operation::InsertData(quads) => add_blocks(found, quads.as_slice()),
-        Operation::DeleteData(quads) => add_blocks(found, quads.as_slice()),
-        Operation::DeleteWhere(quads) => add_blocks(found, quads.as_slice()),
-        Operation::Modify {
-            with,
-            delete,
-            insert,
-            pattern,
-        } => {
-            add_with(found, with)?;
-            add_blocks(found, delete.as_slice())?;
-            add_blocks(found, insert.as_slice())?;
-            add_group(alloc, found, pattern.elements())
-        }
-    }
-}
-
-/// The nodes of quads, in the order of their text (SPARQL 1.1 Update, 19.8, productions 50 to 52): of each block the node of its GRAPH, if it has
-/// one, and those of its triples. An error comes only where a growth was refused.
-pub fn block_nodes<'a>(alloc: Global, blocks: &[Block<'a>]) -> Result<Vec<Node<'a>>, AllocError>
-    ensures { IfOk result (λ nodes. nodes.items ≡ nodes_of_blocks blocks.now) }
-{
-    let mut nodes = Vec::new(alloc);
-    add_blocks(&mut nodes, blocks)?;
-    Ok(nodes)
-}
-
-/// The nodes of an operation's WHERE, in the order of its text (SPARQL 1.1 Update, 19.8, productions 40 and 41). DELETE WHERE has its quads there,
-/// and operations on graphs and on data have none. An error comes only where a growth was refused.
-pub fn where_nodes<'a>(
-    alloc: Global,
-    operation: &Operation<'a>,
-) -> Result<Vec<Node<'a>>, AllocError>
-    ensures { IfOk result (λ nodes. nodes.items ≡ nodes_of_where operation.now) }
-{
-    let mut nodes = Vec::new(alloc);
-    add_where(alloc, &mut nodes, operation)?;
-    Ok(nodes)
-}
-
-/// The nodes of an operation, in the order of its text (SPARQL 1.1 Update, 19.8, production 30): names of graphs, WITH, templates and WHERE. An
-/// error comes only where a growth was refused.
-pub fn operation_nodes<'a>(
-    alloc: Global,
-    operation: &Operation<'a>,
-) -> Result<Vec<Node<'a>>, AllocError>
-    ensures { IfOk result (λ nodes. nodes.items ≡ nodes_of_operation operation.now) }
-{
-    let mut nodes = Vec::new(alloc);
-    add_operation(alloc, &mut nodes, operation)?;
-    Ok(nodes)
 }

@@ -41,8 +41,8 @@ use Rattle.syntax_trees.specs.declared.tree.Step.TheVariants as step
 use Rattle.syntax_trees.specs.Groups.{group}
 use Rattle.names.specs.Names.{Prefixes, declare, name_term}
 use Rattle.names.specs.Numbers.{Labels, variables_of, labels_of, with_labels, label_number}
-use Rattle.nodes.specs.Nodes.{nodes_of_blocks, nodes_of_parts, nodes_of_target, nodes_of_place, nodes_of_with, nodes_of_where, nodes_of_operation}
-use Rattle.faults.specs.Faults.{is_lang_node, is_undeclared_node, is_blank, deleted_of, is_refused, any_refused, operation_count, has_fault}
+use Rattle.nodes.specs.Nodes.{nodes_of_blocks, nodes_of_parts, nodes_of_target, nodes_of_place, nodes_of_with, nodes_of_where, nodes_of_operation, deleted_of}
+use Rattle.faults.specs.Faults.{is_lang_node, is_undeclared_node, is_blank, is_refused, any_refused, operation_count, has_fault}
 use Rattle.group_translation.specs.Triples.{template_of}
 use Rattle.group_translation.specs.Groups.{translated_group, quads_pattern}
 use Rattle.translation.specs.Translation.{target_of, graph_at, modify_with, operation_with, operation_of, translated_after, translated}
