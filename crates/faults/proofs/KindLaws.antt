@@ -1,86 +1,64 @@
--- What was found in the steps before, and what those that are left are refused for.
-use Rattle.std.proofs.Common.{◌≡◌, ℕ, ◌+◌, ◌<◌, Bool, true, false, List, [], ◌∷◌, length, get_or, drop, sym, ap, subst, ◌∙◌}
+-- What a walk has found, and what those steps that are left are refused for.
+use Rattle.std.proofs.Common.{◌≡◌, ℕ, ◌+◌, ◌<◌, Bool, true, false, List, [], ◌∷◌, length, get_or, drop, refl, sym, ap, subst, ◌∙◌}
 use Rattle.std.proofs.lemmas.List.{drop_more}
 use Rattle.std.specs.Prelude.{◌||◌}
 use Rattle.meaning.specs.declared.reply.Refusal.TheVariants as refusal
 use Rattle.syntax_trees.specs.declared.tree.Operation.{Operation}
 use Rattle.syntax_trees.specs.declared.tree.Step.{Step}
 use Rattle.syntax_trees.specs.declared.tree.Step.TheVariants as step
-use Rattle.names.specs.Names.{Prefixes, declare}
+use Rattle.syntax_trees.specs.declared.tree.Syntax.{Syntax}
+use Rattle.names.specs.Names.{Prefixes}
 use Rattle.names.specs.Numbers.{Labels, with_labels}
 use Rattle.faults.specs.declared.kinds.Kinds.{Kinds}
+use Rattle.faults.specs.declared.walk.Walk.{Walk}
 use Rattle.faults.specs.Faults.{any_refused, is_reused_after, inserted_labels}
-use Rattle.faults.specs.Kinds.{AreKindsAt}
+use Rattle.faults.specs.Kinds.{AreKindsAt, AreKindsIn}
+use Rattle.faults.specs.Walk.{kinds_with}
 
--- what was found, or is in the steps that are left, is what is in all
-pub record AreLeft (kinds : Kinds) (ds : Prefixes) (seen : Labels) (rest all : List Step) : Type 0 where
-  pub syntax : (kinds.syntax || any_refused refusal.Syntax ds rest) ≡ any_refused refusal.Syntax [] all
-  pub prefix : (kinds.prefix || any_refused refusal.Prefix ds rest) ≡ any_refused refusal.Prefix [] all
-  pub variable_in_data : (kinds.variable_in_data || any_refused refusal.VariableInData ds rest) ≡ any_refused refusal.VariableInData [] all
-  pub blank_in_delete : (kinds.blank_in_delete || any_refused refusal.BlankInDelete ds rest) ≡ any_refused refusal.BlankInDelete [] all
-  pub label_reused : (kinds.label_reused || is_reused_after seen rest) ≡ is_reused_after [] all
+next : (before here fault after : Bool) → here ≡ fault → ((before || here) || after) ≡ (before || (fault || after))
+next true here fault after e = refl
+next false here fault after e = ap (λ b. b || after) e
 
-next : (before here fault after whole : Bool) → here ≡ fault → (before || (fault || after)) ≡ whole → ((before || here) || after) ≡ whole
-next true here fault after whole e h = h
-next false here fault after whole e h = ap (λ b. b || after) e ∙ h
+no_more : (before more : Bool) → more ≡ false → (before || more) ≡ before
+no_more true more e = refl
+no_more false more e = e
 
-pub none_left : (kinds : Kinds) (ds : Prefixes) (seen : Labels) (all : List Step) → AreLeft kinds ds seen [] all
-    → (kinds.syntax ≡ any_refused refusal.Syntax [] all) × (kinds.prefix ≡ any_refused refusal.Prefix [] all)
-    × (kinds.variable_in_data ≡ any_refused refusal.VariableInData [] all) × (kinds.blank_in_delete ≡ any_refused refusal.BlankInDelete [] all)
-    × (kinds.label_reused ≡ is_reused_after [] all)
-none_left kinds ds seen all left = (
-  last kinds.syntax left.syntax,
-  last kinds.prefix left.prefix,
-  last kinds.variable_in_data left.variable_in_data,
-  last kinds.blank_in_delete left.blank_in_delete,
-  last kinds.label_reused left.label_reused,
-)
-  where
-    last : {whole : Bool} (b : Bool) → (b || false) ≡ whole → b ≡ whole
-    last true h = h
-    last false h = h
+-- an operation was seen
+pub seen_is : (w w' : Walk) (op : Operation) (more : Kinds) (steps : List Step) → AreKindsAt w.prefixes w.seen op more
+    → w'.kinds ≡ record { syntax = w.kinds.syntax || more.syntax; prefix = w.kinds.prefix || more.prefix; variable_in_data = w.kinds.variable_in_data || more.variable_in_data; blank_in_delete = w.kinds.blank_in_delete || more.blank_in_delete; label_reused = w.kinds.label_reused || more.label_reused; limit = w.kinds.limit || more.limit }
+    → w'.prefixes ≡ w.prefixes → w'.seen ≡ with_labels (inserted_labels op) w.seen → kinds_with w' steps ≡ kinds_with w (step.Do op ∷ steps)
+seen_is w w' op more steps are is same_prefixes more_seen =
+    let kept : kinds_with w' steps ≡ record { syntax = w'.kinds.syntax || any_refused refusal.Syntax w.prefixes steps; prefix = w'.kinds.prefix || any_refused refusal.Prefix w.prefixes steps; variable_in_data = w'.kinds.variable_in_data || any_refused refusal.VariableInData w.prefixes steps; blank_in_delete = w'.kinds.blank_in_delete || any_refused refusal.BlankInDelete w.prefixes steps; label_reused = w'.kinds.label_reused || is_reused_after (with_labels (inserted_labels op) w.seen) steps; limit = w'.kinds.limit } =
+        λ i. record { syntax = w'.kinds.syntax || any_refused refusal.Syntax (same_prefixes i) steps; prefix = w'.kinds.prefix || any_refused refusal.Prefix (same_prefixes i) steps; variable_in_data = w'.kinds.variable_in_data || any_refused refusal.VariableInData (same_prefixes i) steps; blank_in_delete = w'.kinds.blank_in_delete || any_refused refusal.BlankInDelete (same_prefixes i) steps; label_reused = w'.kinds.label_reused || is_reused_after (more_seen i) steps; limit = w'.kinds.limit } in
+    let syntax = ap (λ (k : Kinds). k.syntax || any_refused refusal.Syntax w.prefixes steps) is ∙ next w.kinds.syntax more.syntax _ (any_refused refusal.Syntax w.prefixes steps) are.syntax in
+    let prefix = ap (λ (k : Kinds). k.prefix || any_refused refusal.Prefix w.prefixes steps) is ∙ next w.kinds.prefix more.prefix _ (any_refused refusal.Prefix w.prefixes steps) are.prefix in
+    let variable_in_data = ap (λ (k : Kinds). k.variable_in_data || any_refused refusal.VariableInData w.prefixes steps) is
+        ∙ next w.kinds.variable_in_data more.variable_in_data _ (any_refused refusal.VariableInData w.prefixes steps) are.variable_in_data in
+    let blank_in_delete = ap (λ (k : Kinds). k.blank_in_delete || any_refused refusal.BlankInDelete w.prefixes steps) is
+        ∙ next w.kinds.blank_in_delete more.blank_in_delete _ (any_refused refusal.BlankInDelete w.prefixes steps) are.blank_in_delete in
+    let label_reused = ap (λ (k : Kinds). k.label_reused || is_reused_after (with_labels (inserted_labels op) w.seen) steps) is
+        ∙ next w.kinds.label_reused more.label_reused _ (is_reused_after (with_labels (inserted_labels op) w.seen) steps) are.label_reused in
+    let limit = ap (λ (k : Kinds). k.limit) is ∙ no_more w.kinds.limit more.limit are.limit in
+    kept ∙ (λ i. record { syntax = syntax i; prefix = prefix i; variable_in_data = variable_in_data i; blank_in_delete = blank_in_delete i; label_reused = label_reused i; limit = limit i })
 
-module _ (kinds : Kinds) (ds : Prefixes) (seen : Labels) (rest all : List Step) where
-  pub declared : (prefix iri : List ℕ) → AreLeft kinds ds seen (step.Declare prefix iri ∷ rest) all → AreLeft kinds (declare prefix iri ds) seen rest all
-  declared prefix iri left =
-      record { syntax = left.syntax; prefix = left.prefix; variable_in_data = left.variable_in_data; blank_in_delete = left.blank_in_delete; label_reused = left.label_reused }
+-- a step further in a request
+pub stepped : (s : Syntax) (xs : List Step) (i : ℕ) (x y : Step) (w w' : Walk) → xs ≡ s.steps → i < length xs → x ≡ get_or xs i x → x ≡ y
+    → ((steps : List Step) → kinds_with w' steps ≡ kinds_with w (y ∷ steps)) → AreKindsIn s (kinds_with w (drop i s.steps)) → AreKindsIn s (kinds_with w' (drop (i + 1) s.steps))
+stepped s xs i x y w w' all lt is e further are =
+    let rest : drop i s.steps ≡ y ∷ drop (i + 1) s.steps =
+        ap (drop i) (sym all) ∙ drop_more xs i x lt ∙ (let first = sym is ∙ e in λ j. first j ∷ drop (i + 1) (all j)) in
+    subst (λ (k : Kinds). AreKindsIn s k) (ap (kinds_with w) rest ∙ sym (further (drop (i + 1) s.steps))) are
 
-  pub done : (op : Operation) (more with : Kinds) → AreKindsAt ds seen op more
-      → with ≡ record { syntax = kinds.syntax || more.syntax; prefix = kinds.prefix || more.prefix; variable_in_data = kinds.variable_in_data || more.variable_in_data; blank_in_delete = kinds.blank_in_delete || more.blank_in_delete; label_reused = kinds.label_reused || more.label_reused; limit = kinds.limit || more.limit }
-      → AreLeft kinds ds seen (step.Do op ∷ rest) all → AreLeft with ds (with_labels (inserted_labels op) seen) rest all
-  done op more with are e left = record {
-    syntax = ap (λ (k : Kinds). k.syntax || any_refused refusal.Syntax ds rest) e ∙ next kinds.syntax more.syntax _ _ _ are.syntax left.syntax;
-    prefix = ap (λ (k : Kinds). k.prefix || any_refused refusal.Prefix ds rest) e ∙ next kinds.prefix more.prefix _ _ _ are.prefix left.prefix;
-    variable_in_data = ap (λ (k : Kinds). k.variable_in_data || any_refused refusal.VariableInData ds rest) e
-        ∙ next kinds.variable_in_data more.variable_in_data _ _ _ are.variable_in_data left.variable_in_data;
-    blank_in_delete = ap (λ (k : Kinds). k.blank_in_delete || any_refused refusal.BlankInDelete ds rest) e
-        ∙ next kinds.blank_in_delete more.blank_in_delete _ _ _ are.blank_in_delete left.blank_in_delete;
-    label_reused = ap (λ (k : Kinds). k.label_reused || is_reused_after (with_labels (inserted_labels op) seen) rest) e
-        ∙ next kinds.label_reused more.label_reused _ _ _ are.label_reused left.label_reused;
-  }
+-- nothing is left
+none_left : (found : Bool) → found ≡ (found || false)
+none_left true = refl
+none_left false = refl
 
--- a step further in a list
-module _ (kinds : Kinds) (ds : Prefixes) (seen : Labels) (xs : List Step) (i : ℕ) (x : Step) (lt : i < length xs) (is : x ≡ get_or xs i x) where
-  here : AreLeft kinds ds seen (drop i xs) xs → AreLeft kinds ds seen (x ∷ drop (i + 1) xs) xs
-  here = subst (λ rest. AreLeft kinds ds seen rest xs) (drop_more xs i x lt ∙ ap (λ (y : Step). y ∷ drop (i + 1) xs) (sym is))
-
-  pub declared_here : (prefix iri : List ℕ) (kinds' : Kinds) (ds' : Prefixes) (seen' : Labels) → x ≡ step.Declare prefix iri
-      → kinds' ≡ kinds → ds' ≡ declare prefix iri ds → seen' ≡ seen → AreLeft kinds ds seen (drop i xs) xs → AreLeft kinds' ds' seen' (drop (i + 1) xs) xs
-  declared_here prefix iri kinds' ds' seen' e same_kinds same_ds same_seen left =
-      let rest = drop (i + 1) xs in
-      subst (λ k. AreLeft k ds' seen' rest xs) (sym same_kinds) (subst (λ s. AreLeft kinds ds' s rest xs) (sym same_seen)
-      (subst (λ p. AreLeft kinds p seen rest xs) (sym same_ds)
-      (declared kinds ds seen rest xs prefix iri (subst (λ (y : Step). AreLeft kinds ds seen (y ∷ rest) xs) e (here left)))))
-
-  pub done_here : (op : Operation) (more kinds' : Kinds) (ds' : Prefixes) (seen' : Labels) → x ≡ step.Do op → AreKindsAt ds seen op more
-      → kinds' ≡ record { syntax = kinds.syntax || more.syntax; prefix = kinds.prefix || more.prefix; variable_in_data = kinds.variable_in_data || more.variable_in_data; blank_in_delete = kinds.blank_in_delete || more.blank_in_delete; label_reused = kinds.label_reused || more.label_reused; limit = kinds.limit || more.limit }
-      → ds' ≡ ds → seen' ≡ with_labels (inserted_labels op) seen → AreLeft kinds ds seen (drop i xs) xs → AreLeft kinds' ds' seen' (drop (i + 1) xs) xs
-  done_here op more kinds' ds' seen' e are with same_ds same_seen left =
-      let rest = drop (i + 1) xs in
-      subst (λ s. AreLeft kinds' ds' s rest xs) (sym same_seen) (subst (λ p. AreLeft kinds' p (with_labels (inserted_labels op) seen) rest xs) (sym same_ds)
-      (done kinds ds seen rest xs op more kinds' are with (subst (λ (y : Step). AreLeft kinds ds seen (y ∷ rest) xs) e (here left))))
-
--- no operation is refused for a limit
-pub or_limit : (found more : Bool) → more ≡ false → (found || more) ≡ found
-or_limit true more e = ap (λ b. true || b) e
-or_limit false more e = e
+pub kinds_are : (w : Walk) → w.kinds ≡ kinds_with w []
+kinds_are w =
+    let syntax = none_left w.kinds.syntax in
+    let prefix = none_left w.kinds.prefix in
+    let variable_in_data = none_left w.kinds.variable_in_data in
+    let blank_in_delete = none_left w.kinds.blank_in_delete in
+    let label_reused = none_left w.kinds.label_reused in
+    λ i. record { syntax = syntax i; prefix = prefix i; variable_in_data = variable_in_data i; blank_in_delete = blank_in_delete i; label_reused = label_reused i; limit = w.kinds.limit }

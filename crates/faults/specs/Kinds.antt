@@ -1,6 +1,7 @@
 -- The kinds of fault that are in a request, or in an operation of one.
-use Rattle.std.specs.Prelude.{◌≡◌, false}
+use Rattle.std.specs.Prelude.{◌≡◌, Bool, false}
 use Rattle.std.specs.List.{list_any}
+use Rattle.meaning.specs.declared.reply.Refusal.{Refusal}
 use Rattle.meaning.specs.declared.reply.Refusal.TheVariants as refusal
 use Rattle.syntax_trees.specs.declared.tree.Operation.{Operation}
 use Rattle.syntax_trees.specs.declared.tree.Syntax.{Syntax}
@@ -8,6 +9,15 @@ use Rattle.names.specs.Names.{Prefixes}
 use Rattle.names.specs.Numbers.{Labels, is_label_in}
 use Rattle.faults.specs.declared.kinds.Kinds.{Kinds}
 use Rattle.faults.specs.Faults.{is_refused, inserted_labels, has_fault}
+
+-- one of the kinds is among them
+abbrev pub is_among : Kinds → Refusal → Bool
+is_among kinds refusal.Syntax = kinds.syntax
+is_among kinds refusal.Prefix = kinds.prefix
+is_among kinds refusal.VariableInData = kinds.variable_in_data
+is_among kinds refusal.BlankInDelete = kinds.blank_in_delete
+is_among kinds refusal.LabelReused = kinds.label_reused
+is_among kinds refusal.Limit = kinds.limit
 
 -- what an operation is refused for after these declarations and labels, but for limits, which are of a whole request
 pub record AreKindsAt (ds : Prefixes) (seen : Labels) (op : Operation) (kinds : Kinds) : Type 0 where

@@ -1,23 +1,16 @@
-//! What requests are refused for.
-ghost use Rattle.std.specs.Prelude.{◌≡◌, ◌||◌, ◌^◌, [], nat_lt, IfOk, OnOk};
+//! What operations are refused for.
+ghost use Rattle.std.specs.Prelude.{◌≡◌, [], OnOk};
 ghost use Rattle.std.specs.List.{list_any};
 ghost use Rattle.meaning.specs.declared.reply.Refusal.TheVariants as refusal;
 ghost use Rattle.names.specs.Numbers.{labels_of, is_label_in, with_labels};
-ghost use Rattle.nodes.specs.Nodes.{nodes_of_operation};
-ghost use Rattle.faults.specs.Faults.{is_lang_literal, is_lang_node, is_undeclared, is_undeclared_literal, is_undeclared_node, is_variable, is_blank, is_refused, inserted_labels, operation_count};
-ghost use Rattle.faults.specs.Kinds.{AreKindsAt, AreKindsIn};
+ghost use Rattle.faults.specs.Faults.{is_lang_literal, is_lang_node, is_undeclared, is_undeclared_literal, is_undeclared_node, is_variable, is_blank, is_refused, inserted_labels};
+ghost use Rattle.faults.specs.Kinds.{AreKindsAt};
 
 use crate::kinds::Kinds;
 use names::{Labels, Prefixes};
-use nodes::{block_nodes, operation_nodes};
-use std::alloc::{AllocError, Global};
-use syntax_trees::{Literal, Node, Operation, Step, Syntax};
-
-/// How many bytes a request has at most.
-const MOST_BYTES: usize = 1 << 20;
-
-/// How many operations a request has at most.
-const MOST_OPERATIONS: usize = 256;
+use nodes::OperationNodes;
+use std::alloc::AllocError;
+use syntax_trees::{Literal, Node, Operation};
 
 fn is_lang_literal<'a>(prefixes: &Prefixes<'a>, literal: &Literal<'a>) -> bool
     ensures { result ≡ is_lang_literal prefixes.now literal.now }
@@ -106,33 +99,13 @@ fn any_blank(nodes: &[Node<'_>]) -> bool
     nodes.iter().any(|node| is_blank(node))
 }
 
-// Whether data has a variable, of the nodes of an operation.
-fn has_variable_in_data<'a>(operation: &Operation<'a>, nodes: &[Node<'a>]) -> bool
-    requires { nodes.now ≡ nodes_of_operation operation.now }
-    ensures { (result ≡ is_refused refusal.VariableInData [] operation.now) }
+/// Whether data has a variable.
+fn has_variable_in_data(nodes: &OperationNodes<'_, '_>) -> bool
+    ensures { (result ≡ is_refused refusal.VariableInData [] nodes.now) }
 {
-    match operation {
-        Operation::InsertData(_) | Operation::DeleteData(_) => any_variable(nodes),
+    match nodes.operation() {
+        Operation::InsertData(_) | Operation::DeleteData(_) => any_variable(nodes.all()),
         _ => false,
-    }
-}
-
-// Whether a deletion has a blank node, of the nodes of an operation.
-fn has_blank_in_delete<'a>(
-    alloc: Global,
-    operation: &Operation<'a>,
-    nodes: &[Node<'a>],
-) -> Result<bool, AllocError>
-    requires { nodes.now ≡ nodes_of_operation operation.now }
-    ensures { IfOk result (λ is. is ≡ is_refused refusal.BlankInDelete [] operation.now) }
-{
-    match operation {
-        Operation::DeleteData(_) | Operation::DeleteWhere(_) => Ok(any_blank(nodes)),
-        Operation::Modify { delete, .. } => {
-            let deleted = block_nodes(alloc, delete.as_slice())?;
-            Ok(any_blank(deleted.as_slice()))
-        }
-        _ => Ok(false),
     }
 }
 
@@ -150,93 +123,43 @@ fn any_known<'a>(known: &Labels<'a>, nodes: &[Node<'a>]) -> bool
     false
 }
 
-// Whether an INSERT DATA has a label of those that were seen, of the nodes of an operation.
-fn has_reused_label<'a>(seen: &Labels<'a>, operation: &Operation<'a>, nodes: &[Node<'a>]) -> bool
-    requires { nodes.now ≡ nodes_of_operation operation.now }
-    ensures { result ≡ list_any (is_label_in seen.now) (inserted_labels operation.now) }
+/// Whether an INSERT DATA has a label of those that were seen.
+fn has_reused_label<'a>(seen: &Labels<'a>, nodes: &OperationNodes<'_, 'a>) -> bool
+    ensures { result ≡ list_any (is_label_in seen.now) (inserted_labels nodes.now) }
 {
-    match operation {
-        Operation::InsertData(_) => any_known(seen, nodes),
+    match nodes.operation() {
+        Operation::InsertData(_) => any_known(seen, nodes.all()),
         _ => false,
     }
 }
 
-// Adds the labels of an INSERT DATA to those that were seen.
-fn see_labels<'a>(
+/// Adds the labels of an INSERT DATA to those that were seen.
+pub(crate) fn see_labels<'a>(
     seen: &mut Labels<'a>,
-    operation: &Operation<'a>,
-    nodes: &[Node<'a>],
+    nodes: &OperationNodes<'_, 'a>,
 ) -> Result<(), AllocError>
-    requires { nodes.now ≡ nodes_of_operation operation.now }
-    ensures { OnOk result (seen.new ≡ with_labels (inserted_labels operation.now) seen.old) }
+    ensures { OnOk result (seen.new ≡ with_labels (inserted_labels nodes.now) seen.old) }
 {
-    match operation {
-        Operation::InsertData(_) => seen.add_nodes(nodes),
+    match nodes.operation() {
+        Operation::InsertData(_) => seen.add_nodes(nodes.all()),
         _ => Ok(()),
     }
 }
 
-// What an operation is refused for, of its nodes, after these declarations and labels.
-fn kinds_of<'a>(
-    alloc: Global,
+/// What an operation is refused for, after these declarations and labels.
+pub(crate) fn kinds_of<'a>(
     prefixes: &Prefixes<'a>,
     seen: &Labels<'a>,
-    operation: &Operation<'a>,
-    nodes: &[Node<'a>],
-) -> Result<Kinds, AllocError>
-    requires { nodes.now ≡ nodes_of_operation operation.now }
-    ensures { IfOk result (AreKindsAt prefixes.now seen.now operation.now) }
+    nodes: &OperationNodes<'_, 'a>,
+) -> Kinds
+    ensures { AreKindsAt prefixes.now seen.now nodes.now result }
 {
-    Ok(Kinds {
-        syntax: any_lang(prefixes, nodes),
-        prefix: any_undeclared(prefixes, nodes),
-        variable_in_data: has_variable_in_data(operation, nodes),
-        blank_in_delete: has_blank_in_delete(alloc, operation, nodes)?,
-        label_reused: has_reused_label(seen, operation, nodes),
+    Kinds {
+        syntax: any_lang(prefixes, nodes.all()),
+        prefix: any_undeclared(prefixes, nodes.all()),
+        variable_in_data: has_variable_in_data(nodes),
+        blank_in_delete: any_blank(nodes.of_delete()),
+        label_reused: has_reused_label(seen, nodes),
         limit: false,
-    })
-}
-
-/// How many operations a request has.
-fn operation_count(steps: &[Step<'_>]) -> usize
-    ensures { result ≡ operation_count steps.now }
-{
-    let mut count = 0;
-    for step in steps {
-        if let Step::Do(_) = step {
-            count += 1;
-        }
     }
-    count
-}
-
-/// Whether a request has too many bytes or too many operations.
-fn is_over(bytes: usize, operations: usize) -> bool
-    ensures { result ≡ (nat_lt (2 ^ 20) bytes || nat_lt 256 operations) }
-{
-    bytes > MOST_BYTES || operations > MOST_OPERATIONS
-}
-
-/// The kinds of fault that a request is refused for (SPARQL 1.1 Update, 19.8, notes 8 to 12, and the limits of this program), found in one
-/// walk. An error comes only where a growth was refused, or where INSERT DATA has 2^32 labels.
-#[tactic(auto, using(crate::proofs::KindLaws::none_left))]
-pub fn kinds_in(alloc: Global, syntax: &Syntax<'_>) -> Result<Kinds, AllocError>
-    ensures { IfOk result (AreKindsIn syntax.now) }
-{
-    let steps = syntax.steps.as_slice();
-    let mut kinds = Kinds::new(is_over(syntax.length, operation_count(steps)));
-    let mut prefixes = Prefixes::new(alloc);
-    let mut seen = Labels::new(alloc);
-    for step in steps {
-        match step {
-            Step::Declare { prefix, iri } => prefixes.declare(prefix, iri)?,
-            Step::Do(operation) => {
-                let nodes = operation_nodes(alloc, operation)?;
-                let more = kinds_of(alloc, &prefixes, &seen, operation, nodes.as_slice())?;
-                kinds = kinds.with(more);
-                see_labels(&mut seen, operation, nodes.as_slice())?;
-            }
-        }
-    }
-    Ok(kinds)
 }

@@ -1,6 +1,6 @@
 use Rattle.std.proofs.Common.{◌≡◌, ◌+◌, ◌≤◌, drop}
 use Rattle.faults.specs.Faults.{operation_count}
-use Rattle.faults.proofs.faults.operation_count.Given as goal
+use Rattle.faults.proofs.walk.operation_count.Given as goal
 
 abbrev pub invariant-loop-step : goal.invariant-loop-step
 invariant-loop-step l = record {
