@@ -1,4 +1,4 @@
-//! Requests as updates over terms.
+//! Operations of requests as updates over terms.
 ghost use Rattle.std.specs.Prelude.{◌≡◌, IfOk};
 ghost use Rattle.std.specs.Option.{option_map};
 ghost use Rattle.algebra.specs.Plans.{nothing, plan_of};
@@ -7,17 +7,16 @@ ghost use Rattle.algebra.specs.declared.update.Operation.TheVariants as made;
 ghost use Rattle.algebra.specs.declared.update.GraphOperation.TheVariants as graphs;
 ghost use Rattle.group_translation.specs.Groups.{quads_pattern};
 ghost use Rattle.names.specs.Names.{name_term};
-ghost use Rattle.names.specs.Numbers.{variables_of, labels_of, with_labels};
-ghost use Rattle.nodes.specs.Nodes.{nodes_of_where, nodes_of_operation};
-ghost use Rattle.translation.specs.Translation.{target_of, graph_at, modify_with, operation_with, operation_of, translated};
+ghost use Rattle.names.specs.Numbers.{labels_of, with_labels};
+ghost use Rattle.translation.specs.Translation.{target_of, graph_at, modify_with, operation_with, operation_of};
 
 use algebra::{GraphOperation, Modify, Operation, Pattern, Plan, Target, Transfer};
 use group_translation::{Scope, quads_pattern, template_of, translate};
 use names::{Labels, Prefixes, Variables};
-use nodes::{operation_nodes, where_nodes};
+use nodes::OperationNodes;
 use sets::Items;
 use std::alloc::{AllocError, Global};
-use syntax_trees::{Block, Name, Operation as Written, Place, Step};
+use syntax_trees::{Block, Name, Node, Operation as Written, Place};
 use terms::Term;
 
 fn target_of<'a>(
@@ -216,62 +215,33 @@ fn operation_with<'a>(
     }
 }
 
-/// The variables of WHERE.
-fn variables_of<'a>(alloc: Global, operation: &Written<'a>) -> Result<Variables<'a>, AllocError>
-    ensures { IfOk result (λ variables. variables ≡ variables_of (nodes_of_where operation.now)) }
-{
-    let nodes = where_nodes(alloc, operation)?;
-    Variables::of(alloc, nodes.as_slice())
-}
-
-/// The labels of an operation, numbered by first appearance. The IRIs of the operation's nodes are made on the way, each once.
-fn labels_of<'a>(
-    alloc: Global,
-    prefixes: &mut Prefixes<'a>,
-    operation: &Written<'a>,
-) -> Result<Labels<'a>, AllocError>
-    ensures labels { IfOk result (λ labels. labels
-        ≡ with_labels (labels_of (nodes_of_operation operation.now)) []) }
-    ensures prefixes { prefixes.new ≡ prefixes.old }
+/// The labels of an operation, numbered by first appearance.
+fn labels_of<'a>(alloc: Global, nodes: &[Node<'a>]) -> Result<Labels<'a>, AllocError>
+    ensures { IfOk result (λ labels. labels ≡ with_labels (labels_of nodes.now) []) }
 {
     let mut labels = Labels::new(alloc);
-    let nodes = operation_nodes(alloc, operation)?;
-    prefixes.keep(alloc, nodes.as_slice())?;
-    labels.add_nodes(nodes.as_slice())?;
+    labels.add_nodes(nodes)?;
     Ok(labels)
 }
 
-fn operation_of<'a>(
+/// An operation as an update (SPARQL 1.1 Update, section 3), with the prefixes that are declared before it. Its IRIs are made on the way, each once, and
+/// kept with the prefixes. A name whose prefix isn't declared, and a literal with rdf:langString as its written datatype, stand for a term that no
+/// request may have: such a request is refused. An error comes only where a growth was refused, or where the operation has 2^32 variables or labels.
+pub fn operation_of<'a>(
     alloc: Global,
     prefixes: &mut Prefixes<'a>,
-    operation: &Written<'a>,
+    nodes: &OperationNodes<'_, 'a>,
 ) -> Result<Operation<Term>, AllocError>
-    ensures operation { IfOk result (λ made. made ≡ operation_of prefixes.old operation.now) }
+    ensures operation { IfOk result (λ made. made ≡ operation_of prefixes.old nodes.now) }
     ensures prefixes { prefixes.new ≡ prefixes.old }
 {
-    let variables = variables_of(alloc, operation)?;
-    let labels = labels_of(alloc, prefixes, operation)?;
+    prefixes.keep(alloc, nodes.all())?;
+    let variables = Variables::of(alloc, nodes.of_where())?;
+    let labels = labels_of(alloc, nodes.all())?;
     let scope = Scope {
         prefixes,
         variables: &variables,
         labels: &labels,
     };
-    operation_with(alloc, &scope, operation)
-}
-
-/// The operations of a request (SPARQL 1.1 Update, section 3). A name whose prefix isn't declared before it, and a literal with rdf:langString
-/// as its written datatype, stand for a term that no request may have: such a request is refused. An error comes only where a growth was
-/// refused, or where an operation has 2^32 variables or labels.
-pub fn translated(alloc: Global, steps: &[Step<'_>]) -> Result<Items<Operation<Term>>, AllocError>
-    ensures { IfOk result (λ operations. operations ≡ translated steps.now) }
-{
-    let mut prefixes = Prefixes::new(alloc);
-    let mut operations = Items::new(alloc);
-    for step in steps {
-        match step {
-            Step::Declare { prefix, iri } => prefixes.declare(prefix, iri)?,
-            Step::Do(operation) => operations.push(operation_of(alloc, &mut prefixes, operation)?)?,
-        }
-    }
-    Ok(operations)
+    operation_with(alloc, &scope, nodes.operation())
 }
