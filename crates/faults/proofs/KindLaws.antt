@@ -29,15 +29,15 @@ pub seen_is : (w w' : Walk) (op : Operation) (more : Kinds) (steps : List Step) 
     → w'.prefixes ≡ w.prefixes → w'.seen ≡ with_labels (inserted_labels op) w.seen → kinds_with w' steps ≡ kinds_with w (step.Do op ∷ steps)
 seen_is w w' op more steps are is same_prefixes more_seen =
     let kept : kinds_with w' steps ≡ record { syntax = w'.kinds.syntax || any_refused refusal.Syntax w.prefixes steps; prefix = w'.kinds.prefix || any_refused refusal.Prefix w.prefixes steps; variable_in_data = w'.kinds.variable_in_data || any_refused refusal.VariableInData w.prefixes steps; blank_in_delete = w'.kinds.blank_in_delete || any_refused refusal.BlankInDelete w.prefixes steps; label_reused = w'.kinds.label_reused || is_reused_after (with_labels (inserted_labels op) w.seen) steps; limit = w'.kinds.limit } =
-        λ i. record { syntax = w'.kinds.syntax || any_refused refusal.Syntax (same_prefixes i) steps; prefix = w'.kinds.prefix || any_refused refusal.Prefix (same_prefixes i) steps; variable_in_data = w'.kinds.variable_in_data || any_refused refusal.VariableInData (same_prefixes i) steps; blank_in_delete = w'.kinds.blank_in_delete || any_refused refusal.BlankInDelete (same_prefixes i) steps; label_reused = w'.kinds.label_reused || is_reused_after (more_seen i) steps; limit = w'.kinds.limit } in
+    λ i. record { syntax = w'.kinds.syntax || any_refused refusal.Syntax (same_prefixes i) steps; prefix = w'.kinds.prefix || any_refused refusal.Prefix (same_prefixes i) steps; variable_in_data = w'.kinds.variable_in_data || any_refused refusal.VariableInData (same_prefixes i) steps; blank_in_delete = w'.kinds.blank_in_delete || any_refused refusal.BlankInDelete (same_prefixes i) steps; label_reused = w'.kinds.label_reused || is_reused_after (more_seen i) steps; limit = w'.kinds.limit } in
     let syntax = ap (λ (k : Kinds). k.syntax || any_refused refusal.Syntax w.prefixes steps) is ∙ next w.kinds.syntax more.syntax _ (any_refused refusal.Syntax w.prefixes steps) are.syntax in
     let prefix = ap (λ (k : Kinds). k.prefix || any_refused refusal.Prefix w.prefixes steps) is ∙ next w.kinds.prefix more.prefix _ (any_refused refusal.Prefix w.prefixes steps) are.prefix in
     let variable_in_data = ap (λ (k : Kinds). k.variable_in_data || any_refused refusal.VariableInData w.prefixes steps) is
-        ∙ next w.kinds.variable_in_data more.variable_in_data _ (any_refused refusal.VariableInData w.prefixes steps) are.variable_in_data in
+    ∙ next w.kinds.variable_in_data more.variable_in_data _ (any_refused refusal.VariableInData w.prefixes steps) are.variable_in_data in
     let blank_in_delete = ap (λ (k : Kinds). k.blank_in_delete || any_refused refusal.BlankInDelete w.prefixes steps) is
-        ∙ next w.kinds.blank_in_delete more.blank_in_delete _ (any_refused refusal.BlankInDelete w.prefixes steps) are.blank_in_delete in
+    ∙ next w.kinds.blank_in_delete more.blank_in_delete _ (any_refused refusal.BlankInDelete w.prefixes steps) are.blank_in_delete in
     let label_reused = ap (λ (k : Kinds). k.label_reused || is_reused_after (with_labels (inserted_labels op) w.seen) steps) is
-        ∙ next w.kinds.label_reused more.label_reused _ (is_reused_after (with_labels (inserted_labels op) w.seen) steps) are.label_reused in
+    ∙ next w.kinds.label_reused more.label_reused _ (is_reused_after (with_labels (inserted_labels op) w.seen) steps) are.label_reused in
     let limit = ap (λ (k : Kinds). k.limit) is ∙ no_more w.kinds.limit more.limit are.limit in
     kept ∙ (λ i. record { syntax = syntax i; prefix = prefix i; variable_in_data = variable_in_data i; blank_in_delete = blank_in_delete i; label_reused = label_reused i; limit = limit i })
 
@@ -46,7 +46,7 @@ pub stepped : (s : Syntax) (xs : List Step) (i : ℕ) (x y : Step) (w w' : Walk)
     → ((steps : List Step) → kinds_with w' steps ≡ kinds_with w (y ∷ steps)) → AreKindsIn s (kinds_with w (drop i s.steps)) → AreKindsIn s (kinds_with w' (drop (i + 1) s.steps))
 stepped s xs i x y w w' all lt is e further are =
     let rest : drop i s.steps ≡ y ∷ drop (i + 1) s.steps =
-        ap (drop i) (sym all) ∙ drop_more xs i x lt ∙ (let first = sym is ∙ e in λ j. first j ∷ drop (i + 1) (all j)) in
+    ap (drop i) (sym all) ∙ drop_more xs i x lt ∙ (let first = sym is ∙ e in λ j. first j ∷ drop (i + 1) (all j)) in
     subst (λ (k : Kinds). AreKindsIn s k) (ap (kinds_with w) rest ∙ sym (further (drop (i + 1) s.steps))) are
 
 -- nothing is left

@@ -8,9 +8,7 @@ ghost use Rattle.nodes.specs.Nodes.{nodes_of_property, nodes_of_subject, nodes_o
 
 use algebra::Target;
 use std::alloc::{AllocError, Global};
-use syntax_trees::{
-    Block, Element, Expression, Literal, Name, Node, Place, Property, SameSubject,
-};
+use syntax_trees::{Block, Element, Expression, Literal, Name, Node, Place, Property, SameSubject};
 
 /// The same name again.
 fn name_again<'a>(name: &Name<'a>) -> Name<'a>
@@ -101,7 +99,10 @@ fn add_block<'a>(found: &mut Vec<Node<'a>>, block: &Block<'a>) -> Result<(), All
     add_triples(found, block.triples.as_slice())
 }
 
-pub(crate) fn add_blocks<'a>(found: &mut Vec<Node<'a>>, blocks: &[Block<'a>]) -> Result<(), AllocError>
+pub(crate) fn add_blocks<'a>(
+    found: &mut Vec<Node<'a>>,
+    blocks: &[Block<'a>],
+) -> Result<(), AllocError>
     ensures { OnOk result (found.new.items ≡ found.old.items ++ nodes_of_blocks blocks.now) }
 {
     for block in blocks {
@@ -209,7 +210,10 @@ pub(crate) fn add_name<'a>(found: &mut Vec<Node<'a>>, name: &Name<'a>) -> Result
     Ok(())
 }
 
-pub(crate) fn add_target<'a>(found: &mut Vec<Node<'a>>, target: &Target<Name<'a>>) -> Result<(), AllocError>
+pub(crate) fn add_target<'a>(
+    found: &mut Vec<Node<'a>>,
+    target: &Target<Name<'a>>,
+) -> Result<(), AllocError>
     ensures { OnOk result (found.new.items ≡ found.old.items ++ nodes_of_target target.now) }
 {
     match target {
@@ -227,7 +231,10 @@ pub(crate) fn add_place<'a>(found: &mut Vec<Node<'a>>, place: &Place<'a>) -> Res
     }
 }
 
-pub(crate) fn add_with<'a>(found: &mut Vec<Node<'a>>, graph: &Option<Name<'a>>) -> Result<(), AllocError>
+pub(crate) fn add_with<'a>(
+    found: &mut Vec<Node<'a>>,
+    graph: &Option<Name<'a>>,
+) -> Result<(), AllocError>
     ensures { OnOk result (found.new.items ≡ found.old.items ++ nodes_of_with graph.now) }
 {
     match graph {

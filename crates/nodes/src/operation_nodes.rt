@@ -1,13 +1,13 @@
 //! The nodes of an operation, gathered once.
-ghost use Rattle.std.specs.Prelude.{◌≡◌, [], IfOk, length};
+ghost use Rattle.std.specs.Prelude.{◌≡◌, ◌++◌, [], IfOk, OnOk, length};
 ghost use Rattle.syntax_trees.specs.declared.tree.Operation.TheVariants as operation;
-ghost use Rattle.nodes.specs.Nodes.{nodes_of_blocks, nodes_of_where, nodes_of_operation, deleted_of};
+ghost use Rattle.nodes.specs.Nodes.{nodes_of_blocks, nodes_of_place, nodes_of_where, nodes_of_operation, deleted_of};
 ghost use Rattle.nodes.specs.Places.{ArePlacesOf};
 
 use crate::nodes::{add_blocks, add_group, add_name, add_place, add_target, add_with};
 use std::alloc::{AllocError, Global};
 use std::marker::Model;
-use syntax_trees::{Block, Group, Name, Node, Operation};
+use syntax_trees::{Block, Group, Name, Node, Operation, Place};
 
 /// Where among the nodes of an operation those of what it deletes begin and end, and where those of its WHERE begin, which are the last ones.
 #[derive(Clone, Copy, Drop)]
@@ -52,6 +52,48 @@ fn no_places(nodes: &[Node<'_>]) -> Places
     }
 }
 
+/// Gathers the nodes of two places.
+fn add_both<'a>(
+    found: &mut Vec<Node<'a>>,
+    from: &Place<'a>,
+    to: &Place<'a>,
+) -> Result<(), AllocError>
+    ensures { OnOk result (found.new.items ≡ found.old.items
+        ++ nodes_of_place from.now ++ nodes_of_place to.now) }
+{
+    add_place(found, from)?;
+    add_place(found, to)
+}
+
+/// Gathers the nodes of a DELETE DATA.
+fn add_delete_data<'a>(found: &mut Vec<Node<'a>>, quads: &[Block<'a>]) -> Result<Places, AllocError>
+    requires { found.old.items ≡ [] }
+    ensures { IfOk result (ArePlacesOf (operation.DeleteData quads.now) found.new.items) }
+{
+    add_blocks(found, quads)?;
+    Ok(Places {
+        delete_start: 0,
+        delete_end: found.len(),
+        where_start: found.len(),
+    })
+}
+
+/// Gathers the nodes of a DELETE WHERE.
+fn add_delete_where<'a>(
+    found: &mut Vec<Node<'a>>,
+    quads: &[Block<'a>],
+) -> Result<Places, AllocError>
+    requires { found.old.items ≡ [] }
+    ensures { IfOk result (ArePlacesOf (operation.DeleteWhere quads.now) found.new.items) }
+{
+    add_blocks(found, quads)?;
+    Ok(Places {
+        delete_start: 0,
+        delete_end: found.len(),
+        where_start: 0,
+    })
+}
+
 /// Gathers the nodes of a DELETE and INSERT with its WHERE.
 fn add_modify<'a>(
     alloc: Global,
@@ -92,34 +134,24 @@ fn add_operation<'a>(
         Operation::Create { graph, .. } => add_name(found, graph)?,
         Operation::Drop { target, .. } => add_target(found, target)?,
         Operation::Clear { target, .. } => add_target(found, target)?,
-        Operation::Transfer { from, to, .. } => {
-            add_place(found, from)?;
-            add_place(found, to)?;
-        }
+        Operation::Transfer { from, to, .. } => add_both(found, from, to)?,
         Operation::InsertData(quads) => add_blocks(found, quads.as_slice())?,
-        Operation::DeleteData(quads) => {
-            add_blocks(found, quads.as_slice())?;
-            return Ok(Places {
-                delete_start: 0,
-                delete_end: found.len(),
-                where_start: found.len(),
-            });
-        }
-        Operation::DeleteWhere(quads) => {
-            add_blocks(found, quads.as_slice())?;
-            return Ok(Places {
-                delete_start: 0,
-                delete_end: found.len(),
-                where_start: 0,
-            });
-        }
+        Operation::DeleteData(quads) => return add_delete_data(found, quads.as_slice()),
+        Operation::DeleteWhere(quads) => return add_delete_where(found, quads.as_slice()),
         Operation::Modify {
             with,
             delete,
             insert,
             pattern,
         } => {
-            return add_modify(alloc, found, with, delete.as_slice(), insert.as_slice(), pattern);
+            return add_modify(
+                alloc,
+                found,
+                with,
+                delete.as_slice(),
+                insert.as_slice(),
+                pattern,
+            );
         }
     }
     Ok(no_places(found.as_slice()))
@@ -161,7 +193,7 @@ impl<'e, 'a> OperationNodes<'e, 'a> {
     pub fn of_delete(&self) -> &[Node<'a>]
         ensures { result.now ≡ nodes_of_blocks (deleted_of self.now) }
     {
-        let (front, _) = self.nodes.as_slice().split_at(self.places.delete_end);
+        let (front, _) = self.all().split_at(self.places.delete_end);
         front.split_at(self.places.delete_start).1
     }
 
@@ -170,6 +202,6 @@ impl<'e, 'a> OperationNodes<'e, 'a> {
     pub fn of_where(&self) -> &[Node<'a>]
         ensures { result.now ≡ nodes_of_where self.now }
     {
-        self.nodes.as_slice().split_at(self.places.where_start).1
+        self.all().split_at(self.places.where_start).1
     }
 }

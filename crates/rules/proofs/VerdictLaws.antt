@@ -1,27 +1,34 @@
 -- The first fault of a reading, and what it says of the text.
-use Rattle.std.proofs.Common.{◌≡◌, ℕ, ◌+◌, ◌++◌, length-append, ◌<◌, ◌≤◌, ◌^◌, true, false, List, [], ◌∷◌, length, Option, Some, None, Result, Ok, Err, refl, sym, ap, ◌∙◌, subst, suc, add-one, arith, eqb, cond, inl, inr}
+use Rattle.std.proofs.Common.{◌≡◌, ℕ, ◌+◌, ◌++◌, length-append, ◌<◌, ◌≤◌, ◌^◌, Bool, true, false, List, [], ◌∷◌, length, get_or, drop, Option, Some, None, Result, Ok, Err, refl, sym, ap, ◌∙◌, subst, suc, add-one, arith, eqb, cond, inl, inr}
 use Rattle.std.proofs.lemmas.Bool.{cases_order, or_parts, cases_lt, lt-ltb, both_ways}
-use Rattle.std.specs.Prelude.{nat_lt, IfOk}
+use Rattle.std.proofs.lemmas.List.{append-nil, append_assoc, drop_more}
+use Rattle.std.proofs.Math.ListN.{drop_of_length-le}
+use Rattle.std.specs.Prelude.{nat_lt, IfOk, ◌||◌}
 use Rattle.std.specs.declared.alloc.AllocError.{AllocError}
 use Rattle.terms.specs.declared.term.Term.{Term}
 use Rattle.algebra.specs.declared.update.Operation.{Operation}
 use Rattle.meaning.specs.declared.reply.Refusal.{Refusal}
 use Rattle.meaning.specs.declared.reply.Refusal.TheVariants as refusal
+use Rattle.syntax_trees.specs.declared.tree.Operation.{Operation as Written}
 use Rattle.syntax_trees.specs.declared.tree.Step.{Step}
 use Rattle.syntax_trees.specs.declared.tree.Step.TheVariants as step
 use Rattle.syntax_trees.specs.declared.tree.Syntax.{Syntax}
 use Rattle.grammar.specs.Reads.{Reads, IsParsed}
 use Rattle.names.specs.Names.{Prefixes, declare}
-use Rattle.translation.specs.Translation.{translated_after, translated}
+use Rattle.translation.specs.Translation.{operation_of, translated_after, translated}
+use Rattle.faults.specs.declared.kinds.Kinds.{Kinds}
+use Rattle.faults.specs.declared.walk.Walk.{Walk}
 use Rattle.faults.specs.Faults.{operation_count, has_fault}
-use Rattle.rules.specs.Refusal.{place_of, Holds, no_reading, fault, IsRefusal, IsChecked, IsJudged, IsFirstFault, IsVerdict, IsAccepted}
+use Rattle.faults.specs.Kinds.{AreKindsIn, is_among}
+use Rattle.faults.specs.Walk.{kinds_with}
+use Rattle.rules.specs.Refusal.{place_of, Holds, no_reading, fault, IsRefusal, IsChecked, IsJudged, IsFirst, IsFirstFault, IsVerdict, IsAccepted}
 
--- ---- the first fault
+-- ---- the first kind
 
-pub is_Syntax : (s : Syntax) → has_fault refusal.Syntax s ≡ true → IsFirstFault s (Some refusal.Syntax)
-is_Syntax s holds = (holds, below)
+pub is_Syntax : (kinds : Kinds) → kinds.syntax ≡ true → IsFirst (is_among kinds) (Some refusal.Syntax)
+is_Syntax kinds holds = (holds, below)
   where
-    below : (j : Refusal) → place_of j < 0 → has_fault j s ≡ false
+    below : (j : Refusal) → place_of j < 0 → is_among kinds j ≡ false
     below refusal.Syntax lt = absurd (omega (arith, lt))
     below refusal.Prefix lt = absurd (omega (arith, lt))
     below refusal.VariableInData lt = absurd (omega (arith, lt))
@@ -29,10 +36,10 @@ is_Syntax s holds = (holds, below)
     below refusal.LabelReused lt = absurd (omega (arith, lt))
     below refusal.Limit lt = absurd (omega (arith, lt))
 
-pub is_Prefix : (s : Syntax) → has_fault refusal.Syntax s ≡ false → has_fault refusal.Prefix s ≡ true → IsFirstFault s (Some refusal.Prefix)
-is_Prefix s h0 holds = (holds, below)
+pub is_Prefix : (kinds : Kinds) → kinds.syntax ≡ false → kinds.prefix ≡ true → IsFirst (is_among kinds) (Some refusal.Prefix)
+is_Prefix kinds h0 holds = (holds, below)
   where
-    below : (j : Refusal) → place_of j < 1 → has_fault j s ≡ false
+    below : (j : Refusal) → place_of j < 1 → is_among kinds j ≡ false
     below refusal.Syntax lt = h0
     below refusal.Prefix lt = absurd (omega (arith, lt))
     below refusal.VariableInData lt = absurd (omega (arith, lt))
@@ -40,10 +47,10 @@ is_Prefix s h0 holds = (holds, below)
     below refusal.LabelReused lt = absurd (omega (arith, lt))
     below refusal.Limit lt = absurd (omega (arith, lt))
 
-pub is_VariableInData : (s : Syntax) → has_fault refusal.Syntax s ≡ false → has_fault refusal.Prefix s ≡ false → has_fault refusal.VariableInData s ≡ true → IsFirstFault s (Some refusal.VariableInData)
-is_VariableInData s h0 h1 holds = (holds, below)
+pub is_VariableInData : (kinds : Kinds) → kinds.syntax ≡ false → kinds.prefix ≡ false → kinds.variable_in_data ≡ true → IsFirst (is_among kinds) (Some refusal.VariableInData)
+is_VariableInData kinds h0 h1 holds = (holds, below)
   where
-    below : (j : Refusal) → place_of j < 2 → has_fault j s ≡ false
+    below : (j : Refusal) → place_of j < 2 → is_among kinds j ≡ false
     below refusal.Syntax lt = h0
     below refusal.Prefix lt = h1
     below refusal.VariableInData lt = absurd (omega (arith, lt))
@@ -51,10 +58,10 @@ is_VariableInData s h0 h1 holds = (holds, below)
     below refusal.LabelReused lt = absurd (omega (arith, lt))
     below refusal.Limit lt = absurd (omega (arith, lt))
 
-pub is_BlankInDelete : (s : Syntax) → has_fault refusal.Syntax s ≡ false → has_fault refusal.Prefix s ≡ false → has_fault refusal.VariableInData s ≡ false → has_fault refusal.BlankInDelete s ≡ true → IsFirstFault s (Some refusal.BlankInDelete)
-is_BlankInDelete s h0 h1 h2 holds = (holds, below)
+pub is_BlankInDelete : (kinds : Kinds) → kinds.syntax ≡ false → kinds.prefix ≡ false → kinds.variable_in_data ≡ false → kinds.blank_in_delete ≡ true → IsFirst (is_among kinds) (Some refusal.BlankInDelete)
+is_BlankInDelete kinds h0 h1 h2 holds = (holds, below)
   where
-    below : (j : Refusal) → place_of j < 3 → has_fault j s ≡ false
+    below : (j : Refusal) → place_of j < 3 → is_among kinds j ≡ false
     below refusal.Syntax lt = h0
     below refusal.Prefix lt = h1
     below refusal.VariableInData lt = h2
@@ -62,10 +69,10 @@ is_BlankInDelete s h0 h1 h2 holds = (holds, below)
     below refusal.LabelReused lt = absurd (omega (arith, lt))
     below refusal.Limit lt = absurd (omega (arith, lt))
 
-pub is_LabelReused : (s : Syntax) → has_fault refusal.Syntax s ≡ false → has_fault refusal.Prefix s ≡ false → has_fault refusal.VariableInData s ≡ false → has_fault refusal.BlankInDelete s ≡ false → has_fault refusal.LabelReused s ≡ true → IsFirstFault s (Some refusal.LabelReused)
-is_LabelReused s h0 h1 h2 h3 holds = (holds, below)
+pub is_LabelReused : (kinds : Kinds) → kinds.syntax ≡ false → kinds.prefix ≡ false → kinds.variable_in_data ≡ false → kinds.blank_in_delete ≡ false → kinds.label_reused ≡ true → IsFirst (is_among kinds) (Some refusal.LabelReused)
+is_LabelReused kinds h0 h1 h2 h3 holds = (holds, below)
   where
-    below : (j : Refusal) → place_of j < 4 → has_fault j s ≡ false
+    below : (j : Refusal) → place_of j < 4 → is_among kinds j ≡ false
     below refusal.Syntax lt = h0
     below refusal.Prefix lt = h1
     below refusal.VariableInData lt = h2
@@ -73,10 +80,10 @@ is_LabelReused s h0 h1 h2 h3 holds = (holds, below)
     below refusal.LabelReused lt = absurd (omega (arith, lt))
     below refusal.Limit lt = absurd (omega (arith, lt))
 
-pub is_Limit : (s : Syntax) → has_fault refusal.Syntax s ≡ false → has_fault refusal.Prefix s ≡ false → has_fault refusal.VariableInData s ≡ false → has_fault refusal.BlankInDelete s ≡ false → has_fault refusal.LabelReused s ≡ false → has_fault refusal.Limit s ≡ true → IsFirstFault s (Some refusal.Limit)
-is_Limit s h0 h1 h2 h3 h4 holds = (holds, below)
+pub is_Limit : (kinds : Kinds) → kinds.syntax ≡ false → kinds.prefix ≡ false → kinds.variable_in_data ≡ false → kinds.blank_in_delete ≡ false → kinds.label_reused ≡ false → kinds.limit ≡ true → IsFirst (is_among kinds) (Some refusal.Limit)
+is_Limit kinds h0 h1 h2 h3 h4 holds = (holds, below)
   where
-    below : (j : Refusal) → place_of j < 5 → has_fault j s ≡ false
+    below : (j : Refusal) → place_of j < 5 → is_among kinds j ≡ false
     below refusal.Syntax lt = h0
     below refusal.Prefix lt = h1
     below refusal.VariableInData lt = h2
@@ -84,23 +91,92 @@ is_Limit s h0 h1 h2 h3 h4 holds = (holds, below)
     below refusal.LabelReused lt = h4
     below refusal.Limit lt = absurd (omega (arith, lt))
 
-pub is_free : (s : Syntax) → has_fault refusal.Syntax s ≡ false → has_fault refusal.Prefix s ≡ false → has_fault refusal.VariableInData s ≡ false → has_fault refusal.BlankInDelete s ≡ false → has_fault refusal.LabelReused s ≡ false → has_fault refusal.Limit s ≡ false → IsFirstFault s None
-is_free s h0 h1 h2 h3 h4 h5 refusal.Syntax = h0
-is_free s h0 h1 h2 h3 h4 h5 refusal.Prefix = h1
-is_free s h0 h1 h2 h3 h4 h5 refusal.VariableInData = h2
-is_free s h0 h1 h2 h3 h4 h5 refusal.BlankInDelete = h3
-is_free s h0 h1 h2 h3 h4 h5 refusal.LabelReused = h4
-is_free s h0 h1 h2 h3 h4 h5 refusal.Limit = h5
+pub is_free : (kinds : Kinds) → kinds.syntax ≡ false → kinds.prefix ≡ false → kinds.variable_in_data ≡ false → kinds.blank_in_delete ≡ false → kinds.label_reused ≡ false → kinds.limit ≡ false → IsFirst (is_among kinds) None
+is_free kinds h0 h1 h2 h3 h4 h5 refusal.Syntax = h0
+is_free kinds h0 h1 h2 h3 h4 h5 refusal.Prefix = h1
+is_free kinds h0 h1 h2 h3 h4 h5 refusal.VariableInData = h2
+is_free kinds h0 h1 h2 h3 h4 h5 refusal.BlankInDelete = h3
+is_free kinds h0 h1 h2 h3 h4 h5 refusal.LabelReused = h4
+is_free kinds h0 h1 h2 h3 h4 h5 refusal.Limit = h5
 
-pub ruleset first_faults = (is_Syntax, is_Prefix, is_VariableInData, is_BlankInDelete, is_LabelReused, is_Limit, is_free)
+pub ruleset first_kinds = (is_Syntax, is_Prefix, is_VariableInData, is_BlankInDelete, is_LabelReused, is_Limit, is_free)
 
--- ---- the verdict
+-- ---- of a reading
 
-pub is_refused : (s : Syntax) (o : Option Refusal) (k : Refusal) → IsFirstFault s o → o ≡ Some k → IsVerdict s (Err k)
-is_refused s o k first is = subst (λ (o : Option Refusal). IsFirstFault s o) is first
+among_is : (s : Syntax) (kinds : Kinds) → AreKindsIn s kinds → (k : Refusal) → has_fault k s ≡ is_among kinds k
+among_is s kinds are refusal.Syntax = sym are.syntax
+among_is s kinds are refusal.Prefix = sym are.prefix
+among_is s kinds are refusal.VariableInData = sym are.variable_in_data
+among_is s kinds are refusal.BlankInDelete = sym are.blank_in_delete
+among_is s kinds are refusal.LabelReused = sym are.label_reused
+among_is s kinds are refusal.Limit = sym are.limit
 
-pub is_accepted : (s : Syntax) (o : Option Refusal) (update : List (Operation Term)) → IsFirstFault s o → o ≡ None → update ≡ translated s.steps → IsVerdict s (Ok update)
-is_accepted s o update first is made = (subst (λ (o : Option Refusal). IsFirstFault s o) is first, made)
+pub first_fault_is : (s : Syntax) (kinds : Kinds) (o : Option Refusal) → AreKindsIn s kinds → IsFirst (is_among kinds) o → IsFirstFault s o
+first_fault_is s kinds None are first = λ k. among_is s kinds are k ∙ first k
+first_fault_is s kinds (Some kind) are first = (among_is s kinds are kind ∙ first.0, λ j lt. among_is s kinds are j ∙ first.1 j lt)
+
+-- ---- of a walk
+
+-- nothing was found
+abbrev pub IsFree : Walk → Type 0
+IsFree w = (k : Refusal) → is_among (kinds_with w []) k ≡ false
+
+pub not_free : (w : Walk) (kinds : Kinds) (o : Option Refusal) (kind : Refusal) → kinds ≡ kinds_with w [] → IsFirst (is_among kinds) o → o ≡ Some kind → IsFree w → ⊥
+not_free w kinds o kind are first is free =
+    let found = subst (λ (o : Option Refusal). IsFirst (is_among kinds) o) is first in
+    both_ways (is_among kinds kind) (ap (λ (k : Kinds). is_among k kind) are ∙ free kind) found.0
+
+left_out : (found left : Bool) → (found || left) ≡ false → (found || false) ≡ false
+left_out true left e = e
+left_out false left e = refl
+
+-- what isn't found or left wasn't found
+not_found : (w : Walk) (steps : List Step) (k : Refusal) → is_among (kinds_with w steps) k ≡ false → is_among (kinds_with w []) k ≡ false
+not_found w steps refusal.Syntax e = left_out w.kinds.syntax _ e
+not_found w steps refusal.Prefix e = left_out w.kinds.prefix _ e
+not_found w steps refusal.VariableInData e = left_out w.kinds.variable_in_data _ e
+not_found w steps refusal.BlankInDelete e = left_out w.kinds.blank_in_delete _ e
+not_found w steps refusal.LabelReused e = left_out w.kinds.label_reused _ e
+not_found w steps refusal.Limit e = e
+
+-- what was made, with what is still to come behind it, a step further in a request
+pub made_stepped : (all made made' : List (Operation Term)) (xs steps : List Step) (i : ℕ) (x y : Step) (w w' : Walk) → xs ≡ steps → i < length xs → x ≡ get_or xs i x → x ≡ y
+    → ((rest : List Step) → kinds_with w' rest ≡ kinds_with w (y ∷ rest))
+    → (IsFree w' → made ++ translated_after w.prefixes (y ∷ drop (i + 1) steps) ≡ made' ++ translated_after w'.prefixes (drop (i + 1) steps))
+    → (IsFree w → made ++ translated_after w.prefixes (drop i steps) ≡ all) → IsFree w' → made' ++ translated_after w'.prefixes (drop (i + 1) steps) ≡ all
+made_stepped all made made' xs steps i x y w w' same lt is e further moved before free =
+    let rest : drop i steps ≡ y ∷ drop (i + 1) steps =
+    ap (drop i) (sym same) ∙ drop_more xs i x lt ∙ (let first = sym is ∙ e in λ j. first j ∷ drop (i + 1) (same j)) in
+    sym (moved free) ∙ ap (λ (ss : List Step). made ++ translated_after w.prefixes ss) (sym rest)
+    ∙ before (λ k. not_found w (y ∷ []) k (ap (λ (ks : Kinds). is_among ks k) (sym (further [])) ∙ free k))
+
+pub declared_made : (made made' : List (Operation Term)) (ds ds' : Prefixes) (prefix iri : List ℕ) (rest : List Step) → ds' ≡ declare prefix iri ds → made' ≡ made
+    → made ++ translated_after ds (step.Declare prefix iri ∷ rest) ≡ made' ++ translated_after ds' rest
+declared_made made made' ds ds' prefix iri rest declared same = let same = sym same in let declared = sym declared in λ i. same i ++ translated_after (declared i) rest
+
+pub done_made : (made made' : List (Operation Term)) (ds ds' : Prefixes) (op : Written) (rest : List Step) → ds' ≡ ds → made' ≡ made ++ operation_of ds op ∷ []
+    → made ++ translated_after ds (step.Do op ∷ rest) ≡ made' ++ translated_after ds' rest
+done_made made made' ds ds' op rest same more =
+    sym (append_assoc made (operation_of ds op ∷ []) (translated_after ds rest)) ∙ (let same = sym same in let more = sym more in λ i. more i ++ translated_after (same i) rest)
+
+-- where no step is left
+module _ (s : Syntax) (w : Walk) (xs : List Step) (i : ℕ) (kinds : Kinds) (o : Option Refusal) (same : xs ≡ s.steps) (le : length xs ≤ i)
+    (found : AreKindsIn s (kinds_with w (drop i s.steps))) (are : kinds ≡ kinds_with w []) (first : IsFirst (is_among kinds) o) where
+  none_left : drop i s.steps ≡ []
+  none_left = ap (drop i) (sym same) ∙ drop_of_length-le xs le
+
+  first_in : IsFirstFault s o
+  first_in = first_fault_is s kinds o (subst (λ (ks : Kinds). AreKindsIn s ks) (ap (kinds_with w) none_left ∙ sym are) found) first
+
+  pub is_refused : (k : Refusal) → o ≡ Some k → IsVerdict s (Err k)
+  is_refused k is = subst (λ (o : Option Refusal). IsFirstFault s o) is first_in
+
+  pub is_accepted : (update : List (Operation Term)) → (IsFree w → update ++ translated_after w.prefixes (drop i s.steps) ≡ translated s.steps) → o ≡ None → IsVerdict s (Ok update)
+  is_accepted update made is =
+      let free = subst (λ (o : Option Refusal). IsFirst (is_among kinds) o) is first in (
+        subst (λ (o : Option Refusal). IsFirstFault s o) is first_in,
+        sym (append-nil update) ∙ ap (λ (ss : List Step). update ++ translated_after w.prefixes ss) (sym none_left) ∙ made (λ k. ap (λ (ks : Kinds). is_among ks k) (sym are) ∙ free k),
+      )
 
 -- ---- of a text
 

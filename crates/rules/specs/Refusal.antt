@@ -1,5 +1,5 @@
 -- Why a request is refused: the first of the kinds that holds anywhere in it.
-use Rattle.std.specs.Prelude.{ℕ, ◌≡◌, ◌<◌, true, false, List, Option, Some, None, Result, Ok, Err}
+use Rattle.std.specs.Prelude.{ℕ, ◌≡◌, ◌<◌, Bool, true, false, List, Option, Some, None, Result, Ok, Err}
 use Rattle.terms.specs.declared.term.Term.{Term}
 use Rattle.algebra.specs.declared.update.Operation.{Operation}
 use Rattle.meaning.specs.declared.reply.Refusal.{Refusal}
@@ -45,11 +45,16 @@ abbrev pub IsJudged : List ℕ → Option Refusal → Type 0
 IsJudged text None = (update : List (Operation Term)) × IsAccepted text update
 IsJudged text (Some kind) = IsRefusal text kind
 
--- the same of a reading
-abbrev pub IsFirstFault : Syntax → Option Refusal → Type 0
-IsFirstFault s None = (k : Refusal) → has_fault k s ≡ false
-IsFirstFault s (Some kind) = (has_fault kind s ≡ true) × ((j : Refusal) → place_of j < place_of kind → has_fault j s ≡ false)
+-- the first of the kinds that hold, if one does
+abbrev pub IsFirst : (Refusal → Bool) → Option Refusal → Type 0
+IsFirst holds None = (k : Refusal) → holds k ≡ false
+IsFirst holds (Some kind) = (holds kind ≡ true) × ((j : Refusal) → place_of j < place_of kind → holds j ≡ false)
 
+-- what a reading is refused for
+abbrev pub IsFirstFault : Syntax → Option Refusal → Type 0
+IsFirstFault s kind = IsFirst (λ k. has_fault k s) kind
+
+-- the update that a reading is, or why it is refused
 abbrev pub IsVerdict : Syntax → Result (List (Operation Term)) Refusal → Type 0
 IsVerdict s (Ok update) = ((k : Refusal) → has_fault k s ≡ false) × (update ≡ translated s.steps)
 IsVerdict s (Err kind) = (has_fault kind s ≡ true) × ((j : Refusal) → place_of j < place_of kind → has_fault j s ≡ false)
