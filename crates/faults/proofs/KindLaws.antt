@@ -7,8 +7,7 @@ use Rattle.syntax_trees.specs.declared.tree.Operation.{Operation}
 use Rattle.syntax_trees.specs.declared.tree.Step.{Step}
 use Rattle.syntax_trees.specs.declared.tree.Step.TheVariants as step
 use Rattle.syntax_trees.specs.declared.tree.Syntax.{Syntax}
-use Rattle.names.specs.Names.{Prefixes}
-use Rattle.names.specs.Numbers.{Labels, with_labels}
+use Rattle.names.specs.Numbers.{with_labels}
 use Rattle.faults.specs.declared.kinds.Kinds.{Kinds}
 use Rattle.faults.specs.declared.walk.Walk.{Walk}
 use Rattle.faults.specs.Faults.{any_refused, is_reused_after, inserted_labels}

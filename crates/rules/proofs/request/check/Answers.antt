@@ -18,7 +18,7 @@ loop-step-preserved c =
     elim c.match-step.branch [
       | in-Declare+in_ok-declare-in-Declare w ↦
           let further : (steps : List Step) → kinds_with c.match-step.walk steps ≡ kinds_with c.loop-step.walk (step.Declare w.in-Declare.prefix w.in-Declare.iri ∷ steps) =
-              λ steps. ap (λ (v : Walk). kinds_with v steps) w.walk-is ∙ w.in_ok-declare-in-Declare.ensures.kinds steps in
+          λ steps. ap (λ (v : Walk). kinds_with v steps) w.walk-is ∙ w.in_ok-declare-in-Declare.ensures.kinds steps in
           record {
             found = stepped s xs i c.step-item.result _ c.loop-step.walk c.match-step.walk c.as_slice-step-items.ensures c.loop-step-test.true c.step-item.is w.in-Declare.is further c.loop-step.invariant.found;
             made = made_stepped _ c.loop-step.update c.match-step.update xs s.steps i c.step-item.result _ c.loop-step.walk c.match-step.walk c.as_slice-step-items.ensures c.loop-step-test.true c.step-item.is w.in-Declare.is further
@@ -28,7 +28,7 @@ loop-step-preserved c =
           }
       | in-Do+in_ok-take_operation-in-Do w ↦
           let further : (steps : List Step) → kinds_with c.match-step.walk steps ≡ kinds_with c.loop-step.walk (step.Do w.in-Do.operation ∷ steps) =
-              λ steps. ap (λ (v : Walk). kinds_with v steps) w.walk-is ∙ w.in_ok-take_operation-in-Do.ensures.kinds steps in
+          λ steps. ap (λ (v : Walk). kinds_with v steps) w.walk-is ∙ w.in_ok-take_operation-in-Do.ensures.kinds steps in
           record {
             found = stepped s xs i c.step-item.result _ c.loop-step.walk c.match-step.walk c.as_slice-step-items.ensures c.loop-step-test.true c.step-item.is w.in-Do.is further c.loop-step.invariant.found;
             made = made_stepped _ c.loop-step.update c.match-step.update xs s.steps i c.step-item.result _ c.loop-step.walk c.match-step.walk c.as_slice-step-items.ensures c.loop-step-test.true c.step-item.is w.in-Do.is further
