@@ -91,7 +91,8 @@ impl<'a> Walk<'a> {
     pub fn kinds(&self) -> Kinds
         ensures { result ≡ kinds_with self.now [] }
     {
-        self.kinds
+        let Walk { kinds, .. } = self;
+        *kinds
     }
 }
 
