@@ -1,7 +1,7 @@
 -- What changes make of a dataset, and of the part of it that a read asks for.
-use Rattle.std.proofs.Common.{◌≡◌, ℕ, zero, suc, set, ◌-◌, arith, ◌<◌, ◌≤◌, ◌+◌, ◌==◌, true, false, List, [], ◌∷◌, ◌++◌, length, take, drop, get_or, refl, ap, sym, ◌∙◌}
+use Rattle.std.proofs.Common.{◌≡◌, ℕ, zero, suc, set, ◌-◌, arith, ◌<◌, ◌≤◌, ◌+◌, ◌==◌, true, false, List, [], ◌∷◌, ◌++◌, length, take, get_or, refl, ap, sym, ◌∙◌}
 use Rattle.std.proofs.lemmas.Bool.{false≢true, eqb-true}
-use Rattle.std.proofs.lemmas.List.{take_more, take_rest}
+use Rattle.std.proofs.lemmas.List.{take_more}
 use Rattle.datasets.specs.Id.{id_order}
 use Rattle.change_laws.specs.Laws.{IsRising}
 use Rattle.reads.specs.Reads.{View, Delta, Read, says, applied}
@@ -83,11 +83,12 @@ pub below_one : {X : Type 0} (xs : List X) → length xs < 1 → xs ≡ []
 below_one [] lt = refl
 below_one (x ∷ xs) lt = absurd (omega (arith, lt))
 
-first_of : (cs : List Delta) (c : Delta) → 1 ≤ length cs → c ≡ get_or cs 0 c → (v : View) → changed_by (drop 1 cs) (applied c v) ≡ changed_by cs v
-unfolding changed_by
-first_of [] c le is v = absurd (omega (arith, le))
-first_of (x ∷ cs) c le is v = ap (λ y. changed_by cs (applied y v)) is
+all_taken : (cs : List Delta) → take (length cs) cs ≡ cs
+all_taken [] = refl
+all_taken (c ∷ cs) = ap (λ xs. c ∷ xs) (all_taken cs)
 
--- the first of some changes, and then the others
-pub first_apart : (cs : List Delta) (c : Delta) → 1 ≤ length cs → c ≡ get_or cs 0 c → (v : View) → changed_by (take (length cs - 1) (drop 1 cs)) (applied c v) ≡ changed_by cs v
-first_apart cs c le is v = ap (λ xs. changed_by xs (applied c v)) (take_rest cs 1) ∙ first_of cs c le is v
+-- all but the last of some changes, and then the last
+pub last_apart : (cs : List Delta) (c : Delta) → 1 ≤ length cs → c ≡ get_or cs (length cs - 1) c → (v : View) → applied c (changed_by (take (length cs - 1) cs) v) ≡ changed_by cs v
+last_apart cs c le is v =
+    let next : length cs - 1 + 1 ≡ length cs = omega (arith, le) in
+    sym (changed_by_more cs (length cs - 1) c (omega (arith, le)) is v) ∙ ap (λ n. changed_by (take n cs) v) next ∙ ap (λ xs. changed_by xs v) (all_taken cs)

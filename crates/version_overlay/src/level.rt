@@ -24,7 +24,7 @@ use std::alloc::{AllocError, Global};
 use std::marker::Model;
 
 /// With fewer present quads a search of them all is as fast as one by an order.
-const WORTH_ORDERS: usize = 32;
+const WORTH_ORDERS: usize = 128;
 
 // The quads of a set in these orders, where there are many.
 fn orders_worth(

@@ -1,8 +1,8 @@
 //! The changes of the requests that are committed, which will not change again.
 //!
-//! They lie in levels, the oldest first. Each but the last two is more than twice as long as the next, so a read looks at few of them, and
-//! what a change speaks of is copied about as often as there are levels.
-ghost use Rattle.std.specs.Prelude.{◌≡◌, ◌≤◌, ◌+◌, true, false, [], length, vec_len, IfOk, OnOk, OnErr, IsTrue};
+//! They lie in levels, the oldest first. As soon as the last four are alike in length they become one, so a read looks at few of them, and what
+//! a change speaks of is put in order as often as four goes into their number.
+ghost use Rattle.std.specs.Prelude.{◌≡◌, ◌≤◌, ◌<◌, ◌+◌, true, false, [], length, vec_len, IfOk, IfSome, OnOk, OnErr};
 ghost use Rattle.datasets.specs.Id.{id_order};
 ghost use Rattle.change_laws.specs.Laws.{IsRising};
 ghost use Rattle.reads.specs.Reads.{View as Dataset, says, applied, no_change};
@@ -18,6 +18,9 @@ use quad_index::Arrangement;
 use reads::{CompactView, Scanned, View};
 use std::alloc::{AllocError, Global};
 use std::marker::Model;
+
+/// How many levels that are alike in length become one.
+const MOST_ALIKE: usize = 4;
 
 /// Changes that will not change again, one after another, as one. A filter stands before them.
 #[derive(Drop)]
@@ -64,10 +67,8 @@ impl Settled {
         }
         put_all(&mut self.seen, delta)?;
         let level = Level::new(alloc, delta.copied(alloc)?, &self.orders)?;
-        // What is to be joined with a long level is joined before, so that the long one is copied once.
-        join_alike(alloc, &mut self.levels, &self.orders, size(&level));
         self.levels.push(level)?;
-        join_alike(alloc, &mut self.levels, &self.orders, 0);
+        join_alike(alloc, &mut self.levels, &self.orders);
         Ok(())
     }
 
@@ -117,7 +118,7 @@ impl Settled {
     {
         match self.levels.as_slice() {
             [] => Ok(view),
-            [first, later @ ..] => joined(alloc, first, later)?.apply(alloc, view),
+            [earlier @ .., last] => joined(alloc, earlier, last)?.apply(alloc, view),
         }
     }
 
@@ -132,7 +133,7 @@ impl Settled {
     {
         let change = match self.levels.as_slice() {
             [] => return Ok(dataset),
-            [first, later @ ..] => joined(alloc, first, later)?,
+            [earlier @ .., last] => joined(alloc, earlier, last)?,
         };
         drop(self);
         change.apply_compact(alloc, dataset)
@@ -149,14 +150,15 @@ fn says_nothing(delta: &Delta) -> bool
         && delta.gone().is_empty()
 }
 
-// The first change and then the later ones, as one.
-fn joined(alloc: Global, first: &Level, later: &[Level]) -> Result<Delta, AllocError>
+// These changes and then the last one, as one. It begins with the last two, so that an early one is copied once.
+fn joined(alloc: Global, earlier: &[Level], last: &Level) -> Result<Delta, AllocError>
     ensures { IfOk result (λ change. (d : Dataset)
-        → applied change d ≡ changed_by later.now (applied first.now d)) }
+        → applied change d ≡ applied last.now (changed_by earlier.now d)) }
 {
-    let mut change = first.change().copied(alloc)?;
-    for level in later {
-        change = change.followed_by(alloc, level.change())?;
+    let mut change = last.change().copied(alloc)?;
+    for after in 0..earlier.len() {
+        let level = &earlier[earlier.len() - 1 - after];
+        change = level.change().followed_by(alloc, &change)?;
     }
     Ok(change)
 }
@@ -169,13 +171,34 @@ fn size(level: &Level) -> usize {
     quads.saturating_add(names)
 }
 
-// Whether the last level but one is at most about twice as long as the last, or as what is to come.
-fn ends_alike(levels: &[Level], least: usize) -> bool
-    ensures { IsTrue result → 2 ≤ length levels.now }
+// How many digits a length has to the base of four. Levels of as many are alike.
+fn digits(size: usize) -> u32 {
+    (usize::BITS - size.leading_zeros()).div_ceil(2)
+}
+
+// How many of the last levels have lengths of no more digits than these.
+fn count_within(levels: &[Level], most: u32) -> usize
+    ensures { result ≤ length levels.now }
 {
-    match levels {
-        [.., earlier, later] => size(earlier) / 2 <= size(later).max(least),
-        _ => false,
+    let mut count = 0;
+    while count < levels.len() && digits(size(&levels[levels.len() - 1 - count])) <= most {
+        count += 1;
+    }
+    count
+}
+
+// How many of the last levels are to become one, if they are so many that they are.
+fn alike_at_end(levels: &[Level]) -> Option<usize>
+    ensures { IfSome result (λ count. (2 ≤ count) × (count ≤ length levels.now)) }
+{
+    let count = match levels {
+        [.., last] => count_within(levels, digits(size(last))),
+        [] => 0,
+    };
+    if count >= MOST_ALIKE {
+        Some(count)
+    } else {
+        None
     }
 }
 
@@ -198,12 +221,30 @@ fn join_last(
     Ok(())
 }
 
-// Joins the last two levels while they are alike in length, and there is memory, as if the last had a length of this at least.
-fn join_alike(alloc: Global, levels: &mut Vec<Level>, orders: &[Arrangement], least: usize)
+// So many of the last levels become one, the later ones first, so that an early one is copied once. What stands between is put in no order.
+fn join_many(
+    alloc: Global,
+    levels: &mut Vec<Level>,
+    count: usize,
+    orders: &[Arrangement],
+) -> Result<(), AllocError>
+    requires some { 2 ≤ count }
+    requires within { count ≤ vec_len levels.old }
+    ensures same { (d : Dataset) → changed_by levels.new.items d ≡ changed_by levels.old.items d }
+    ensures fewer { OnOk result (vec_len levels.new < vec_len levels.old) }
+{
+    for done in 2..count {
+        join_last(alloc, levels, &[])?;
+    }
+    join_last(alloc, levels, orders)
+}
+
+// The last levels become one while they are alike in length, and there is memory.
+fn join_alike(alloc: Global, levels: &mut Vec<Level>, orders: &[Arrangement])
     ensures { (d : Dataset) → changed_by levels.new.items d ≡ changed_by levels.old.items d }
 {
-    while ends_alike(levels, least) {
-        if join_last(alloc, levels, orders).is_err() {
+    while let Some(count) = alike_at_end(levels) {
+        if join_many(alloc, levels, count, orders).is_err() {
             break;
         }
     }

@@ -1,12 +1,26 @@
-use Rattle.std.proofs.Common.{sym, ap, ◌∙◌}
+use Rattle.std.proofs.Common.{◌≡◌, ◌<◌, ◌+◌, ◌-◌, length, take, get_or, arith, sym, ap, ◌∙◌}
 use Rattle.reads.specs.Reads.{applied}
-use Rattle.version_overlay.proofs.Changing.{changed_by-nothing, changed_by_more}
+use Rattle.version_overlay.specs.Settled.{changed_by}
+use Rattle.version_overlay.proofs.Changing.{changed_by_more, changed_by-nothing}
 use Rattle.version_overlay.proofs.settled.joined.Goals as goal
 
-pub loop-level-init : goal.loop-level-init
-loop-level-init c d = ap (λ x. applied x d) (c.in_ok-change.ensures ∙ c.change.ensures) ∙ sym (changed_by-nothing (applied c.args.first.now d))
+pub loop-after-preserved : goal.loop-after-preserved
+loop-after-preserved c d =
+    let earlier = c.args.earlier.now in
+    let k = c.loop-after.after in
+    let i = length earlier - (k + 1) in
+    let level = c.index-earlier-earlier.result in
+    let lt : i < length earlier = omega (arith, c.loop-after-test.true) in
+    let at : length earlier - 1 - k ≡ i = omega (arith, c.loop-after-test.true) in
+    let next : i + 1 ≡ length earlier - k = omega (arith, c.loop-after-test.true) in
+    c.in_ok-change-2.ensures (changed_by (take i earlier) d)
+    ∙ ap (λ y. applied c.loop-after.change (applied y (changed_by (take i earlier) d))) c.change-in-loop-after.ensures
+    ∙ ap (applied c.loop-after.change) (sym (changed_by_more earlier i level lt (c.index-earlier-earlier.is ∙ ap (λ m. get_or earlier m level) at) d))
+    ∙ ap (λ m. applied c.loop-after.change (changed_by (take m earlier) d)) next
+    ∙ c.loop-after.invariant d
 
-pub loop-level-preserved : goal.loop-level-preserved
-loop-level-preserved c d =
-    c.in_ok-change-2.ensures d ∙ (λ i. applied (c.change-in-loop-level-2.ensures i) (c.loop-level.invariant d i))
-    ∙ sym (changed_by_more c.args.later.now c.loop-level.level-index c.level-item.result c.loop-level-test.true c.level-item.is (applied c.args.first.now d))
+pub returns : goal.returns
+returns c d =
+    let earlier = c.args.earlier.now in
+    let none : length earlier - c.loop-after.after ≡ 0 = omega (arith, c.loop-after-test.false) in
+    ap (applied c.loop-after.change) (sym (changed_by-nothing d) ∙ ap (λ m. changed_by (take m earlier) d) (sym none)) ∙ c.loop-after.invariant d

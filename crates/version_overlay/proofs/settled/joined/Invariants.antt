@@ -1,7 +1,7 @@
-use Rattle.std.proofs.Common.{◌≡◌, take}
+use Rattle.std.proofs.Common.{◌≡◌, ◌-◌, length, take}
 use Rattle.reads.specs.Reads.{View, applied}
 use Rattle.version_overlay.specs.Settled.{changed_by}
 use Rattle.version_overlay.proofs.settled.joined.Given as goal
 
-abbrev pub invariant-loop-level : goal.invariant-loop-level
-invariant-loop-level l = (d : View) → applied l.change d ≡ changed_by (take l.level-index l.later) (applied l.first d)
+abbrev pub invariant-loop-after : goal.invariant-loop-after
+invariant-loop-after l = (d : View) → applied l.change (changed_by (take (length l.earlier - l.after) l.earlier) d) ≡ applied l.last (changed_by l.earlier d)

@@ -1,7 +1,7 @@
 use Rattle.std.proofs.Common.{sym, ap, ◌∙◌}
 use Rattle.std.proofs.lemmas.Result.{IfOk-weaker}
 use Rattle.version_overlay.specs.Settled.{changed_by}
-use Rattle.version_overlay.proofs.Changing.{changed_by-nothing, below_one, first_apart}
+use Rattle.version_overlay.proofs.Changing.{changed_by-nothing, below_one, last_apart}
 use Rattle.version_overlay.proofs.settled.Settled.into_applied.Goals as goal
 
 pub returns-in-empty : goal.returns-in-empty
@@ -12,5 +12,5 @@ returns-in-empty c =
 pub returns : goal.returns
 returns c =
     IfOk-weaker c.apply_compact.result _ _
-    (λ after e. e ∙ c.in_ok-change-in-len1-up.ensures c.args.dataset ∙ first_apart c.as_slice.result.now c.first-item.result c.in-len1-up.len_at_least c.first-item.is c.args.dataset
+    (λ after e. e ∙ c.in_ok-change-in-len1-up.ensures c.args.dataset ∙ last_apart c.as_slice.result.now c.last-item.result c.in-len1-up.len_at_least c.last-item.is c.args.dataset
     ∙ ap (λ cs. changed_by cs c.args.dataset) (c.as_slice.ensures.value ∙ c.self.view_is)) c.apply_compact.ensures

@@ -19,16 +19,14 @@ returns-then-says_nothing-clause-ok c d =
 pub invariant_of-self-in_err-push : goal.invariant_of-self-in_err-push
 invariant_of-self-in_err-push c p stops d rising =
     ap (λ cs. says (Scan p) (changed_by cs d)) c.in_err-push.ensures.items
-    ∙ ap (says (Scan p)) (c.join_alike.ensures d)
     ∙ c.self.invariant p (stopped (may_match c.self.inside.seen p) (may_match c.put_all.new.seen p) (c.put_all.ensures.kept p) stops) d rising
 
 -- the levels with one more
-module _ (c : goal.After-join_alike-2) where
-  one_more : (d : View) → changed_by c.join_alike-2.new.levels.items d ≡ applied c.args.delta.now (changed_by c.self.inside.levels.items d)
+module _ (c : goal.After-join_alike) where
+  one_more : (d : View) → changed_by c.join_alike.new.levels.items d ≡ applied c.args.delta.now (changed_by c.self.inside.levels.items d)
   one_more d =
-      c.join_alike-2.ensures d
-      ∙ pushed_is c.join_alike.new.levels.items c.push.new.self.items c.in_ok-level.level c.args.delta.now c.in_ok-push.ensures.items (c.in_ok-level.ensures ∙ c.in_ok-copied.ensures) d
-      ∙ ap (applied c.args.delta.now) (c.join_alike.ensures d)
+      c.join_alike.ensures d
+      ∙ pushed_is c.self.inside.levels.items c.push.new.self.items c.in_ok-level.level c.args.delta.now c.in_ok-push.ensures.items (c.in_ok-level.ensures ∙ c.in_ok-copied.ensures) d
 
 pub invariant_of-self-2 : goal.invariant_of-self-2
 invariant_of-self-2 c p stops d rising =
