@@ -23,6 +23,7 @@ use pool::{Open, run_block};
 use rules::Block;
 use std::alloc::{AllocError, Global};
 use std::io::{Read, Write};
+use std::mem::forget;
 use std::sync::Wait;
 use std::thread::Threads;
 use store::{Alone, Together};
@@ -89,8 +90,11 @@ pub(crate) fn texts_of_outcome<W: Runs>(
     let answer = named(alloc, numbered.base.terms(), &dataset)?;
     drop(numbered);
     drop(dataset);
+    let text = way.text(alloc, &answer, tag)?;
+    // Only writing is left. To let each term go would take as long, and the process's end lets all go at once.
+    forget(answer);
     Ok(Texts {
-        dataset: way.text(alloc, &answer, tag)?,
+        dataset: text,
         replies: replies_text(alloc, replies.as_slice())?,
     })
 }
