@@ -137,7 +137,14 @@ impl<'a> Machine<'a> {
         requires { self.front ≤ length self.slots }
         ensures { IfOk result (λ view. view ≡ view_at base.now self.entry.slots self.entry.front) }
     {
-        let Machine { slots, front, .. } = self;
+        let _committed = self.front();
+        let Machine {
+            mut slots,
+            front,
+            ..
+        } = self;
+        // What was committed last is settled too: where some is not, the dataset is widened.
+        slots.settle(alloc, front)?;
         slots.into_view(alloc, base, front)
     }
 
