@@ -1,7 +1,7 @@
 //! The changes of the requests that are committed, which will not change again.
 //!
-//! They lie in levels, the oldest first. As soon as the last four are alike in length they become one, so a read looks at few of them, and what
-//! a change speaks of is put in order as often as four goes into their number.
+//! They lie in levels, the oldest first. As soon as the last four are alike in length they become one, or the last two where they are put in no
+//! order, so a read looks at few of them, and what a change speaks of is copied about as often as there are levels.
 ghost use Rattle.std.specs.Prelude.{◌≡◌, ◌≤◌, ◌<◌, ◌+◌, true, false, [], length, vec_len, IfOk, IfSome, OnOk, OnErr};
 ghost use Rattle.datasets.specs.Id.{id_order};
 ghost use Rattle.change_laws.specs.Laws.{IsRising};
@@ -19,8 +19,11 @@ use reads::{CompactView, Scanned, View};
 use std::alloc::{AllocError, Global};
 use std::marker::Model;
 
-/// How many levels that are alike in length become one.
-const MOST_ALIKE: usize = 4;
+/// How many levels that are alike in length become one. To put them in order takes longer than to look at each.
+const ALIKE: usize = 4;
+
+/// The same where they are put in no order.
+const ALIKE_UNORDERED: usize = 2;
 
 /// Changes that will not change again, one after another, as one. A filter stands before them.
 #[derive(Drop)]
@@ -188,18 +191,19 @@ fn count_within(levels: &[Level], most: u32) -> usize
 }
 
 // How many of the last levels are to become one, if they are so many that they are.
-fn alike_at_end(levels: &[Level]) -> Option<usize>
+fn alike_at_end(levels: &[Level], orders: &[Arrangement]) -> Option<usize>
     ensures { IfSome result (λ count. (2 ≤ count) × (count ≤ length levels.now)) }
 {
+    let many = if orders.is_empty() {
+        ALIKE_UNORDERED
+    } else {
+        ALIKE
+    };
     let count = match levels {
         [.., last] => count_within(levels, digits(size(last))),
         [] => 0,
     };
-    if count >= MOST_ALIKE {
-        Some(count)
-    } else {
-        None
-    }
+    if count >= many { Some(count) } else { None }
 }
 
 // The last two levels become one. After want of memory they are as before.
@@ -243,7 +247,7 @@ fn join_many(
 fn join_alike(alloc: Global, levels: &mut Vec<Level>, orders: &[Arrangement])
     ensures { (d : Dataset) → changed_by levels.new.items d ≡ changed_by levels.old.items d }
 {
-    while let Some(count) = alike_at_end(levels) {
+    while let Some(count) = alike_at_end(levels, orders) {
         if join_many(alloc, levels, count, orders).is_err() {
             break;
         }
