@@ -115,18 +115,6 @@ fn after_mark(line: &str) -> Option<&str>
     Some(rest)
 }
 
-/// The bytes as a text, if they are UTF-8.
-#[tactic(auto, using(iris::proofs::TextLaws::text_laws))]
-fn text_of(bytes: &[u8]) -> Option<&str>
-    ensures { MatchOption result (is_utf8 bytes.now ≡ false)
-        (λ text. (text.now ≡ bytes.now) × (is_utf8 bytes.now ≡ true)) }
-{
-    match str::from_utf8(bytes) {
-        Ok(text) => Some(text),
-        Err(_) => None,
-    }
-}
-
 /// What a line says (RDF 1.1 N-Quads, productions 1 and 2, and graph lines). `Bad` where it says nothing that a line may say, `Memory` where
 /// memory runs out.
 #[tactic(auto, unfolding(crate::specs::Reading::line_of))]
