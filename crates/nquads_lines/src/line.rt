@@ -1,6 +1,5 @@
 //! What a line says, read from left to right.
 ghost use Rattle.std.specs.Prelude.{◌≡◌, ◌≤◌, length, drop, nat_eq, true, false, MatchOption};
-ghost use Rattle.std.specs.Str.{is_utf8};
 ghost use Rattle.std.specs.List.{prefix_len, starts_with};
 ghost use Rattle.iris.specs.Runs.{rest_of};
 ghost use Rattle.nquads_lines.specs.Line.{is_blank, graph_mark};
@@ -12,6 +11,7 @@ use crate::quoted::iri_at;
 use crate::stop::{Line, Stop};
 use datasets::Quad;
 use iris::laws::run_by_length;
+use iris::text_of;
 use std::alloc::Global;
 use terms::TermCow;
 
