@@ -48,7 +48,22 @@ fn outside<T: Exact + Copy + Drop>(members: Vec<T>, set: &[T]) -> Vec<T>
     lacking(members, set)
 }
 
-/// The set of the members that are none of a set's, and of more. It is fastest where all rise.
+/// The set of the members of a vector that are none of a set's, and of more. It is fastest where all rise.
+pub(crate) fn changed_list<T: Exact + Copy + Drop>(
+    members: Vec<T>,
+    gone: &[T],
+    more: &[T],
+) -> Result<Vec<T>, AllocError>
+    requires { IsStrictlySortedBy T.cmp gone.now }
+    ensures { IfOk result (λ after. after.items
+        ≡ union T.cmp (without T.cmp members.items gone.now) more.now) }
+{
+    let mut after = outside(members, gone);
+    after.extend_from_slice(more)?;
+    merged(after)
+}
+
+/// The same, of members that stay as they are.
 pub(crate) fn changed<T: Exact + Copy + Drop>(
     alloc: Global,
     members: &[T],
@@ -62,7 +77,5 @@ pub(crate) fn changed<T: Exact + Copy + Drop>(
     let mut all = Vec::new(alloc);
     all.reserve_exact(members.len().saturating_add(more.len()))?;
     all.extend_from_slice(members)?;
-    let mut after = outside(all, gone);
-    after.extend_from_slice(more)?;
-    merged(after)
+    changed_list(all, gone, more)
 }

@@ -4,13 +4,13 @@ ghost use Rattle.std.specs.List.Sorted.{IsStrictlySortedBy};
 ghost use Rattle.sets.specs.Sets.{set_of as the_set_of, union, without};
 ghost use Rattle.datasets.specs.Id.{id_order};
 ghost use Rattle.datasets.specs.Dataset.{quad_order};
-ghost use Rattle.quad_sets.specs.QuadSlice.{quads_of};
+ghost use Rattle.quad_index.specs.QuadList.{quads_in};
 
 use crate::lists::merged;
-use crate::narrow::known_changed;
-use crate::quad_slice::{Part, QuadSlice};
+use crate::narrow::{known_after, known_changed};
+use crate::quad_slice::QuadSlice;
 use datasets::{Id, Quad};
-use quad_index::{Entries, Index, known_quads, known_set};
+use quad_index::{Entries, Index, Part, QuadList, known_quads, known_set, widened_quads};
 use sets::set_of;
 use std::alloc::{AllocError, Global};
 use std::marker::Model;
@@ -60,6 +60,25 @@ fn wide_changed(
     merged(after)
 }
 
+// The quads that are none of a set's, and more, as a set in which not all are of known terms.
+fn wide_after(
+    alloc: Global,
+    entries: Entries,
+    gone: &QuadSlice<'_>,
+    more: &QuadSlice<'_>,
+) -> Result<Vec<Quad<Id>>, AllocError>
+    ensures { IfOk result (λ after. after.items ≡ union (quad_order id_order)
+        (without (quad_order id_order) (quads_in entries) gone.now) more.now) }
+{
+    let quads = match entries {
+        Entries::Narrow(known) => widened_quads(alloc, &known)?,
+        Entries::Wide(quads) => quads,
+    };
+    let mut after = gone.lacked(quads);
+    more.push_all(&mut after)?;
+    merged(after)
+}
+
 impl QuadSet {
     /// No quads. It takes no memory.
     pub fn new(alloc: Global) -> QuadSet
@@ -91,6 +110,53 @@ impl QuadSet {
             None => Entries::Wide(set_of(quads)),
         };
         Ok(QuadSet { entries })
+    }
+
+    /// The quads of a list that is a set. It takes no memory.
+    pub fn of_list(list: QuadList) -> QuadSet
+        requires { IsStrictlySortedBy (quad_order id_order) list }
+        ensures { result ≡ list }
+    {
+        QuadSet {
+            entries: list.into_entries(),
+        }
+    }
+
+    /// Its quads, as a list. It takes no memory.
+    pub fn into_list(self) -> QuadList
+        ensures { result ≡ self }
+    {
+        match self.entries {
+            Entries::Narrow(known) => QuadList::of_known(known),
+            Entries::Wide(quads) => QuadList::of_wide(quads),
+        }
+    }
+
+    /// The set of the quads of a list that are none of a set's, and of more: as `changed`, in the list's own memory, where all are of known
+    /// terms.
+    pub fn of_changed(
+        alloc: Global,
+        list: QuadList,
+        gone: &QuadSlice<'_>,
+        more: &QuadSlice<'_>,
+    ) -> Result<QuadSet, AllocError>
+        ensures { IfOk result (λ set. set ≡ union (quad_order id_order)
+            (without (quad_order id_order) list gone.now) more.now) }
+    {
+        match (list.into_entries(), gone.entries(), more.entries()) {
+            (Entries::Narrow(known), Part::Narrow(going), Part::Narrow(coming)) => {
+                let after = known_after(known, going, coming)?;
+                Ok(QuadSet {
+                    entries: Entries::Narrow(after),
+                })
+            }
+            (entries, _, _) => {
+                let after = wide_after(alloc, entries, gone, more)?;
+                Ok(QuadSet {
+                    entries: Entries::Wide(after),
+                })
+            }
+        }
     }
 
     /// The set of the quads that are none of a set's, and of more. It is fastest where both are of known terms.
@@ -156,10 +222,6 @@ impl QuadSet {
         ensures value { result ≡ self.now }
         ensures set { IsStrictlySortedBy (quad_order id_order) result }
     {
-        let entries = match &self.entries {
-            Entries::Narrow(known) => Part::Narrow(known),
-            Entries::Wide(quads) => Part::Wide(quads),
-        };
-        QuadSlice::of_entries(entries)
+        QuadSlice::of_entries(self.entries.lent())
     }
 }

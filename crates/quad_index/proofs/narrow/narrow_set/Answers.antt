@@ -6,17 +6,17 @@ use Rattle.datasets.specs.Dataset.{quad_order}
 use Rattle.quad_index.specs.Known.{quad_of}
 use Rattle.quad_index.specs.KnownOrder.{known_total, known_exact}
 use Rattle.quad_index.proofs.Mapped.{map_set}
-use Rattle.quad_index.proofs.narrow.widened_set.Goals as goal
+use Rattle.quad_index.proofs.narrow.narrow_set.Goals as goal
 
 pub returns-then-is_set : goal.returns-then-is_set
 returns-then-is_set c =
     let known = c.args.known.now in
-    IfOk-weaker c.widened_quads.result _ _
-    (λ set e. e ∙ ap (map quad_of) (sym (set_of-set known_total known_exact known (c.is_set.ensures.0 c.if-is_set.true))) ∙ map_set quad_of (quad_order id_order) known)
-    c.widened_quads.ensures
+    IfOk-weaker c.from_slice.result _ _
+    (λ set e. ap (map quad_of) (e ∙ sym (set_of-set known_total known_exact known (c.is_set.ensures.0 c.if-is_set.true))) ∙ map_set quad_of (quad_order id_order) known)
+    c.from_slice.ensures.items
 
 pub returns : goal.returns
 returns c =
-    IfOk-weaker c.widened_quads-2.result _ _
-    (λ set e. e ∙ ap (map quad_of) (c.as_slice.ensures.value ∙ c.in_ok-set.ensures) ∙ map_set quad_of (quad_order id_order) c.args.known.now)
-    c.widened_quads-2.ensures
+    IfOk-weaker c.set_from.result _ _
+    (λ set e. ap (map quad_of) e ∙ map_set quad_of (quad_order id_order) c.args.known.now)
+    c.set_from.ensures
