@@ -121,6 +121,13 @@ impl QuadList {
         }
     }
 
+    /// These quads as they are kept.
+    pub fn of_entries(entries: Entries) -> QuadList
+        ensures { result ≡ quads_in entries }
+    {
+        QuadList { entries }
+    }
+
     /// Its quads as they are kept.
     pub fn into_entries(self) -> Entries
         ensures { quads_in result ≡ self }

@@ -16,7 +16,10 @@ use sets::is_member;
 use std::alloc::{AllocError, Global};
 
 /// Of a set, a part that has all that the pattern matches.
-pub(crate) fn part_of_known<'a>(known: &'a [KnownQuad], pattern: &QuadPattern<Id>) -> &'a [KnownQuad]
+pub(crate) fn part_of_known<'a>(
+    known: &'a [KnownQuad],
+    pattern: &QuadPattern<Id>,
+) -> &'a [KnownQuad]
     requires { IsStrictlySortedBy (quad_order id_order) (map quad_of known.now) }
     ensures { filter (the_matches id_order pattern.now) (map quad_of result.now)
         ≡ filter (the_matches id_order pattern.now) (map quad_of known.now) }

@@ -16,14 +16,9 @@ use std::alloc::{AllocError, Global};
 use std::marker::Model;
 
 /// A set of quads, a quarter as long where all are of known terms. Contracts see its list, by subject, predicate, object and graph.
+#[derive(Drop)]
 pub struct QuadSet {
     entries: Entries,
-}
-
-impl Drop for QuadSet {
-    fn drop(self) {
-        let QuadSet { entries: _ } = self;
-    }
 }
 
 impl Model for QuadSet {
@@ -60,6 +55,15 @@ fn wide_changed(
     merged(after)
 }
 
+// The set of these quads.
+fn merged_set(quads: Vec<Quad<Id>>) -> Result<Vec<Quad<Id>>, AllocError>
+    ensures value { IfOk result (λ set. set.items
+        ≡ the_set_of (quad_order id_order) quads.items) }
+    ensures set { IfOk result (λ set. IsStrictlySortedBy (quad_order id_order) set.items) }
+{
+    merged(quads)
+}
+
 // The quads that are none of a set's, and more, as a set in which not all are of known terms.
 fn wide_after(
     alloc: Global,
@@ -67,8 +71,9 @@ fn wide_after(
     gone: &QuadSlice<'_>,
     more: &QuadSlice<'_>,
 ) -> Result<Vec<Quad<Id>>, AllocError>
-    ensures { IfOk result (λ after. after.items ≡ union (quad_order id_order)
+    ensures value { IfOk result (λ after. after.items ≡ union (quad_order id_order)
         (without (quad_order id_order) (quads_in entries) gone.now) more.now) }
+    ensures set { IfOk result (λ after. IsStrictlySortedBy (quad_order id_order) after.items) }
 {
     let quads = match entries {
         Entries::Narrow(known) => widened_quads(alloc, &known)?,
@@ -76,7 +81,7 @@ fn wide_after(
     };
     let mut after = gone.lacked(quads);
     more.push_all(&mut after)?;
-    merged(after)
+    merged_set(after)
 }
 
 impl QuadSet {
@@ -126,10 +131,7 @@ impl QuadSet {
     pub fn into_list(self) -> QuadList
         ensures { result ≡ self }
     {
-        match self.entries {
-            Entries::Narrow(known) => QuadList::of_known(known),
-            Entries::Wide(quads) => QuadList::of_wide(quads),
-        }
+        QuadList::of_entries(self.entries)
     }
 
     /// The set of the quads of a list that are none of a set's, and of more: as `changed`, in the list's own memory, where all are of known

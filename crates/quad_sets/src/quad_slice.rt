@@ -174,11 +174,7 @@ impl<'a> QuadSlice<'a> {
     }
 
     /// Its quads that match, which are found in the same way.
-    pub fn matching(
-        &self,
-        alloc: Global,
-        pattern: &QuadPattern<Id>,
-    ) -> Result<QuadSet, AllocError>
+    pub fn matching(&self, alloc: Global, pattern: &QuadPattern<Id>) -> Result<QuadSet, AllocError>
         ensures { IfOk result (λ found. found
             ≡ filter (the_matches id_order pattern.now) self.now) }
     {
