@@ -127,6 +127,14 @@ impl QuadSet {
         }
     }
 
+    /// The same set again.
+    pub fn copied(&self, alloc: Global) -> Result<QuadSet, AllocError>
+        ensures { IfOk result (λ copy. copy ≡ self.now) }
+    {
+        self.as_slice().rises();
+        Ok(QuadSet::of_list(self.entries.lent().copied(alloc)?))
+    }
+
     /// Its quads, as a list. It takes no memory.
     pub fn into_list(self) -> QuadList
         ensures { result ≡ self }
