@@ -107,18 +107,14 @@ impl QuadList {
     pub fn of_known(known: Vec<KnownQuad>) -> QuadList
         ensures { result ≡ map quad_of known.items }
     {
-        QuadList {
-            entries: Entries::Narrow(known),
-        }
+        QuadList::of_entries(Entries::Narrow(known))
     }
 
     /// These quads, in as much memory as they take.
     pub fn of_wide(quads: Vec<Quad<Id>>) -> QuadList
         ensures { result ≡ quads.items }
     {
-        QuadList {
-            entries: Entries::Wide(quads),
-        }
+        QuadList::of_entries(Entries::Wide(quads))
     }
 
     /// These quads as they are kept.

@@ -59,6 +59,7 @@ pub(crate) fn changed_list<T: Exact + Copy + Drop>(
         ≡ union T.cmp (without T.cmp members.items gone.now) more.now) }
 {
     let mut after = outside(members, gone);
+    after.reserve_exact(more.len())?;
     after.extend_from_slice(more)?;
     merged(after)
 }

@@ -7,7 +7,7 @@ use Rattle.version_overlay.proofs.level.have_common.Goals as goal
 
 pub returns-then-first-len : goal.returns-then-first-len
 returns-then-first-len c none =
-    none_of (quad_total id_total) (quad_exact id_order id_exact) (λ q. has (quad_order id_order) c.args.second.now q) c.args.first.now (sym c.is_any_in.ensures ∙ none)
+    none_of (quad_total id_total) (quad_exact id_order id_exact) (λ q. has (quad_order id_order) c.args.second.now q) c.args.first.now (sym c.is_any_of.ensures ∙ none)
 
 pub returns-else-first-len : goal.returns-else-first-len
-returns-else-first-len c none = none_in_common (quad_total id_total) (quad_exact id_order id_exact) c.args.first.now c.args.second.now (sym c.is_any_of.ensures ∙ none)
+returns-else-first-len c none = none_in_common (quad_total id_total) (quad_exact id_order id_exact) c.args.first.now c.args.second.now (sym c.is_any_of-else-first-len.ensures ∙ none)
