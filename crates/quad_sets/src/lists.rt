@@ -5,7 +5,7 @@ ghost use Rattle.sets.specs.Sets.{set_of, union, without};
 
 use crate::near::is_member_near;
 use sets::Exact;
-use std::alloc::{AllocError, Global};
+use std::alloc::AllocError;
 
 /// The set of the members of a vector. Of members that come in a few sorted runs it takes time in their number.
 pub fn merged<T: Exact + Drop>(mut members: Vec<T>) -> Result<Vec<T>, AllocError>
@@ -49,7 +49,7 @@ fn outside<T: Exact + Copy + Drop>(members: Vec<T>, set: &[T]) -> Vec<T>
 }
 
 /// The set of the members of a vector that are none of a set's, and of more. It is fastest where all rise.
-pub(crate) fn changed_list<T: Exact + Copy + Drop>(
+pub(crate) fn changed<T: Exact + Copy + Drop>(
     members: Vec<T>,
     gone: &[T],
     more: &[T],
@@ -62,21 +62,4 @@ pub(crate) fn changed_list<T: Exact + Copy + Drop>(
     after.reserve_exact(more.len())?;
     after.extend_from_slice(more)?;
     merged(after)
-}
-
-/// The same, of members that stay as they are.
-pub(crate) fn changed<T: Exact + Copy + Drop>(
-    alloc: Global,
-    members: &[T],
-    gone: &[T],
-    more: &[T],
-) -> Result<Vec<T>, AllocError>
-    requires { IsStrictlySortedBy T.cmp gone.now }
-    ensures { IfOk result (λ after. after.items
-        ≡ union T.cmp (without T.cmp members.now gone.now) more.now) }
-{
-    let mut all = Vec::new(alloc);
-    all.reserve_exact(members.len().saturating_add(more.len()))?;
-    all.extend_from_slice(members)?;
-    changed_list(all, gone, more)
 }

@@ -7,13 +7,13 @@ ghost use Rattle.datasets.specs.Id.{id_order};
 ghost use Rattle.datasets.specs.Dataset.{quad_order, matches as the_matches};
 ghost use Rattle.quad_index.specs.Known.{quad_of};
 
-use crate::lists::{changed, changed_list};
+use crate::lists::changed;
 use crate::near::is_member_near;
 use datasets::{Id, Quad, QuadPattern};
 use quad_index::matching::matches;
 use quad_index::{Arrangement, KnownQuad, part_for};
 use sets::is_member;
-use std::alloc::{AllocError, Global};
+use std::alloc::AllocError;
 
 /// Of a set, a part that has all that the pattern matches.
 pub(crate) fn part_of_known<'a>(
@@ -70,21 +70,6 @@ pub(crate) fn is_near_known(known: &[KnownQuad], place: usize, quad: &Quad<Id>) 
 
 /// The set of the quads that are none of a set's, and of more.
 pub(crate) fn known_changed(
-    alloc: Global,
-    quads: &[KnownQuad],
-    gone: &[KnownQuad],
-    more: &[KnownQuad],
-) -> Result<Vec<KnownQuad>, AllocError>
-    requires { IsStrictlySortedBy (quad_order id_order) (map quad_of gone.now) }
-    ensures { IfOk result (λ after. map quad_of after.items ≡ union (quad_order id_order)
-        (without (quad_order id_order) (map quad_of quads.now) (map quad_of gone.now))
-        (map quad_of more.now)) }
-{
-    changed(alloc, quads, gone, more)
-}
-
-/// The same, in the memory of the quads.
-pub(crate) fn known_after(
     quads: Vec<KnownQuad>,
     gone: &[KnownQuad],
     more: &[KnownQuad],
@@ -94,5 +79,5 @@ pub(crate) fn known_after(
         (without (quad_order id_order) (map quad_of quads.items) (map quad_of gone.now))
         (map quad_of more.now)) }
 {
-    changed_list(quads, gone, more)
+    changed(quads, gone, more)
 }

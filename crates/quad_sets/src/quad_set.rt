@@ -7,7 +7,7 @@ ghost use Rattle.datasets.specs.Dataset.{quad_order};
 ghost use Rattle.quad_index.specs.QuadList.{quads_in};
 
 use crate::lists::merged;
-use crate::narrow::{known_after, known_changed};
+use crate::narrow::known_changed;
 use crate::quad_slice::QuadSlice;
 use datasets::{Id, Quad};
 use quad_index::{Entries, Index, Part, QuadList, known_quads, known_set, widened_quads};
@@ -37,22 +37,28 @@ impl Model for QuadSet {
     ghost invariant = { λ s. IsStrictlySortedBy (quad_order id_order) (quads_in s.entries) };
 }
 
-// The quads of a changed set, where not all are of known terms.
-fn wide_changed(
+// The same items, with room for more behind them.
+fn with_room<T: Copy>(alloc: Global, items: &[T], more: usize) -> Result<Vec<T>, AllocError>
+    ensures { IfOk result (λ copy. copy.items ≡ items.now) }
+{
+    let mut copy = Vec::new(alloc);
+    copy.reserve_exact(items.len().saturating_add(more))?;
+    copy.extend_from_slice(items)?;
+    Ok(copy)
+}
+
+// The quads of a set, with room for more behind them.
+fn listed_with_room(
     alloc: Global,
     quads: &QuadSlice<'_>,
-    gone: &QuadSlice<'_>,
-    more: &QuadSlice<'_>,
-) -> Result<Vec<Quad<Id>>, AllocError>
-    ensures { IfOk result (λ after. after.items ≡ union (quad_order id_order)
-        (without (quad_order id_order) quads.now gone.now) more.now) }
+    more: usize,
+) -> Result<QuadList, AllocError>
+    ensures { IfOk result (λ list. list ≡ quads.now) }
 {
-    let mut all = Vec::new(alloc);
-    all.reserve_exact(quads.len().saturating_add(more.len()))?;
-    quads.push_all(&mut all)?;
-    let mut after = gone.lacked(all);
-    more.push_all(&mut after)?;
-    merged(after)
+    match quads.entries() {
+        Part::Narrow(known) => Ok(QuadList::of_known(with_room(alloc, known, more)?)),
+        Part::Wide(quads) => Ok(QuadList::of_wide(with_room(alloc, quads, more)?)),
+    }
 }
 
 // The set of these quads.
@@ -65,7 +71,7 @@ fn merged_set(quads: Vec<Quad<Id>>) -> Result<Vec<Quad<Id>>, AllocError>
 }
 
 // The quads that are none of a set's, and more, as a set in which not all are of known terms.
-fn wide_after(
+fn wide_changed(
     alloc: Global,
     entries: Entries,
     gone: &QuadSlice<'_>,
@@ -155,13 +161,13 @@ impl QuadSet {
     {
         match (list.into_entries(), gone.entries(), more.entries()) {
             (Entries::Narrow(known), Part::Narrow(going), Part::Narrow(coming)) => {
-                let after = known_after(known, going, coming)?;
+                let after = known_changed(known, going, coming)?;
                 Ok(QuadSet {
                     entries: Entries::Narrow(after),
                 })
             }
             (entries, _, _) => {
-                let after = wide_after(alloc, entries, gone, more)?;
+                let after = wide_changed(alloc, entries, gone, more)?;
                 Ok(QuadSet {
                     entries: Entries::Wide(after),
                 })
@@ -179,20 +185,8 @@ impl QuadSet {
         ensures { IfOk result (λ set. set ≡ union (quad_order id_order)
             (without (quad_order id_order) quads.now gone.now) more.now) }
     {
-        if let (Part::Narrow(known), Part::Narrow(going), Part::Narrow(coming)) = (
-            quads.entries(),
-            gone.entries(),
-            more.entries(),
-        ) {
-            let after = known_changed(alloc, known, going, coming)?;
-            return Ok(QuadSet {
-                entries: Entries::Narrow(after),
-            });
-        }
-        let after = wide_changed(alloc, quads, gone, more)?;
-        Ok(QuadSet {
-            entries: Entries::Wide(after),
-        })
+        let list = listed_with_room(alloc, quads, more.len())?;
+        QuadSet::of_changed(alloc, list, gone, more)
     }
 
     /// The quads of either set.

@@ -13,5 +13,5 @@ changed-requires c = sorted-unmap quad_of (quad_order id_order) c.args.gone.now 
 pub returns : goal.returns
 returns c =
     IfOk-weaker c.changed.result _ _
-    (λ after h. ap (map quad_of) h ∙ map-changed quad_of (quad_order id_order) c.args.quads.now c.args.gone.now c.args.more.now)
+    (λ after h. ap (map quad_of) h ∙ map-changed quad_of (quad_order id_order) c.args.quads.items c.args.gone.now c.args.more.now)
     c.changed.ensures
