@@ -25,6 +25,6 @@ returns c d rising alike =
     let order = quad_order id_order in
     let coming_is = c.in_ok-coming.ensures ∙ ap (filter (matches id_order c.args.pattern.now)) (c.present.ensures.value ∙ ap (λ (x : Delta). x.present) c.self.view_is) in
     let going_is = c.absent-going.ensures.value ∙ ap (λ (x : Delta). x.absent) c.self.view_is in
-    let left_is = (λ i. without order ((c.into_list.ensures ∙ c.into_parts-quads.ensures.quads) i) (going_is i)) in
+    let list_is = c.into_list.ensures ∙ c.into_parts-quads.ensures.quads in
     scan_changed c.args.scanned.now.read c.args.pattern.now c.requires c.args.self.now c.in_ok-part_of.field-0 d (c.in_ok-part_of.ensures ∙ alike) c.from_sets.result
-    (ap (λ (v : View). v.quads) c.from_sets.ensures ∙ c.in_ok-quads.ensures ∙ (λ i. union order (left_is i) ((c.as_slice-2.ensures.value ∙ coming_is) i)))
+    (ap (λ (v : View). v.quads) c.from_sets.ensures ∙ c.in_ok-quads.ensures ∙ (λ i. union order (without order (list_is i) (going_is i)) ((c.as_slice-2.ensures.value ∙ coming_is) i)))
