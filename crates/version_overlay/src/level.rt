@@ -1,7 +1,6 @@
 //! One change of several requests, its present quads in several orders, and what it makes of the part of a dataset that a read asks for.
 ghost use Rattle.std.specs.Prelude.{◌≡◌, true, false, [], IfOk, filter};
 ghost use Rattle.std.specs.List.{list_any};
-ghost use Rattle.std.specs.List.Sorted.{IsStrictlySortedBy};
 ghost use Rattle.sets.specs.Sets.{has};
 ghost use Rattle.datasets.specs.declared.id.Id.{Id as Number};
 ghost use Rattle.datasets.specs.declared.quad.Quad.{Quad as Named};
@@ -13,13 +12,11 @@ ghost use Rattle.reads.specs.Reads.{View as Dataset, says, applied};
 ghost use Rattle.version_overlay.specs.Settled.{part_or};
 
 use crate::along::{changed_part, part_of};
-use datasets::{Id, Quad, QuadPattern, Read};
+use datasets::{Id, QuadPattern, Read};
 use delta::Delta;
 use quad_index::{Arrangement, Order};
-use quad_sets::QuadSlice;
-use reads::lists::quads_union;
+use quad_sets::{QuadSet, QuadSlice};
 use reads::{Scanned, View};
-use sets::is_member;
 use std::alloc::{AllocError, Global};
 use std::marker::Model;
 
@@ -110,11 +107,11 @@ impl Level {
     {
         let coming = self.change.present().scan(alloc, &self.orders, pattern)?;
         let going = self.change.absent();
-        if coming.is_empty() && !is_any_gone(alloc, scanned, pattern, &part, &going)? {
+        if coming.as_slice().is_empty() && !is_any_gone(alloc, scanned, pattern, &part, &going)? {
             return Ok(part);
         }
         let (quads, _names) = part_of(alloc, scanned, part)?.into_parts();
-        let quads = quads_union(going.lacked(quads), coming)?;
+        let quads = QuadSet::of_changed(alloc, quads.into_list(), &going, &coming.as_slice())?;
         Ok(Some(View::from_sets(quads, Vec::new(alloc))))
     }
 }
@@ -134,10 +131,7 @@ fn is_any_gone(
         → has (quad_order id_order) going.now q ≡ false) }
 {
     match part {
-        Some(view) => {
-            view.rises();
-            Ok(have_common(view.quads(), going))
-        }
+        Some(view) => Ok(have_common(&view.quads(), going)),
         None => is_any_told_gone(alloc, scanned, pattern, going),
     }
 }
@@ -158,38 +152,29 @@ fn is_any_told_gone(
     scanned.rises();
     let answer = scanned.answer(alloc)?;
     match answer.quads() {
-        Some(quads) => Ok(have_common(quads, going)),
+        Some(quads) => Ok(have_common(&QuadSlice::of_set(quads), going)),
         None => Ok(true),
     }
 }
 
 // Whether two sets of quads have a quad in common. Those of the smaller one are looked for in the other.
-fn have_common(first: &[Quad<Id>], second: &QuadSlice<'_>) -> bool
-    requires { IsStrictlySortedBy (quad_order id_order) first.now }
+fn have_common(first: &QuadSlice<'_>, second: &QuadSlice<'_>) -> bool
     ensures { result ≡ false → (q : Named Number) → has (quad_order id_order) first.now q ≡ true
         → has (quad_order id_order) second.now q ≡ false }
 {
     if first.len() <= second.len() {
-        is_any_in(first, second)
+        is_any_of(first, second)
     } else {
         is_any_of(second, first)
     }
 }
 
-// Whether any of these quads is one of a set's.
-fn is_any_in(quads: &[Quad<Id>], set: &QuadSlice<'_>) -> bool
-    ensures { result ≡ list_any (λ q. has (quad_order id_order) set.now q) quads.now }
-{
-    quads.iter().any(|quad| set.contains(quad))
-}
-
 // Whether any of a set's quads is one of another's.
-fn is_any_of(quads: &QuadSlice<'_>, set: &[Quad<Id>]) -> bool
-    requires { IsStrictlySortedBy (quad_order id_order) set.now }
+fn is_any_of(quads: &QuadSlice<'_>, set: &QuadSlice<'_>) -> bool
     ensures { result ≡ list_any (λ q. has (quad_order id_order) set.now q) quads.now }
 {
     for place in 0..quads.len() {
-        if is_member(set, &quads.get(place)) {
+        if set.contains(&quads.get(place)) {
             return true;
         }
     }
