@@ -1,4 +1,5 @@
-//! One change of several requests, its present quads in several orders, and what it makes of the part of a dataset that a read asks for.
+//! One change of several requests, its present quads in several orders where they are asked for, and what it makes of the part of a dataset
+//! that a read asks for.
 ghost use Rattle.std.specs.Prelude.{◌≡◌, true, false, [], IfOk, filter};
 ghost use Rattle.std.specs.List.{list_any};
 ghost use Rattle.sets.specs.Sets.{has};
@@ -37,12 +38,14 @@ fn orders_worth(
     quads.in_orders(alloc, orders)
 }
 
-/// A change whose present quads are found by binary search. Contracts see the change.
+/// A change whose present quads are found by binary search, once they are put in order. Contracts see the change.
 #[derive(Drop)]
 pub struct Level {
     change: Delta,
     // The present quads in orders beside SPOG.
     orders: Vec<Order>,
+    // Whether they were put in order, where they are many.
+    is_ordered: bool,
 }
 
 impl Model for Level {
@@ -57,12 +60,29 @@ impl Model for Level {
 }
 
 impl Level {
-    /// This change, its present quads in these orders beside SPOG where they are many. An error comes only where memory runs out.
-    pub fn new(alloc: Global, change: Delta, orders: &[Arrangement]) -> Result<Level, AllocError>
-        ensures { IfOk result (λ level. level ≡ change) }
+    /// This change, its present quads in SPOG alone. It takes no memory.
+    pub fn new(alloc: Global, change: Delta) -> Level
+        ensures { result ≡ change }
     {
-        let orders = orders_worth(alloc, &change.present(), orders)?;
-        Ok(Level { change, orders })
+        Level {
+            change,
+            orders: Vec::new(alloc),
+            is_ordered: false,
+        }
+    }
+
+    /// The present quads are put in these orders beside SPOG, where they are many, they were not before, and there is memory. A read finds them
+    /// sooner then.
+    pub fn put_in_order(&mut self, alloc: Global, orders: &[Arrangement])
+        ensures { self.new ≡ self.old }
+    {
+        if self.is_ordered {
+            return;
+        }
+        if let Ok(orders) = orders_worth(alloc, &self.change.present(), orders) {
+            self.orders = orders;
+            self.is_ordered = true;
+        }
     }
 
     /// The change.
