@@ -1,5 +1,5 @@
 -- The requests that were found lead to all whose delta covers the read.
-use Rattle.std.proofs.Common.{◌≡◌, ℕ, zero, suc, ◌<◌, ◌≤◌, inl, inr, Bool, true, false, ◌&&◌, List, [], ◌∷◌, length, get_or, refl, sym, ap, ◌∙◌, subst, arith, leb-true}
+use Rattle.std.proofs.Common.{◌≡◌, ℕ, zero, suc, ◌+◌, ◌<◌, ◌≤◌, inl, inr, Bool, true, false, ◌&&◌, List, [], ◌∷◌, length, get_or, slice_index_or, refl, sym, ap, ◌∙◌, subst, arith, leb-true}
 use Rattle.std.specs.Prelude.{filter, ◌||◌, ◌==◌, nat_le, nat_lt, eqb}
 use Rattle.std.specs.List.{list_any}
 use Rattle.std.specs.List.{dedup}
@@ -16,8 +16,11 @@ use Rattle.std.proofs.lemmas.Map.Lookups.{exact_unsigned}
 use Rattle.sets.specs.Sets.{has}
 use Rattle.sets.proofs.SetLaws.{has-filter, has_alike, exact_by}
 use Rattle.reads.specs.Reads.{Read, covers}
+use Rattle.block_machine.specs.declared.state.Slot.{Slot as KeptSlot}
 use Rattle.block_machine.specs.Machine.{Slot, slot_at}
+use Rattle.block_machine.specs.Kept.{plain, shown}
 use Rattle.block_machine.specs.Lower.{request_at, after_first, Leads, NoneCovers}
+use Rattle.block_machine.proofs.Alike.{is_slot}
 
 -- ---- tests of lists
 
@@ -32,6 +35,23 @@ any_mono p t h (x ∷ xs) e = at (p x) (t x) (h x) (any_mono p t h xs) e
 
 pub tied : (xs : List ℕ) (j : ℕ) → list_any (λ r. r == j) xs ≡ true → has nat_cmp xs j ≡ true
 tied xs j e = any_mono (λ r. r == j) (eq_by_cmp nat_cmp j) (λ r h. ap (λ n. is_eq (nat_cmp j n)) (eqb-true r j h) ∙ ap is_eq (tied_itself nat_cmp_total j)) xs e
+
+-- ---- those whose delta covers the read, one after another
+
+-- of the requests from `from` on and below k those whose delta covers the read are among these
+abbrev pub AreCovering : List KeptSlot → Read → ℕ → ℕ → List ℕ → Type 0
+AreCovering xs read from k found = (j : ℕ) → from ≤ j → j < k → covers (slot_at (shown xs) j).delta read ≡ true → list_any (λ r. r == j) found ≡ true
+
+pub covering_more : (xs : List KeptSlot) (read : Read) (from k : ℕ) (y : KeptSlot) (found more : List ℕ) → y ≡ slice_index_or xs k y → k < length xs
+    → ((j : ℕ) → list_any (λ r. r == j) found ≡ true → list_any (λ r. r == j) more ≡ true) → (covers y.delta read ≡ true → list_any (λ r. r == k) more ≡ true)
+    → AreCovering xs read from k found → AreCovering xs read from (k + 1) more
+covering_more xs read from k y found more at lt kept here before j ge less e =
+    elim (cases_lt j k) [
+      | inl lower ↦ kept j (before j ge lower e)
+      | inr upper ↦ (let is : k ≡ j = omega (arith, upper, less) in
+          subst (λ n. list_any (λ r. r == n) more ≡ true) is
+          (here (ap (λ z. covers z.delta read) (is_slot plain xs k y at lt) ∙ (ap (λ n. covers (slot_at (shown xs) n).delta read) is ∙ e))))
+    ]
 
 -- ---- those below i, sorted and each once
 

@@ -99,11 +99,12 @@ fresh_kept =
       stamp = None;
     }
 
--- what is found of a read: the estimate that blocks it, or the note of its answer
+-- what is found of a read: the estimate that blocks it, or the note of its answer, with that answer
 abbrev pub IsFound : View → List KeptSlot → ℕ → ℕ → Read → Found → Type 0
 IsFound base slots low i read (found.Blocked j) = blocker (shown slots) i read ≡ Some j
-IsFound base slots low i read (found.Noted n) =
-    (blocker (shown slots) i read ≡ None) × ((n.low ≡ low) × (whole slots n ≡ note_now base (shown slots) i read))
+IsFound base slots low i read (found.Noted n answer) =
+    (blocker (shown slots) i read ≡ None)
+    × ((n.low ≡ low) × ((whole slots n ≡ note_now base (shown slots) i read) × (answer ≡ n.note.answer)))
 
 -- what a read comes to, and what it leaves: a note, where it is answered
 abbrev pub IsAsked : View → List Slot → List Slot → ℕ → Read → Asked → Type 0

@@ -247,6 +247,8 @@ impl<'a> Machine<'a> {
             return Ok(twice(refusal));
         }
         self.slots.settle(alloc, self.front)?;
+        let asked = scanned.read();
+        self.slots.put_in_order(alloc, asked);
         match self.slots.read(alloc, base, scanned, i)? {
             Asked::Blocked(j) => Ok((Reply::Blocked(j), Reply::Blocked(j))),
             Asked::Answered(answer, again) => {
@@ -386,8 +388,7 @@ impl<'a> Machine<'a> {
         match self.next_verdict(alloc, base, i, stands, passed)? {
             Verdict::Blocked(j) => Ok(Reply::Blocked(j)),
             Verdict::Same => {
-                self.slots.pass_on(i, stands);
-                self.standings.set(i, self.slots.standing(i));
+                self.pass_on(i, n, stands);
                 Ok(Reply::Passed)
             }
             Verdict::Changed => {
@@ -395,6 +396,19 @@ impl<'a> Machine<'a> {
                 self.standings.set(i, self.slots.standing(i));
                 Ok(Reply::Aborted)
             }
+        }
+    }
+
+    // The next note of the pass passed. As long as a pass stands the request stands as before.
+    fn pass_on(&mut self, i: usize, n: u64, stands: Pass)
+        requires executed { status_of self.old.slots i ≡ Some (Status.Executed n) }
+        requires pass { (slot_at self.old.slots i).pass ≡ Some stands }
+        requires next { HasNext self.old i }
+        ensures { (worker : ℕ) → self.new ≡ after self.old worker (Event.Check i n) Reply.Passed }
+    {
+        self.slots.pass_on(i, stands);
+        if self.slots.pass(i).is_none() {
+            self.standings.set(i, self.slots.standing(i));
         }
     }
 

@@ -4,6 +4,7 @@ ghost use Rattle.block_machine.specs.Machine.{is_closed, slot_at};
 ghost use Rattle.block_machine.specs.Kept.{shown, Holds};
 
 use crate::kept::Kept;
+use datasets::{Id, Read};
 use std::alloc::{AllocError, Global};
 
 // The first request that is not settled is settled. After want of memory nothing is.
@@ -39,4 +40,15 @@ pub fn settle(alloc: Global, kept: &mut Kept<'_>, to: usize) -> Result<(), Alloc
     }
     kept.spoken.forget_below(alloc, kept.low);
     Ok(())
+}
+
+/// Where the settled changes may have changed what a read says they are put in order, as far as there is memory: it is answered sooner then.
+pub fn put_in_order(alloc: Global, kept: &mut Kept<'_>, read: &Read<Id>)
+    requires { Holds kept.old }
+    ensures holds { Holds kept.new }
+    ensures slots { kept.new.slots.items ≡ kept.old.slots.items }
+{
+    if kept.settled.may_say_else(read) {
+        kept.settled.put_in_order(alloc);
+    }
 }

@@ -8,11 +8,12 @@ ghost use Rattle.block_machine.specs.Waiting.{standing_of};
 use crate::below::changed_from;
 use crate::found::{Asked, Found, look};
 use crate::kept::Kept;
-use crate::settling::settle;
+use crate::settling::{put_in_order, settle};
 use crate::slot;
 use crate::state::{Noted, Pass, Slot, Status};
 use crate::transcripts::is_transcript;
 use crate::validate::{self, Verdict};
+use datasets::{Id, Read};
 use delta::Finished;
 use quad_index::{Arrangement, OrderSet};
 use reads::{CompactView, IndexedView, Scanned, View};
@@ -230,12 +231,11 @@ impl<'a> Slots<'a> {
             scanned.now.read asked) }
         ensures err { OnErr result (self.new ≡ self.old) }
     {
-        let noted = match look(alloc, base, scanned, &self.kept, i)? {
+        let (noted, answer) = match look(alloc, base, scanned, &self.kept, i)? {
             Found::Blocked(j) => return Ok(Asked::Blocked(j)),
-            Found::Noted(noted) => noted,
+            Found::Noted(noted, answer) => (noted, answer),
         };
-        let answer = noted.note.answer(alloc)?;
-        let again = noted.note.answer(alloc)?;
+        let again = answer.copied(alloc)?;
         slot::note(&mut self.kept.slots[i], noted)?;
         Ok(Asked::Answered(answer, again))
     }
@@ -247,6 +247,13 @@ impl<'a> Slots<'a> {
         ensures { self.new ≡ self.old }
     {
         settle(alloc, &mut self.kept, to)
+    }
+
+    /// The settled requests' changes are put in order, if they may have changed what the read says, as far as there is memory.
+    pub fn put_in_order(&mut self, alloc: Global, read: &Read<Id>)
+        ensures { self.new ≡ self.old }
+    {
+        put_in_order(alloc, &mut self.kept, read);
     }
 
     /// The worker executes incarnation `n`, with no notes yet.

@@ -16,7 +16,7 @@ pub struct PackedEntry {
     form: Form,
 }
 
-/// Most entries are the answer to a read that asks for one quad, or a check that passed. Those need little memory.
+/// Most entries are the answer to a read that asks for one quad, or a step of a request that was not refused. Those need little memory.
 #[derive(Drop)]
 pub(crate) enum Form {
     Presence {
@@ -26,10 +26,24 @@ pub(crate) enum Form {
         quad: KnownQuad,
         there: bool,
     },
+    Taken {
+        worker: u32,
+        request: u32,
+        incarnation: u32,
+    },
+    Begun {
+        worker: u32,
+        request: u32,
+        incarnation: u32,
+    },
     Passed {
         worker: u32,
         request: u32,
         incarnation: u32,
+    },
+    Committed {
+        worker: u32,
+        request: u32,
     },
     Whole(Box<JournalEntry>),
 }
@@ -39,8 +53,8 @@ pub(crate) enum Form {
 pub enum Shown<'a> {
     /// A read that was answered, with how many quads or names, or 0 or 1 for whether a graph is there.
     Answered(usize, u64, Read<Id>, u64),
-    /// A check that passed.
-    Passed(usize, u64),
+    /// Another event and its reply.
+    Other(Event, Reply),
     Whole(&'a Kept),
 }
 
@@ -95,16 +109,33 @@ fn packed_answer(worker: u32, i: usize, n: u64, read: &Read<Id>, count: u64) -> 
     })
 }
 
-// A check that passed, in little memory.
-fn packed_check(worker: u32, i: usize, n: u64) -> Option<Form>
+// A step of a request that was not refused, in little memory.
+fn packed_step(worker: u32, event: &Event, reply: &Reply) -> Option<Form>
     ensures { IfSome result (λ form. entry_of form
-        ≡ record { worker = worker; kept = Kept.Other (Event.Check i n) Reply.Passed }) }
+        ≡ record { worker = worker; kept = Kept.Other event.now reply.now }) }
 {
-    Some(Form::Passed {
-        worker,
-        request: u32::try_from(i).ok()?,
-        incarnation: u32::try_from(n).ok()?,
-    })
+    match (event, reply) {
+        (Event::Take(i), Reply::Taken(n)) => Some(Form::Taken {
+            worker,
+            request: u32::try_from(*i).ok()?,
+            incarnation: u32::try_from(*n).ok()?,
+        }),
+        (Event::Begin(i, n), Reply::Begun) => Some(Form::Begun {
+            worker,
+            request: u32::try_from(*i).ok()?,
+            incarnation: u32::try_from(*n).ok()?,
+        }),
+        (Event::Check(i, n), Reply::Passed) => Some(Form::Passed {
+            worker,
+            request: u32::try_from(*i).ok()?,
+            incarnation: u32::try_from(*n).ok()?,
+        }),
+        (Event::Commit(i), Reply::Committed) => Some(Form::Committed {
+            worker,
+            request: u32::try_from(*i).ok()?,
+        }),
+        _ => None,
+    }
 }
 
 fn packed(entry: &JournalEntry) -> Option<Form>
@@ -112,8 +143,8 @@ fn packed(entry: &JournalEntry) -> Option<Form>
 {
     match &entry.kept {
         Kept::Answered(i, n, read, count) => packed_answer(entry.worker, *i, *n, read, *count),
-        Kept::Other(Event::Check(i, n), Reply::Passed) => packed_check(entry.worker, *i, *n),
-        _ => None,
+        Kept::Other(event, reply) => packed_step(entry.worker, event, reply),
+        Kept::Published(_, _, _, _) => None,
     }
 }
 
@@ -140,7 +171,10 @@ impl PackedEntry {
     {
         match &self.form {
             Form::Presence { worker, .. } => *worker,
+            Form::Taken { worker, .. } => *worker,
+            Form::Begun { worker, .. } => *worker,
             Form::Passed { worker, .. } => *worker,
+            Form::Committed { worker, .. } => *worker,
             Form::Whole(entry) => entry.worker,
         }
     }
@@ -162,11 +196,33 @@ impl PackedEntry {
                 scan_for(quad.to_quad()),
                 *there as u64,
             ),
+            Form::Taken {
+                request,
+                incarnation,
+                ..
+            } => Shown::Other(
+                Event::Take(*request as usize),
+                Reply::Taken(*incarnation as u64),
+            ),
+            Form::Begun {
+                request,
+                incarnation,
+                ..
+            } => Shown::Other(
+                Event::Begin(*request as usize, *incarnation as u64),
+                Reply::Begun,
+            ),
             Form::Passed {
                 request,
                 incarnation,
                 ..
-            } => Shown::Passed(*request as usize, *incarnation as u64),
+            } => Shown::Other(
+                Event::Check(*request as usize, *incarnation as u64),
+                Reply::Passed,
+            ),
+            Form::Committed { request, .. } => {
+                Shown::Other(Event::Commit(*request as usize), Reply::Committed)
+            }
             Form::Whole(entry) => Shown::Whole(&entry.kept),
         }
     }

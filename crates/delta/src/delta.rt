@@ -8,10 +8,9 @@ ghost use Rattle.datasets.specs.Dataset.{quad_order, matches};
 ghost use Rattle.reads.specs.Reads.{View as Dataset, says, applied, covers as the_covers, no_change};
 ghost use Rattle.delta.specs.Same.{delta_eq};
 
-use crate::lists::{has_names, names_after, quads_and_more, same_sets};
+use crate::lists::{has_names, names_after, same_sets};
 use crate::parts::Parts;
 use datasets::{Id, Quad, QuadPattern, Read};
-use quad_sets::lists::merged;
 use quad_sets::{QuadSet, QuadSlice};
 use reads::lists::{copied_names, name_if, names_union};
 use reads::same::same_names;
@@ -159,8 +158,8 @@ impl Delta {
           gone = [];
         }) }
     {
-        let present = matching_set(alloc, &self.present(), pattern)?;
-        let absent = matching_set(alloc, &self.absent(), pattern)?;
+        let present = self.present().matching(alloc, pattern)?;
+        let absent = self.absent().matching(alloc, pattern)?;
         Delta::from_sets(alloc, present, absent, Vec::new(alloc), Vec::new(alloc))
     }
 
@@ -208,7 +207,8 @@ impl Delta {
         ensures { IfOk result (λ after. after ≡ applied self.now view) }
     {
         let (quads, names) = view.into_parts();
-        let quads = merged(quads_and_more(quads, &self.absent(), &self.present())?)?;
+        let list = quads.into_list();
+        let quads = QuadSet::of_changed(alloc, list, &self.absent(), &self.present())?;
         let names = names_after(alloc, names, self.gone(), self.there())?;
         Ok(View::from_sets(quads, names))
     }
@@ -223,7 +223,8 @@ impl Delta {
         ensures { IfOk result (λ after. after ≡ applied self.now dataset) }
     {
         let (quads, names) = dataset.into_parts();
-        let quads = QuadSet::changed(alloc, &quads.as_slice(), &self.absent(), &self.present())?;
+        let list = quads.into_list();
+        let quads = QuadSet::of_changed(alloc, list, &self.absent(), &self.present())?;
         let names = names_after(alloc, names, self.gone(), self.there())?;
         Ok(CompactView::from_sets(quads, names))
     }
@@ -262,16 +263,4 @@ impl Delta {
             && same_names(self.there(), other.there())
             && same_names(self.gone(), other.gone())
     }
-}
-
-// Of a set's quads those that match.
-fn matching_set(
-    alloc: Global,
-    quads: &QuadSlice<'_>,
-    pattern: &QuadPattern<Id>,
-) -> Result<QuadSet, AllocError>
-    ensures { IfOk result (λ part. part ≡ filter (matches id_order pattern.now) quads.now) }
-{
-    quads.rises();
-    QuadSet::from_set(alloc, quads.matching(alloc, pattern)?)
 }

@@ -36,21 +36,6 @@ fn names_without(mut names: Vec<Id>, others: &[Id]) -> Vec<Id>
     names
 }
 
-/// The quads that are none of a set's, and then more.
-pub(crate) fn quads_and_more(
-    quads: Vec<Quad<Id>>,
-    gone: &QuadSlice<'_>,
-    more: &QuadSlice<'_>,
-) -> Result<Vec<Quad<Id>>, AllocError>
-    ensures { IfOk result (λ after. after.items
-        ≡ without (quad_order id_order) quads.items gone.now ++ more.now) }
-{
-    let mut after = gone.lacked(quads);
-    after.reserve_exact(more.len())?;
-    more.push_all(&mut after)?;
-    Ok(after)
-}
-
 /// The set of the names that are none of a set's, and of more.
 pub(crate) fn names_after(
     alloc: Global,

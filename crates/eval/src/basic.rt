@@ -58,7 +58,7 @@ fn solve_triple<S: Source, F>(
 {
     let wanted = scan_of(pattern, graph);
     let quads = scan(query.alloc, &wanted, query.changes, source, notes)?;
-    let found = Solutions::among(query.alloc, query.width, pattern, &quads)?;
+    let found = Solutions::among(query.alloc, query.width, pattern, &quads.as_slice())?;
     Ok(found)
 }
 

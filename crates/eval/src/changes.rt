@@ -9,9 +9,9 @@ ghost use Rattle.reads.specs.Reads.{View, applied};
 use crate::lacking::names_outside;
 use datasets::{Id, Quad, QuadPattern};
 use delta::Delta;
-use quad_index::matching::matching;
+use quad_index::QuadList;
 use quad_sets::QuadSet;
-use reads::lists::{copied_names, names_union, quads_union};
+use reads::lists::{copied_names, names_union};
 use sets::is_member;
 use std::alloc::{AllocError, Global};
 
@@ -20,14 +20,13 @@ pub fn quads_after(
     alloc: Global,
     changes: &Delta,
     pattern: &QuadPattern<Id>,
-    told: &[Quad<Id>],
-) -> Result<Vec<Quad<Id>>, AllocError>
-    ensures { IfOk result (λ quads. quads.items ≡ seen_through changes.now pattern.now told.now) }
+    told: &QuadList,
+) -> Result<QuadSet, AllocError>
+    ensures { IfOk result (λ quads. quads ≡ seen_through changes.now pattern.now told.now) }
 {
-    let matched = matching(alloc, pattern, told)?;
-    let kept = changes.absent().lacked(matched);
+    let matched = told.matching(alloc, pattern)?;
     let added = changes.present().matching(alloc, pattern)?;
-    quads_union(kept, added)
+    QuadSet::of_changed(alloc, matched, &changes.absent(), &added.as_slice())
 }
 
 /// The graph names after the changes, from those that were told before them.

@@ -8,21 +8,31 @@ ghost use Rattle.datasets.specs.declared.read.Read.TheVariants.{Scan};
 ghost use Rattle.reads.specs.Reads.{View, Read as Reading, applied, told_quads};
 ghost use Rattle.reads.specs.Runs.{Agrees};
 ghost use Rattle.asking.specs.Goes.{Goes, stop_of};
+ghost use Rattle.eval.specs.Changes.{seen_through};
 
 use crate::changes::quads_after;
 use asking::ask;
-use datasets::{Id, Quad, QuadPattern, Read};
+use datasets::{Id, QuadPattern, Read};
 use delta::Delta;
+use quad_index::QuadList;
+use quad_sets::QuadSet;
 use reads::{Answered, Note, Source, Stop};
-use std::alloc::Global;
+use std::alloc::{AllocError, Global};
 
-// The quads of an answer. An answer of another kind counts as none.
-fn quads_of(answer: &Answered) -> &[Quad<Id>]
-    ensures { (quads : List (QuadOf Id)) → told_quads answer.now ≡ Some quads → result.now ≡ quads }
+// The quads of a pattern after the changes, from an answer that was told before them. An answer of another kind counts as no quads.
+fn told_after(
+    alloc: Global,
+    changes: &Delta,
+    pattern: &QuadPattern<Id>,
+    answer: &Answered,
+) -> Result<QuadSet, AllocError>
+    ensures { IfOk result (λ found. (quads : List (QuadOf Id))
+        → told_quads answer.now ≡ Some quads
+        → found ≡ seen_through changes.now pattern.now quads) }
 {
     match answer.quads() {
-        Some(quads) => quads,
-        None => &[],
+        Some(quads) => quads_after(alloc, changes, pattern, quads),
+        None => quads_after(alloc, changes, pattern, &QuadList::new(alloc)),
     }
 }
 
@@ -33,14 +43,14 @@ pub fn scan<S: Source>(
     changes: &Delta,
     source: &mut S,
     notes: &mut Vec<Note>,
-) -> Result<Vec<Quad<Id>>, Stop>
+) -> Result<QuadSet, Stop>
     ensures goes { (allowed : Reading → Bool) → allowed (Scan pattern.now) ≡ true
         → Goes S.asks allowed source.old source.new notes.old.items notes.new.items
         (stop_of result) }
     ensures seen { IfOk result (λ quads. (d : View) → Agrees notes.new.items d
-        → quads.items ≡ filter (matches id_order pattern.now) (applied changes.now d).quads) }
+        → quads ≡ filter (matches id_order pattern.now) (applied changes.now d).quads) }
 {
     let answer = ask(alloc, Read::Scan(*pattern), source, notes)?;
-    let quads = quads_after(alloc, changes, pattern, quads_of(&answer))?;
+    let quads = told_after(alloc, changes, pattern, &answer)?;
     Ok(quads)
 }

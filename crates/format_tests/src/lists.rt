@@ -1,6 +1,6 @@
 //! Lists, sets and IRIs.
 use datasets::Id;
-use iris::{Iri, is_iri, is_utf8};
+use iris::{Iri, is_iri, text_of};
 use sets::{Items, set_of};
 use std::alloc::{AllocError, Global};
 
@@ -66,6 +66,6 @@ fn iris_alone(rt: HostRuntime) -> Result<(), AllocError> {
 
 #[test]
 fn utf8(rt: HostRuntime) {
-    assert!(rt; is_utf8("é日".as_bytes()));
-    assert!(rt; !is_utf8(b"\xc3"));
+    assert_eq!(rt; text_of("é日".as_bytes()), Some("é日"));
+    assert_eq!(rt; text_of(b"\xc3"), None);
 }

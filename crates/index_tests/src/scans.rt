@@ -57,7 +57,9 @@ fn scans_of(
     for places in 0..16 {
         let pattern = pattern_of(places, quad);
         let mut looks = Looks::new();
-        let found = index.scan_counted(alloc, &pattern, &mut looks)?;
+        let found = index
+            .scan_counted(alloc, &pattern, &mut looks)?
+            .quads(alloc)?;
         let wanted = filtered(alloc, &pattern, set)?;
         let is_right = found.as_slice() == wanted.as_slice() && found.as_slice().contains(quad);
         scans.are_right = scans.are_right && is_right;
@@ -193,7 +195,9 @@ fn many_quads_of_a_predicate_come_by_subject(rt: HostRuntime) -> Result<(), Allo
         let set = set_of(quads_of_a_predicate(alloc, least)?);
         let index = indexed(alloc, &set, &BESIDE_SPOG)?;
         assert!(rt; set.len() == 3000);
-        let found = index.scan(alloc, &pattern_of(2, &quad_of(1)))?;
+        let found = index
+            .scan(alloc, &pattern_of(2, &quad_of(1)))?
+            .quads(alloc)?;
         assert!(rt; found.as_slice() == set.as_slice());
     }
     Ok(())

@@ -11,4 +11,4 @@ mod utf8;
 
 pub use iri::{Iri, is_iri, is_iri_byte};
 pub use iri_cow::IriCow;
-pub use utf8::is_utf8;
+pub use utf8::text_of;

@@ -4,7 +4,7 @@ ghost use Rattle.std.specs.Str.{is_utf8};
 
 /// The bytes as a text, if they are UTF-8.
 #[tactic(auto, using(crate::proofs::TextLaws::text_laws))]
-fn text_of(bytes: &[u8]) -> Option<&str>
+pub fn text_of(bytes: &[u8]) -> Option<&str>
     ensures { MatchOption result (is_utf8 bytes.now ≡ false)
         (λ s. (s.now ≡ bytes.now) × (is_utf8 bytes.now ≡ true)) }
 {
@@ -12,11 +12,4 @@ fn text_of(bytes: &[u8]) -> Option<&str>
         Ok(text) => Some(text),
         Err(_) => None,
     }
-}
-
-/// Whether these bytes are UTF-8.
-pub fn is_utf8(bytes: &[u8]) -> bool
-    ensures { result ≡ is_utf8 bytes.now }
-{
-    text_of(bytes).is_some()
 }

@@ -47,6 +47,9 @@ digit_no_letter b e =
 pub letter_name : (b : ℕ) → is_letter b ≡ true → is_name_byte b ≡ true
 letter_name b h = ap (λ t. ((t || is_digit b) || eqb b 95) || eqb b 45) h
 
+pub digit_name : (b : ℕ) → is_digit b ≡ true → is_name_byte b ≡ true
+digit_name b h = ap (λ t. (t || eqb b 95) || eqb b 45) (ap (λ t. is_letter b || t) h ∙ or-true (is_letter b))
+
 pub start_name : (b : ℕ) → is_local_start b ≡ true → is_name_byte b ≡ true
 start_name b h = ap (λ t. t || eqb b 45) h
 

@@ -1,19 +1,21 @@
 -- The parts of tokens: IRIs are IRIs, and an IRI with a local part after it is one.
-use Rattle.std.proofs.Common.{◌≡◌, ℕ, ◌<◌, true, false, cond, ◌&&◌, ◌||◌, eqb, List, [], ◌∷◌, ◌++◌, refl, ◌∙◌, arith, IsUtf8, inl, inr}
+use Rattle.std.proofs.Common.{◌≡◌, ℕ, ◌<◌, Bool, true, false, cond, ◌&&◌, ◌||◌, eqb, List, [], ◌∷◌, ◌++◌, refl, ◌∙◌, arith, IsUtf8, inl, inr}
 use Rattle.std.specs.Prelude.{All}
 use Rattle.std.specs.List.{list_all, AllByRecursion}
 use Rattle.std.proofs.lemmas.Bool.{or_cases, and_parts, and_from, eqb-true}
-use Rattle.std.proofs.lemmas.Str.{IsUtf8-append, IsUtf8-from_ascii}
+use Rattle.std.specs.Str.{is_utf8}
+use Rattle.std.proofs.lemmas.Str.{IsUtf8-append, IsUtf8-from_ascii, is_utf8-from_IsUtf8}
 use Rattle.std.proofs.lemmas.Str.Ascii.{IsAscii-from_all}
 use Rattle.std.proofs.lemmas.List.Elements.{All-from_recursion}
 use Rattle.std.proofs.lemmas.List.Folds.{list_all-append}
 use Rattle.iris.specs.Iri.{is_letter, is_digit, is_scheme_byte, is_iri_byte, after_first, IsIri}
 use Rattle.iris.proofs.ByteLaws.{by_trial, letter_small, digit_small}
 use Rattle.lexer.specs.declared.token.Token.{Token}
-use Rattle.lexer.specs.Names.{is_name_byte, IsLocal}
+use Rattle.iris.specs.Runs.{run_of}
+use Rattle.lexer.specs.Names.{is_name_byte, is_variable_byte, IsLocal}
 use Rattle.lexer.specs.Form.{IsToken, iri, name, variable, blank, string, tag, integer, word, sign, HasParts}
 use Rattle.lexer.specs.Cut.{Cuts, end, space, comment, token as token_cut}
-use Rattle.lexer.proofs.ByteLaws.{start_name, all_weaker}
+use Rattle.lexer.proofs.ByteLaws.{letter_name, digit_name, start_name, all_weaker}
 use Rattle.lexer.proofs.StringLaws.{spelled_is_utf8}
 
 -- ---- bytes of names
@@ -36,8 +38,32 @@ names_small : (bs : List ℕ) → list_all is_name_byte bs ≡ true → AllByRec
 names_small [] e = tt
 names_small (b ∷ bs) e = let h = and_parts (is_name_byte b) (list_all is_name_byte bs) e in (name_small b h.0, names_small bs h.1)
 
-names_utf8 : (bs : List ℕ) → list_all is_name_byte bs ≡ true → IsUtf8 bs
+pub names_utf8 : (bs : List ℕ) → list_all is_name_byte bs ≡ true → IsUtf8 bs
 names_utf8 bs e = IsUtf8-from_ascii bs (IsAscii-from_all bs (All-from_recursion (λ b. b < 128) bs (names_small bs e)))
+
+-- runs of name bytes of each kind are name bytes, which are UTF-8
+pub names_told : (bs : List ℕ) → list_all is_name_byte bs ≡ true → is_utf8 bs ≡ true
+names_told bs e = is_utf8-from_IsUtf8 bs (names_utf8 bs e)
+
+run_names : (p : ℕ → Bool) → ((b : ℕ) → p b ≡ true → is_name_byte b ≡ true) → (bs : List ℕ) → list_all is_name_byte (run_of p bs) ≡ true
+run_names p weaker [] = refl
+run_names p weaker (b ∷ bs) =
+    elim (p b) as (λ t. p b ≡ t → list_all is_name_byte (cond t (b ∷ run_of p bs) []) ≡ true) [
+      | true ↦ λ h. and_from (is_name_byte b) (list_all is_name_byte (run_of p bs)) (weaker b h) (run_names p weaker bs)
+      | false ↦ λ h. refl
+    ] refl
+
+pub run_of_names : (bs : List ℕ) → list_all is_name_byte (run_of is_name_byte bs) ≡ true
+run_of_names = run_names is_name_byte (λ b h. h)
+
+pub run_of_letters : (bs : List ℕ) → list_all is_name_byte (run_of is_letter bs) ≡ true
+run_of_letters = run_names is_letter letter_name
+
+pub run_of_variables : (bs : List ℕ) → list_all is_name_byte (run_of is_variable_byte bs) ≡ true
+run_of_variables = run_names is_variable_byte start_name
+
+pub run_of_digits : (bs : List ℕ) → list_all is_name_byte (run_of is_digit bs) ≡ true
+run_of_digits = run_names is_digit digit_name
 
 local_names : (l : List ℕ) → IsLocal l → list_all is_name_byte l ≡ true
 local_names [] is = refl

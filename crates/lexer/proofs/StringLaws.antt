@@ -1,12 +1,13 @@
 -- Strings: what is read is one, each is read, and what it spells is UTF-8.
-use Rattle.std.proofs.Common.{◌≡◌, ℕ, suc, ◌+◌, ◌-◌, ◌≤◌, ◌<◌, Bool, true, false, cond, ◌||◌, eqb, ltb, List, [], ◌∷◌, ◌++◌, length, take, get_or, Some, None, unwrap_or, is_some, refl, sym, ap, ◌∙◌, subst, arith, length-append, inl, inr, IsUtf8, encode_utf8, encode_utf8_all}
+use Rattle.std.proofs.Common.{◌≡◌, ℕ, suc, ◌+◌, ◌-◌, ◌≤◌, ◌<◌, Bool, true, false, cond, ◌||◌, eqb, ltb, List, [], ◌∷◌, ◌++◌, length, take, drop, get_or, Option, Some, None, unwrap_or, is_some, not, ◌≢◌, refl, sym, ap, ◌∙◌, subst, arith, length-append, inl, inr, IsUtf8, encode_utf8, encode_utf8_all}
 use Rattle.std.proofs.Math.Utf8.{scalar, scalars}
-use Rattle.std.specs.Str.{is_utf8}
+use Rattle.std.specs.Str.{is_utf8, IsCharBoundary}
+use Rattle.std.specs.List.{position_or_len, before_first, after_first}
 use Rattle.std.specs.Char.{len_utf8}
 use Rattle.std.proofs.lemmas.Bool.{eqb-true, and_parts, or_cases, ltb-true, ltb-false, or_parts}
 use Rattle.std.proofs.lemmas.List.{take_at, append-nil}
 use Rattle.std.proofs.lemmas.Option.{same_Some, none-some}
-use Rattle.std.proofs.lemmas.Str.{IsUtf8-nil, IsUtf8-append, IsUtf8-encode, IsUtf8-from_is_utf8, is_utf8-from_IsUtf8, IsUtf8-from_ascii, encode_ascii, length-encode, inside_one}
+use Rattle.std.proofs.lemmas.Str.{IsUtf8-nil, IsUtf8-append, IsUtf8-encode, IsUtf8-from_is_utf8, is_utf8-from_IsUtf8, IsUtf8-from_ascii, encode_ascii, length-encode, inside_one, IsCharBoundary-after_ascii, IsUtf8-drop}
 use Rattle.std.proofs.lemmas.Str.Ascii.{IsAscii-from_all}
 use Rattle.std.proofs.lemmas.List.Elements.{All-from_recursion}
 use Rattle.iris.specs.Forms.{short_escape}
@@ -107,6 +108,102 @@ pub between_escaped : (quote : ℕ) (text rest : List ℕ) → string_end quote 
 between_escaped quote text rest e =
     let s = closed quote false text rest e in
     subst IsEscaped (sym (between_is text s.written rest quote s.cut)) (spells_value s.spells).0
+
+-- ---- a string's escapes, one after the other
+
+abbrev first_backslash : List ℕ → ℕ
+first_backslash = position_or_len (λ b. eqb b 92)
+
+-- what stands before an escape, its letter, and what follows it
+pub record EscapeFound (written before after : List ℕ) : Type 0 where
+  pub letter : ℕ
+  pub value : ℕ
+  pub tail : List ℕ
+  pub is : after ≡ letter ∷ tail
+  pub stands : short_escape letter ≡ Some value
+  pub later : IsEscaped tail
+  pub whole : unescaped written ≡ before ++ value ∷ unescaped tail
+
+escape_found : (written : List ℕ) → IsEscaped written → first_backslash written < length written
+    → EscapeFound written (before_first (λ b. eqb b 92) written) (after_first (λ b. eqb b 92) written)
+escape_found written escaped_end less = absurd (omega arith)
+escape_found written (escaped_plain {b} {rest} p is) less =
+    let place : first_backslash (b ∷ rest) ≡ suc (first_backslash rest) = ap (λ t. cond (not t) (1 + first_backslash rest) 0) p ∙ omega arith in
+    let past : first_backslash (b ∷ rest) + 1 ≡ suc (first_backslash rest + 1) = omega (arith, place) in
+    let below = escape_found rest is (omega (arith, place)) in
+    subst (λ n. EscapeFound (b ∷ rest) (take n (b ∷ rest)) (drop (first_backslash (b ∷ rest) + 1) (b ∷ rest))) (sym place)
+      (subst (λ k. EscapeFound (b ∷ rest) (b ∷ take (first_backslash rest) rest) (drop k (b ∷ rest))) (sym past) (record {
+        letter = below.letter;
+        value = below.value;
+        tail = below.tail;
+        is = below.is;
+        stands = below.stands;
+        later = below.later;
+        whole = ap (λ t. cond t (unescaped_after true rest) (b ∷ unescaped rest)) p ∙ ap (λ (x : List ℕ). b ∷ x) below.whole;
+      }))
+escape_found written (escaped_short {b} {c} {rest} e is) less =
+    record { letter = b; value = c; tail = rest; is = refl; stands = e; later = is; whole = rw e refl }
+
+-- as the parts before and after the first backslash are
+pub escape_between : (written before after : List ℕ) → IsEscaped written
+    → (before ≡ before_first (λ b. eqb b 92) written) × (after ≡ after_first (λ b. eqb b 92) written) × (first_backslash written < length written)
+    → EscapeFound written before after
+escape_between written before after is cut =
+    subst (λ x. EscapeFound written x after) (sym cut.0) (subst (λ y. EscapeFound written (before_first (λ b. eqb b 92) written) y) (sym cut.1) (escape_found written is cut.2))
+
+backslash_at : (written : List ℕ) → first_backslash written < length written → get_or written (first_backslash written) 0 ≡ 92
+backslash_at [] less = absurd (omega arith)
+backslash_at (b ∷ bs) less =
+    elim (eqb b 92) as (λ t. eqb b 92 ≡ t → cond (not t) (1 + first_backslash bs) 0 < suc (length bs) → get_or (b ∷ bs) (cond (not t) (1 + first_backslash bs) 0) 0 ≡ 92) [
+      | true ↦ λ e less. eqb-true b 92 e
+      | false ↦ λ e less. let n : 1 + first_backslash bs ≡ suc (first_backslash bs) = omega arith in ap (λ k. get_or (b ∷ bs) k 0) n ∙ backslash_at bs (omega arith)
+    ] refl less
+
+pub after_utf8 : (written after : List ℕ) → IsUtf8 written → after ≡ after_first (λ b. eqb b 92) written → first_backslash written < length written → IsUtf8 after
+after_utf8 written after is e less =
+    let small : get_or written (first_backslash written) 0 < 128 = let at = backslash_at written less in omega arith in
+    subst IsUtf8 (sym e) (IsUtf8-drop written (first_backslash written + 1) is (IsCharBoundary-after_ascii written (first_backslash written) is less small))
+
+pub none_left : (written : List ℕ) → first_backslash written ≡ length written → unescaped written ≡ written
+none_left [] all = refl
+none_left (b ∷ bs) all =
+    elim (eqb b 92) as (λ t. cond (not t) (1 + first_backslash bs) 0 ≡ suc (length bs) → cond t (unescaped_after true bs) (b ∷ unescaped bs) ≡ b ∷ bs) [
+      | true ↦ λ e. absurd (omega arith)
+      | false ↦ λ e. ap (λ (x : List ℕ). b ∷ x) (none_left bs (omega arith))
+    ] all
+
+-- where a letter is first, it is a character by itself
+pub letter_alone : {written before after : List ℕ} → EscapeFound written before after → IsUtf8 after → IsCharBoundary after 1
+letter_alone found is = subst (λ x. IsUtf8 x → IsCharBoundary x 1) (sym found.is) (λ is. IsCharBoundary-after_ascii (found.letter ∷ found.tail) 0 is (omega arith) (escape_small found.letter found.value found.stands).0) is
+
+pub tail_utf8 : {written before after : List ℕ} (y : List ℕ) → EscapeFound written before after → IsUtf8 after → y ≡ drop 1 after → IsUtf8 y
+tail_utf8 {written} {before} {after} y found is e = subst IsUtf8 (sym e) (IsUtf8-drop after 1 is (letter_alone found is))
+
+pub later_escaped : {written before after : List ℕ} (y : List ℕ) → EscapeFound written before after → y ≡ drop 1 after → IsEscaped y
+later_escaped y found e = subst IsEscaped (sym (e ∙ ap (drop 1) found.is)) found.later
+
+pub one_undone : {written before after : List ℕ} (x y : List ℕ) → EscapeFound written before after → x ≡ take 1 after → y ≡ drop 1 after
+    → before ++ (unescaped_after true x ++ unescaped y) ≡ unescaped written
+one_undone {written} {before} {after} x y found front back =
+    (λ i. before ++ (unescaped_after true ((front ∙ ap (take 1) found.is) i) ++ unescaped ((back ∙ ap (drop 1) found.is) i)))
+    ∙ ap (λ c. before ++ (unwrap_or c found.letter ∷ unescaped found.tail)) found.stands
+    ∙ sym found.whole
+
+-- a letter that is none of these stands for itself
+stays_other : (c n m : ℕ) (o : Option ℕ) → (c ∷ []) ≢ (n ∷ []) → unwrap_or o c ≡ c → unwrap_or (cond (eqb c n) (Some m) o) c ≡ c
+stays_other c n m o other later =
+    elim (eqb c n) as (λ t. eqb c n ≡ t → unwrap_or (cond t (Some m) o) c ≡ c) [ true ↦ λ e. absurd (other (ap (λ y. y ∷ []) (eqb-true c n e))) | false ↦ λ e. later ] refl
+
+stays_same : (c n : ℕ) (o : Option ℕ) → unwrap_or o c ≡ c → unwrap_or (cond (eqb c n) (Some n) o) c ≡ c
+stays_same c n o later =
+    elim (eqb c n) as (λ t. eqb c n ≡ t → unwrap_or (cond t (Some n) o) c ≡ c) [ true ↦ λ e. sym (eqb-true c n e) | false ↦ λ e. later ] refl
+
+pub letter_stays : (x : List ℕ) → length x ≡ 1 → x ≢ 116 ∷ [] → x ≢ 98 ∷ [] → x ≢ 110 ∷ [] → x ≢ 114 ∷ [] → x ≢ 102 ∷ [] → x ≡ unescaped_after true x
+letter_stays [] one t b n r f = absurd (omega arith)
+letter_stays (c ∷ d ∷ x) one t b n r f = absurd (omega arith)
+letter_stays (c ∷ []) one t b n r f = ap (λ y. y ∷ []) (sym (
+    stays_other c 116 9 _ t (stays_other c 98 8 _ b (stays_other c 110 10 _ n (stays_other c 114 13 _ r (stays_other c 102 12 _ f
+    (stays_same c 34 _ (stays_same c 39 _ (stays_same c 92 None refl)))))))))
 
 -- ---- strings
 

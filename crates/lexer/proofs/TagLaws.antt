@@ -1,17 +1,16 @@
 -- Tags: what is read is one, and no longer one stands there.
-use Rattle.std.proofs.Common.{◌≡◌, ℕ, ◌-◌, ◌≤◌, ◌<◌, Bool, true, false, cond, ◌&&◌, ◌||◌, eqb, ltb, leb, List, [], ◌∷◌, ◌++◌, map, length, get_or, take, drop, refl, sym, ap, ◌∙◌, subst, arith, length-append, inl, inr, IsUtf8}
+use Rattle.std.proofs.Common.{◌≡◌, ℕ, ◌-◌, ◌≤◌, ◌<◌, Bool, true, false, cond, ◌&&◌, ◌||◌, eqb, ltb, leb, List, [], ◌∷◌, ◌++◌, map, length, get_or, take, drop, refl, sym, ap, ◌∙◌, subst, arith, length-append, inl, inr}
 use Rattle.std.specs.Char.{to_ascii_lowercase}
-use Rattle.std.specs.List.{AllByRecursion}
+use Rattle.std.specs.List.{list_all}
 use Rattle.std.proofs.Math.Bool.{or-false}
 use Rattle.std.proofs.lemmas.Bool.{eqb-true, and_parts, and_from, or_cases, leb-true, le-ltb, ltb-true, ltb-false, agree_below, agree_below_at}
 use Rattle.std.proofs.lemmas.List.{take_at, drop_at}
-use Rattle.std.proofs.lemmas.Str.{IsUtf8-from_ascii}
-use Rattle.std.proofs.lemmas.Str.Ascii.{IsAscii-from_all}
-use Rattle.std.proofs.lemmas.List.Elements.{All-from_recursion}
 use Rattle.iris.specs.Iri.{is_letter, is_digit}
-use Rattle.iris.specs.Forms.{is_small_letter, InTag, start, first, dash, later as in_later, is_tag_from, is_tag}
+use Rattle.iris.specs.Forms.{is_small_letter, InTag, first, dash, later as in_later, is_tag_from, is_tag}
 use Rattle.iris.proofs.ByteLaws.{test_ne, letter_small, digit_small}
+use Rattle.lexer.specs.Names.{is_name_byte}
 use Rattle.lexer.specs.Reading.{begins_group, tag_of, tag_end}
+use Rattle.lexer.proofs.ByteLaws.{letter_name, digit_name}
 
 -- ---- letters of either case
 
@@ -164,27 +163,21 @@ tag_longer b bs r is =
     let below = longer_from false bs r h.1 in
     (letter, subst (λ x. length (b ∷ bs) ≤ length x) (sym (first_byte b (bs ++ r) letter)) (omega (arith, below)))
 
--- ---- a tag is ASCII
+-- ---- the bytes of a tag are bytes of names
 
-group_small : (b : ℕ) → (is_small_letter b || is_digit b) ≡ true → b < 128
-group_small b e = elim (or_cases (is_small_letter b) (is_digit b) e) [ inl h ↦ small_small b h | inr h ↦ digit_small b h ]
+group_name : (later : Bool) (b : ℕ) → (is_letter b || (later && is_digit b)) ≡ true → is_name_byte b ≡ true
+group_name later b e = elim (or_cases (is_letter b) (later && is_digit b) e) [ inl h ↦ letter_name b h | inr h ↦ digit_name b (and_parts later (is_digit b) h).1 ]
 
-small_from : (s : InTag) (bs : List ℕ) → is_tag_from s bs ≡ true → AllByRecursion (λ b. b < 128) bs
-small_from s [] e = tt
-small_from start (b ∷ bs) e = let h = and_parts (is_small_letter b) (is_tag_from first bs) e in (small_small b h.0, small_from first bs h.1)
-small_from first (b ∷ bs) e =
-    elim (or_cases (is_small_letter b && is_tag_from first bs) (eqb b 45 && is_tag_from dash bs) e) [
-      | inl g ↦ let h = and_parts (is_small_letter b) (is_tag_from first bs) g in (small_small b h.0, small_from first bs h.1)
-      | inr g ↦ let h = and_parts (eqb b 45) (is_tag_from dash bs) g in (dash_small b h.0, small_from dash bs h.1)
-    ]
-small_from dash (b ∷ bs) e = let h = and_parts (is_small_letter b || is_digit b) (is_tag_from in_later bs) e in (group_small b h.0, small_from in_later bs h.1)
-small_from in_later (b ∷ bs) e =
-    elim (or_cases ((is_small_letter b || is_digit b) && is_tag_from in_later bs) (eqb b 45 && is_tag_from dash bs) e) [
-      | inl g ↦ let h = and_parts (is_small_letter b || is_digit b) (is_tag_from in_later bs) g in (group_small b h.0, small_from in_later bs h.1)
-      | inr g ↦ let h = and_parts (eqb b 45) (is_tag_from dash bs) g in (dash_small b h.0, small_from dash bs h.1)
-    ]
+dash_name : (b : ℕ) → eqb b 45 ≡ true → is_name_byte b ≡ true
+dash_name b e = rw (eqb-true b 45 e) refl
 
-pub tag_text : (written x : List ℕ) → is_tag (map to_ascii_lowercase written) ≡ true → x ≡ map to_ascii_lowercase written → IsUtf8 x
-tag_text written x is e =
-    let t : List ℕ = map to_ascii_lowercase written in
-    subst IsUtf8 (sym e) (IsUtf8-from_ascii t (IsAscii-from_all t (All-from_recursion (λ b. b < 128) t (small_from start t is))))
+pub tag_names : (later : Bool) (bs : List ℕ) → list_all is_name_byte (tag_of later bs) ≡ true
+tag_names later [] = refl
+tag_names later (b ∷ bs) =
+    elim (is_letter b || (later && is_digit b)) as (λ t. (is_letter b || (later && is_digit b)) ≡ t → list_all is_name_byte (cond t (b ∷ tag_of later bs) (cond (eqb b 45 && begins_group bs) (b ∷ tag_of true bs) [])) ≡ true) [
+      | true ↦ λ h. and_from (is_name_byte b) (list_all is_name_byte (tag_of later bs)) (group_name later b h) (tag_names later bs)
+      | false ↦ λ h. elim (eqb b 45 && begins_group bs) as (λ t. (eqb b 45 && begins_group bs) ≡ t → list_all is_name_byte (cond t (b ∷ tag_of true bs) []) ≡ true) [
+        | true ↦ λ g. and_from (is_name_byte b) (list_all is_name_byte (tag_of true bs)) (dash_name b (and_parts (eqb b 45) (begins_group bs) g).0) (tag_names true bs)
+        | false ↦ λ g. refl
+      ] refl
+    ] refl

@@ -10,17 +10,6 @@ use crate::strings::unescaped;
 use std::alloc::{AllocError, Global};
 use std::marker::{Model, PhantomData};
 
-/// The text of these bytes. It takes no memory.
-fn text_of(bytes: Vec<u8>) -> String
-    requires { IsUtf8 bytes.items }
-    ensures { string_bytes result ≡ bytes.items }
-{
-    match String::from_utf8(bytes) {
-        Ok(text) => text,
-        Err(_) => unreachable!(),
-    }
-}
-
 /// What a kind of text is made of.
 pub trait Form {
     ghost use Rattle.std.specs.Prelude.{List, ℕ};
@@ -67,7 +56,7 @@ impl Form for DigitsForm {
 /// A part of a request's text that has some form. Contracts see its bytes.
 #[derive(Drop)]
 pub struct FormedPiece<'a, F: Form> {
-    bytes: &'a [u8],
+    text: &'a str,
     form: PhantomData<F>,
 }
 
@@ -76,21 +65,29 @@ impl<'a, F: Form> Model for FormedPiece<'a, F> {
 
     ghost Value = { List ℕ };
 
-    ghost view = { λ p. p.bytes.now };
+    ghost view = { λ p. p.text.now };
 
-    ghost invariant = { λ p. F.has p.bytes.now };
+    ghost invariant = { λ p. F.has p.text.now };
 }
 
 impl<'a, F: Form> FormedPiece<'a, F> {
-    /// The piece that is these bytes. It takes no memory.
-    pub(crate) fn new(bytes: &'a [u8]) -> FormedPiece<'a, F>
-        requires { F.has bytes.now }
-        ensures { result ≡ bytes.entry.now }
+    /// The piece that is this text. It takes no memory.
+    pub(crate) fn new(text: &'a str) -> FormedPiece<'a, F>
+        requires { F.has text.now }
+        ensures { result ≡ text.entry.now }
     {
         FormedPiece {
-            bytes,
+            text,
             form: PhantomData,
         }
+    }
+
+    /// Its text, which was judged as UTF-8 when the piece was cut.
+    pub fn as_str(&self) -> &'a str
+        ensures text { result.now ≡ self.now }
+        ensures form { F.has self.now }
+    {
+        self.text
     }
 
     /// Its bytes.
@@ -98,7 +95,7 @@ impl<'a, F: Form> FormedPiece<'a, F> {
         ensures bytes { result.now ≡ self.now }
         ensures form { F.has self.now }
     {
-        self.bytes
+        self.as_str().as_bytes()
     }
 
     /// The same piece again. It takes no memory.
@@ -106,7 +103,7 @@ impl<'a, F: Form> FormedPiece<'a, F> {
         ensures { result ≡ self.now }
     {
         FormedPiece {
-            bytes: self.bytes,
+            text: self.text,
             form: PhantomData,
         }
     }
@@ -130,7 +127,7 @@ pub type Digits<'a> = FormedPiece<'a, DigitsForm>;
 /// A language tag, without its `@` (SPARQL 1.1 Query, 19.8, production 145). Contracts see its bytes in lower case, and they are a tag.
 #[derive(Drop)]
 pub struct Tag<'a> {
-    written: &'a [u8],
+    written: &'a str,
 }
 
 impl<'a> Model for Tag<'a> {
@@ -147,7 +144,7 @@ impl<'a> Model for Tag<'a> {
 
 impl<'a> Tag<'a> {
     /// The tag that is written so. It takes no memory.
-    pub(crate) fn new(written: &'a [u8]) -> Tag<'a>
+    pub(crate) fn new(written: &'a str) -> Tag<'a>
         requires { is_tag (map to_ascii_lowercase written.now) ≡ true }
         ensures { result ≡ map to_ascii_lowercase written.entry.now }
     {
@@ -159,8 +156,7 @@ impl<'a> Tag<'a> {
         ensures text { IfOk result (λ t. string_bytes t ≡ self.now) }
         ensures form { is_tag self.now ≡ true }
     {
-        let lower = self.written.to_ascii_lowercase(alloc)?;
-        Ok(text_of(lower))
+        self.written.to_ascii_lowercase(alloc)
     }
 
     /// The same tag again. It takes no memory.
@@ -177,7 +173,7 @@ impl<'a> Tag<'a> {
 /// undone.
 #[derive(Drop)]
 pub struct Quoted<'a> {
-    between: &'a [u8],
+    between: &'a str,
 }
 
 impl<'a> Model for Quoted<'a> {
@@ -193,7 +189,7 @@ impl<'a> Model for Quoted<'a> {
 
 impl<'a> Quoted<'a> {
     /// The string that is written so. It takes no memory.
-    pub(crate) fn new(between: &'a [u8]) -> Quoted<'a>
+    pub(crate) fn new(between: &'a str) -> Quoted<'a>
         requires escaped { IsEscaped between.now }
         requires utf8 { IsUtf8 between.now }
         ensures { result ≡ unescaped between.entry.now }
@@ -206,8 +202,7 @@ impl<'a> Quoted<'a> {
         ensures text { IfOk result (λ t. string_bytes t ≡ self.now) }
         ensures form { IsUtf8 self.now }
     {
-        let value = unescaped(alloc, self.between)?;
-        Ok(text_of(value))
+        unescaped(alloc, self.between)
     }
 
     /// The same string again. It takes no memory.

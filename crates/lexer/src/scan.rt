@@ -15,7 +15,7 @@ use crate::strings::string_at;
 use crate::tags::tag_at;
 use crate::token::Token;
 use iris::laws::runs_are_longest;
-use iris::{is_iri, is_utf8};
+use iris::{is_iri, text_of};
 
 /// What follows white space and comments.
 pub fn skip(text: &[u8]) -> &[u8]
@@ -44,19 +44,19 @@ fn is_local_start(b: u8) -> bool
 
 /// The local part at the front of a text, and what follows it.
 #[tactic(auto, unfolding(crate::specs::Reading::local_at))]
-fn local_at(text: &[u8]) -> (&[u8], &[u8])
+fn local_at(text: &[u8]) -> (&str, &[u8])
     ensures local { result.0.now ≡ (local_at text.now).0 }
     ensures rest { result.1.now ≡ (local_at text.now).1 }
 {
     match text {
         [first, ..] if is_local_start(*first) => cut_name(text),
-        _ => (&[], text),
+        _ => ("", text),
     }
 }
 
 /// The prefixed name of this prefix, where a colon follows it.
 #[tactic(auto, unfolding(crate::specs::Reading::name_after))]
-fn name_after<'a>(prefix: &'a [u8], text: &'a [u8]) -> Option<(Token<'a>, &'a [u8])>
+fn name_after<'a>(prefix: &'a str, text: &'a [u8]) -> Option<(Token<'a>, &'a [u8])>
     ensures { MatchOption result (name_after prefix.now text.now ≡ None)
         (λ x. name_after prefix.now text.now ≡ Some (x.0, x.1.now)) }
 {
@@ -213,7 +213,10 @@ fn angle_at(text: &[u8]) -> Option<(Token<'_>, &[u8])>
     let (iri, rest) = cut_iri(text);
     match rest {
         [b'>', ..] if !is_iri(iri) => None,
-        [b'>', after @ ..] if is_utf8(iri) => Some((Token::Iri(IriText::new(iri)), after)),
+        [b'>', after @ ..] => match text_of(iri) {
+            Some(iri) => Some((Token::Iri(IriText::new(iri)), after)),
+            None => sign_at(b'<', text),
+        },
         _ => sign_at(b'<', text),
     }
 }
@@ -231,7 +234,7 @@ fn plain_at(text: &[u8], edge: usize) -> Option<(Token<'_>, &[u8])>
     match *first {
         b'A'..=b'Z' | b'a'..=b'z' => Some(name_or_word(text, edge)),
         b'0'..=b'9' => integer_at(text),
-        b':' => name_after(&[], text),
+        b':' => name_after("", text),
         b'?' | b'$' => variable_at(after),
         b'_' => blank_at(after),
         b'@' => tag_at(after),

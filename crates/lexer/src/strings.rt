@@ -1,13 +1,12 @@
 //! Strings between two quotes, and what they spell.
-ghost use Rattle.std.specs.Prelude.{◌≡◌, ◌<◌, length, MatchOption, IfSome, IfOk, Some, None, true, false};
-ghost use Rattle.std.specs.Global.{Vec};
+ghost use Rattle.std.specs.Prelude.{◌≡◌, ◌<◌, length, MatchOption, IfSome, IfOk, Some, None, true, false, string_bytes};
 ghost use Rattle.iris.specs.Forms.{short_escape};
-ghost use Rattle.lexer.specs.Strings.{is_quote, ends_plain, unescaped};
+ghost use Rattle.lexer.specs.Strings.{IsEscaped, is_quote, ends_plain, unescaped, unescaped_after};
 ghost use Rattle.lexer.specs.Reading.{begins_with_two, string_end, string_at};
 
 use crate::pieces::Quoted;
 use crate::token::Token;
-use iris::is_utf8;
+use iris::text_of;
 use std::alloc::{AllocError, Global};
 
 /// The byte that an escape stands for, by the byte after its backslash.
@@ -74,29 +73,38 @@ pub fn string_at(quote: u8, text: &[u8]) -> Option<(Token<'_>, &[u8])>
     }
     let rest = string_end(quote, text)?;
     let (written, _) = text.split_at(text.len() - (rest.len() + 1));
-    if !is_utf8(written) {
-        return None;
-    }
+    let written = text_of(written)?;
     Some((Token::Text(Quoted::new(written)), rest))
 }
 
-/// The bytes that a string spells, with its escapes undone.
-pub fn unescaped(alloc: Global, written: &[u8]) -> Result<Vec<u8>, AllocError>
-    ensures { IfOk result (λ v. v.items ≡ unescaped written.now) }
+/// What an escape stands for, by the byte after its backslash; a quote and a backslash stand for themselves.
+fn spelled(escape: &str) -> &str
+    requires { length escape.now ≡ 1 }
+    ensures { result.now ≡ unescaped_after true escape.entry.now }
 {
-    let mut value = Vec::with_capacity(alloc, written.len())?;
-    let mut escaped = false;
+    match escape {
+        "t" => "\t",
+        "b" => "\u{8}",
+        "n" => "\n",
+        "r" => "\r",
+        "f" => "\u{c}",
+        same => same,
+    }
+}
+
+/// What a string spells, with its escapes undone.
+pub fn unescaped(alloc: Global, written: &str) -> Result<String, AllocError>
+    requires { IsEscaped written.now }
+    ensures { IfOk result (λ t. string_bytes t ≡ unescaped written.now) }
+{
+    let mut value = String::with_capacity(alloc, written.len())?;
     let mut rest = written;
-    while let [first, tail @ ..] = rest {
-        if escaped {
-            value.push(short_escape(*first).unwrap_or(*first))?;
-            escaped = false;
-        } else if *first == b'\\' {
-            escaped = true;
-        } else {
-            value.push(*first)?;
-        }
+    while let Some((before, after)) = rest.split_once('\\') {
+        value.push_str(before)?;
+        let (escape, tail) = after.split_at(1);
+        value.push_str(spelled(escape))?;
         rest = tail;
     }
+    value.push_str(rest)?;
     Ok(value)
 }

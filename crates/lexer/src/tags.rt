@@ -3,6 +3,7 @@ ghost use Rattle.std.specs.Prelude.{◌≡◌, ◌≤◌, length, MatchOption, S
 ghost use Rattle.lexer.specs.Reading.{begins_group, tag_of, tag_end, tag_at};
 
 use crate::pieces::Tag;
+use crate::runs::names_text;
 use crate::token::Token;
 
 fn begins_group(text: &[u8]) -> bool
@@ -34,11 +35,12 @@ fn tag_end(text: &[u8]) -> &[u8]
 }
 
 /// The tag at the front of a text, and what follows it.
-fn cut_tag(text: &[u8]) -> (&[u8], &[u8])
+fn cut_tag(text: &[u8]) -> (&str, &[u8])
     ensures front { result.0.now ≡ tag_of false text.now }
     ensures rest { result.1.now ≡ tag_end false text.now }
 {
-    text.split_at(text.len() - tag_end(text).len())
+    let (tag, rest) = text.split_at(text.len() - tag_end(text).len());
+    (names_text(tag), rest)
 }
 
 /// The tag whose `@` stands before a text, and what follows it.

@@ -103,10 +103,7 @@ pub fn line_of_kept(entry: &PackedEntry) -> Line {
             step: Step::Read(i, n),
             told: Told::Answered,
         },
-        Shown::Passed(i, n) => Line {
-            step: Step::Check(i, n),
-            told: Told::Passed,
-        },
+        Shown::Other(event, reply) => line_by(&event, &reply),
         Shown::Whole(kept) => line_of_whole(kept),
     }
 }

@@ -147,7 +147,7 @@ fn are_alike(
     let second = other.base.dataset().copied(alloc)?;
     Ok(
         first.quads().len() == quads
-            && first.quads() == second.quads()
+            && first.quads().is_same(&second.quads())
             && first.names() == second.names()
             && one.base.terms().terms() == other.base.terms().terms()
             && one.base.tag() == other.base.tag(),

@@ -1,12 +1,13 @@
 //! Requests over a base, and over a source whose answers are of the wrong kind.
 use crate::numbers::{numbered, request_at, tell, tell_quads};
 use asking::ask_all;
-use datasets::{Answer, Read};
+use datasets::Read;
 use delta::{Delta, Finished};
 use dict::{Dict, Id};
 use meaning::{Cause, Refusal, Reply, Request};
 use numbering::Numbered;
-use reads::{Answered, Note, Source, Stop};
+use quad_index::QuadList;
+use reads::{Answered, KeptAnswer, Note, Source, Stop};
 use std::alloc::{AllocError, Global};
 use std::test::Fail;
 use update::execute;
@@ -27,8 +28,11 @@ impl Source for Liar {
         }
         self.left -= 1;
         match read {
-            Read::Scan(_) => Ok(Answered::new(self.alloc, Answer::Is(true))?),
-            _ => Ok(Answered::new(self.alloc, Answer::Quads(Vec::new(self.alloc)))?),
+            Read::Scan(_) => Ok(Answered::new(self.alloc, KeptAnswer::Is(true))?),
+            _ => {
+                let none = QuadList::new(self.alloc);
+                Ok(Answered::new(self.alloc, KeptAnswer::Quads(none))?)
+            }
         }
     }
 }
@@ -345,7 +349,7 @@ fn many_reads_are_noted_in_order(rt: HostRuntime) -> Result<(), Fail> {
         notes
             .as_slice()
             .iter()
-            .all(|note| note.answer.quads() == Some(&[]))
+            .all(|note| matches!(note.answer.quads(), Some(quads) if quads.is_empty()))
             && notes.len() == 2
     );
     Ok(())

@@ -11,10 +11,10 @@ ghost use Rattle.syntax_trees.specs.declared.tree.Node.TheVariants as node;
 ghost use Rattle.names.specs.Names.{declare, namespace_of, iri_of, is_lang_iri, literal_from as the_literal_from, typed_literal, truth as the_truth, literal_of, no_term, name_term, term_of};
 
 use crate::key::Key;
-use crate::whole::{WholeIris, iri_from};
+use crate::whole::WholeIris;
 use iris::Iri;
 use lexer::laws::iri_with_local;
-use lexer::{Digits, IriText, LocalPart, Piece, Tag};
+use lexer::{IriText, LocalPart, Piece, Tag};
 use std::alloc::{AllocError, Global};
 use std::collections::BTreeMap;
 use std::marker::Model;
@@ -63,10 +63,10 @@ fn joined(
 ) -> Result<Option<Iri>, AllocError>
     ensures { IfOk result (λ found. found ≡ Some (namespace.now ++ local.now)) }
 {
-    let mut text = Vec::from_slice(alloc, namespace.as_bytes())?;
-    text.extend_from_slice(local.as_bytes())?;
+    let mut text = String::from_str(alloc, namespace.as_str())?;
+    text.push_str(local.as_str())?;
     iri_with_local();
-    iri_from(alloc, text.as_slice())
+    Iri::check(alloc, text.as_str())
 }
 
 /// Whether a text is two texts, one after the other. It looks at no more bytes than the text has.
@@ -192,7 +192,7 @@ impl<'a> Prefixes<'a> {
         ensures { self.new ≡ self.old }
     {
         match name {
-            Name::Iri(iri) => self.whole.keep(alloc, iri.as_bytes()),
+            Name::Iri(iri) => self.whole.keep(alloc, iri.as_str()),
             Name::Prefixed { prefix, local } => self.keep_named(alloc, prefix, local),
         }
     }
@@ -201,11 +201,11 @@ impl<'a> Prefixes<'a> {
         ensures { self.new ≡ self.old }
     {
         match literal {
-            Written::Plain(_) => self.whole.keep(alloc, XSD_STRING.as_bytes()),
-            Written::Tagged(_, _) => self.whole.keep(alloc, RDF_LANG_STRING.as_bytes()),
+            Written::Plain(_) => self.whole.keep(alloc, XSD_STRING),
+            Written::Tagged(_, _) => self.whole.keep(alloc, RDF_LANG_STRING),
             Written::Typed(_, datatype) => self.keep_name(alloc, datatype),
-            Written::Integer(_) => self.whole.keep(alloc, XSD_INTEGER.as_bytes()),
-            Written::Boolean(_) => self.whole.keep(alloc, XSD_BOOLEAN.as_bytes()),
+            Written::Integer(_) => self.whole.keep(alloc, XSD_INTEGER),
+            Written::Boolean(_) => self.whole.keep(alloc, XSD_BOOLEAN),
         }
     }
 
@@ -214,7 +214,7 @@ impl<'a> Prefixes<'a> {
     {
         match node {
             Node::Name(name) => self.keep_name(alloc, name),
-            Node::Type => self.whole.keep(alloc, RDF_TYPE.as_bytes()),
+            Node::Type => self.whole.keep(alloc, RDF_TYPE),
             Node::Literal(literal) => self.keep_datatype(alloc, literal),
             Node::Variable(_) | Node::Blank(_) => Ok(()),
         }
@@ -256,7 +256,7 @@ impl<'a> Prefixes<'a> {
         ensures { IfOk result (λ found. found ≡ iri_of self.now name.now) }
     {
         match name {
-            Name::Iri(iri) => self.whole.iri(alloc, iri.as_bytes()),
+            Name::Iri(iri) => self.whole.iri(alloc, iri.as_str()),
             Name::Prefixed { prefix, local } => self.named_iri(alloc, prefix, local),
         }
     }
@@ -266,7 +266,7 @@ impl<'a> Prefixes<'a> {
         &self,
         alloc: Global,
         lexical: String,
-        datatype: &'a [u8],
+        datatype: &'a str,
         tag: Option<String>,
     ) -> Result<Option<Literal>, AllocError>
         requires iri { IsIri datatype.now }
@@ -291,7 +291,7 @@ impl<'a> Prefixes<'a> {
             (Some tag.now)) }
     {
         let tag = tag.lower(alloc)?;
-        self.literal_with(alloc, lexical, RDF_LANG_STRING.as_bytes(), Some(tag))
+        self.literal_with(alloc, lexical, RDF_LANG_STRING, Some(tag))
     }
 
     /// The literal of a string and its written datatype.
@@ -322,7 +322,7 @@ impl<'a> Prefixes<'a> {
             Written::Plain(text) => self.literal_with(
                 alloc,
                 text.value(alloc)?,
-                XSD_STRING.as_bytes(),
+                XSD_STRING,
                 None,
             ),
             Written::Tagged(text, tag) => self.tagged(alloc, text.value(alloc)?, tag),
@@ -330,8 +330,8 @@ impl<'a> Prefixes<'a> {
             Written::Integer(digits) => {
                 self.literal_with(
                     alloc,
-                    digits_text(alloc, digits)?,
-                    XSD_INTEGER.as_bytes(),
+                    String::from_str(alloc, digits.as_str())?,
+                    XSD_INTEGER,
                     None,
                 )
             }
@@ -339,7 +339,7 @@ impl<'a> Prefixes<'a> {
                 self.literal_with(
                     alloc,
                     truth_text(alloc, *truth)?,
-                    XSD_BOOLEAN.as_bytes(),
+                    XSD_BOOLEAN,
                     None,
                 )
             }
@@ -370,7 +370,7 @@ impl<'a> Prefixes<'a> {
     fn type_term(&self, alloc: Global) -> Result<Term, AllocError>
         ensures { IfOk result (λ t. t ≡ term.Iri rdf_type) }
     {
-        match self.whole.iri(alloc, RDF_TYPE.as_bytes())? {
+        match self.whole.iri(alloc, RDF_TYPE)? {
             Some(iri) => Ok(Term::Iri(iri)),
             None => Ok(no_term()),
         }
@@ -386,16 +386,6 @@ impl<'a> Prefixes<'a> {
             Node::Literal(literal) => self.literal_term(alloc, literal),
             Node::Variable(_) | Node::Blank(_) => Ok(no_term()),
         }
-    }
-}
-
-/// Digits as a text.
-fn digits_text(alloc: Global, digits: &Digits<'_>) -> Result<String, AllocError>
-    ensures { IfOk result (λ text. string_bytes text ≡ digits.now) }
-{
-    match str::from_utf8(digits.as_bytes()) {
-        Ok(text) => String::from_str(alloc, text),
-        Err(_) => Err(AllocError),
     }
 }
 

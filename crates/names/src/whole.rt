@@ -8,17 +8,6 @@ use std::alloc::{AllocError, Global};
 use std::collections::BTreeMap;
 use std::marker::Model;
 
-/// The IRI that a text is.
-pub(crate) fn iri_from(alloc: Global, bytes: &[u8]) -> Result<Option<Iri>, AllocError>
-    requires { IsIri bytes.now }
-    ensures { IfOk result (λ found. found ≡ Some bytes.now) }
-{
-    match str::from_utf8(bytes) {
-        Ok(text) => Iri::check(alloc, text),
-        Err(_) => Ok(None),
-    }
-}
-
 /// IRIs by their texts, so that each is made once. Which they are is no one's business: contracts see nothing of it.
 #[derive(Drop)]
 pub(crate) struct WholeIris<'a> {
@@ -45,26 +34,26 @@ impl<'a> WholeIris<'a> {
 
     /// Keeps the IRI that a text is.
     #[tactic(auto, using(crate::proofs::MadeLaws::whole_more))]
-    pub(crate) fn keep(&mut self, alloc: Global, text: &'a [u8]) -> Result<(), AllocError>
+    pub(crate) fn keep(&mut self, alloc: Global, text: &'a str) -> Result<(), AllocError>
         requires { IsIri text.now }
     {
-        if self.made.contains_key(&Key::new(text)) {
+        if self.made.contains_key(&Key::new(text.as_bytes())) {
             return Ok(());
         }
-        if let Some(iri) = iri_from(alloc, text)? {
-            self.made.insert(Key::new(text), iri)?;
+        if let Some(iri) = Iri::check(alloc, text)? {
+            self.made.insert(Key::new(text.as_bytes()), iri)?;
         }
         Ok(())
     }
 
     /// The IRI that a text is. It is made where it isn't kept.
-    pub(crate) fn iri(&self, alloc: Global, text: &'a [u8]) -> Result<Option<Iri>, AllocError>
+    pub(crate) fn iri(&self, alloc: Global, text: &'a str) -> Result<Option<Iri>, AllocError>
         requires { IsIri text.now }
         ensures { IfOk result (λ found. found ≡ Some text.now) }
     {
-        match self.made.get(&Key::new(text)) {
+        match self.made.get(&Key::new(text.as_bytes())) {
             Some(iri) => Ok(Some(iri.copied(alloc)?)),
-            None => iri_from(alloc, text),
+            None => Iri::check(alloc, text),
         }
     }
 }

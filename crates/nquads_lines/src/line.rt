@@ -1,6 +1,5 @@
 //! What a line says, read from left to right.
 ghost use Rattle.std.specs.Prelude.{◌≡◌, ◌≤◌, length, drop, nat_eq, true, false, MatchOption};
-ghost use Rattle.std.specs.Str.{is_utf8};
 ghost use Rattle.std.specs.List.{prefix_len, starts_with};
 ghost use Rattle.iris.specs.Runs.{rest_of};
 ghost use Rattle.nquads_lines.specs.Line.{is_blank, graph_mark};
@@ -12,6 +11,7 @@ use crate::quoted::iri_at;
 use crate::stop::{Line, Stop};
 use datasets::Quad;
 use iris::laws::run_by_length;
+use iris::text_of;
 use std::alloc::Global;
 use terms::TermCow;
 
@@ -113,18 +113,6 @@ fn after_mark(line: &str) -> Option<&str>
     }
     let (_, rest) = line.split_at(8);
     Some(rest)
-}
-
-/// The bytes as a text, if they are UTF-8.
-#[tactic(auto, using(iris::proofs::TextLaws::text_laws))]
-fn text_of(bytes: &[u8]) -> Option<&str>
-    ensures { MatchOption result (is_utf8 bytes.now ≡ false)
-        (λ text. (text.now ≡ bytes.now) × (is_utf8 bytes.now ≡ true)) }
-{
-    match str::from_utf8(bytes) {
-        Ok(text) => Some(text),
-        Err(_) => None,
-    }
 }
 
 /// What a line says (RDF 1.1 N-Quads, productions 1 and 2, and graph lines). `Bad` where it says nothing that a line may say, `Memory` where

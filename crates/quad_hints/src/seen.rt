@@ -51,6 +51,10 @@ impl Seen {
         ensures added { OnOk result (is_seen self.new term ≡ true) }
         ensures kept { (x : Number) → is_seen self.old x ≡ true → is_seen self.new x ≡ true }
     {
+        // What is shared is not written anew.
+        if self.has(term) {
+            return Ok(());
+        }
         let slot = slot_of(term);
         if slot >= self.slots.len() {
             self.slots.resize(SLOTS, false)?;

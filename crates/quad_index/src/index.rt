@@ -182,12 +182,12 @@ impl Index {
         alloc: Global,
         pattern: &QuadPattern<Id>,
         looks: &mut Looks,
-    ) -> Result<Vec<Quad<Id>>, AllocError>
+    ) -> Result<QuadList, AllocError>
         requires { looks.old < 2 ^ 63 }
-        ensures found { IfOk result (λ found. found.items
+        ensures found { IfOk result (λ found. found
             ≡ filter (matches id_order pattern.now) self.now.quads) }
         ensures looks { IfOk result (λ found. Contains self.now.orders (arrangement_for pattern.now)
-            → IsScan looks.old looks.new (length self.now.quads) (length found.items)) }
+            → IsScan looks.old looks.new (length self.now.quads) (length found)) }
     {
         match self.other(order_for(pattern)) {
             Some(order) => order.matching_set(alloc, pattern, looks),
@@ -196,12 +196,8 @@ impl Index {
     }
 
     /// The quads that match, by subject, predicate, object and graph, as `scan_counted` finds them.
-    pub fn scan(
-        &self,
-        alloc: Global,
-        pattern: &QuadPattern<Id>,
-    ) -> Result<Vec<Quad<Id>>, AllocError>
-        ensures { IfOk result (λ found. found.items
+    pub fn scan(&self, alloc: Global, pattern: &QuadPattern<Id>) -> Result<QuadList, AllocError>
+        ensures { IfOk result (λ found. found
             ≡ filter (matches id_order pattern.now) self.now.quads) }
     {
         self.scan_counted(alloc, pattern, &mut Looks::new())

@@ -24,5 +24,6 @@ pub use known::{KnownQuad, known_quads, known_set, widened_quads};
 pub use looks::Looks;
 pub use order::Order;
 pub use order_set::OrderSet;
+pub use part::Part;
 pub use quad_list::{Entries, QuadList};
 pub use search::{Entry, part_for, part_of_set};

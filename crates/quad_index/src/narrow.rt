@@ -1,4 +1,4 @@
-//! Quads of known terms, widened for an answer.
+//! Quads of known terms, found and put in order in little memory.
 ghost use Rattle.std.specs.Prelude.{◌≡◌, IfOk, filter, map};
 ghost use Rattle.datasets.specs.Id.{id_order};
 ghost use Rattle.datasets.specs.Dataset.{quad_order, matches as the_matches};
@@ -7,9 +7,9 @@ ghost use Rattle.quad_index.specs.Known.{quad_of};
 ghost use Rattle.quad_index.specs.KnownOrder.{known_order};
 
 use crate::key::Arrangement;
-use crate::known::{KnownQuad, widened_quads};
+use crate::known::KnownQuad;
 use crate::matching::matches;
-use datasets::{Id, Quad, QuadPattern};
+use datasets::{Id, QuadPattern};
 use radix::{is_set, set_by_number};
 use sets::set_of;
 use std::alloc::{AllocError, Global};
@@ -19,16 +19,15 @@ pub(crate) fn known_matching(
     alloc: Global,
     pattern: &QuadPattern<Id>,
     known: &[KnownQuad],
-) -> Result<Vec<Quad<Id>>, AllocError>
-    ensures { IfOk result (λ found. found.items
+) -> Result<Vec<KnownQuad>, AllocError>
+    ensures { IfOk result (λ found. map quad_of found.items
         ≡ filter (the_matches id_order pattern.now) (map quad_of known.now)) }
 {
     let mut found = Vec::new(alloc);
     found.reserve_exact(known.len())?;
     for entry in known {
-        let quad = entry.to_quad();
-        if matches(pattern, &quad) {
-            found.push(quad)?;
+        if matches(pattern, &entry.to_quad()) {
+            found.push(*entry)?;
         }
     }
     Ok(found)
@@ -50,17 +49,16 @@ fn set_from(
 }
 
 /// The set of these quads. It takes the least time where they stand in its order, or are of one predicate in this one.
-pub(crate) fn widened_set(
+pub(crate) fn narrow_set(
     alloc: Global,
     known: &[KnownQuad],
     arrangement: Arrangement,
-) -> Result<Vec<Quad<Id>>, AllocError>
-    ensures { IfOk result (λ set. set.items
+) -> Result<Vec<KnownQuad>, AllocError>
+    ensures { IfOk result (λ set. map quad_of set.items
         ≡ the_set_of (quad_order id_order) (map quad_of known.now)) }
 {
     if is_set(known) {
-        return widened_quads(alloc, known);
+        return Vec::from_slice(alloc, known);
     }
-    let set = set_from(alloc, known, arrangement)?;
-    widened_quads(alloc, set.as_slice())
+    set_from(alloc, known, arrangement)
 }

@@ -411,16 +411,16 @@ impl Order {
         alloc: Global,
         pattern: &QuadPattern<Id>,
         looks: &mut Looks,
-    ) -> Result<Vec<Quad<Id>>, AllocError>
+    ) -> Result<QuadList, AllocError>
         requires { looks.old < 2 ^ 63 }
-        ensures found { IfOk result (λ found. found.items
+        ensures found { IfOk result (λ found. found
             ≡ filter (the_matches id_order pattern.now) self.now.quads) }
         ensures looks { IfOk result (λ found. self.now.arrangement ≡ arrangement_for pattern.now
-            → IsScan looks.old looks.new (length self.now.quads) (length found.items)) }
+            → IsScan looks.old looks.new (length self.now.quads) (length found)) }
     {
         let part = self.part_for(pattern, looks);
         if self.arrangement == order_for(pattern) {
-            part.quads(alloc)
+            part.copied(alloc)
         } else {
             part.matching(alloc, pattern)
         }
@@ -432,9 +432,9 @@ impl Order {
         alloc: Global,
         pattern: &QuadPattern<Id>,
         looks: &mut Looks,
-    ) -> Result<Vec<Quad<Id>>, AllocError>
+    ) -> Result<QuadList, AllocError>
         requires { looks.old < 2 ^ 63 }
-        ensures found { IfOk result (λ found. found.items ≡ the_set_of (quad_order id_order)
+        ensures found { IfOk result (λ found. found ≡ the_set_of (quad_order id_order)
             (filter (the_matches id_order pattern.now) self.now.quads)) }
         ensures looks { self.now.arrangement ≡ arrangement_for pattern.now
             → IsScan looks.old looks.new (length self.now.quads)
@@ -444,7 +444,7 @@ impl Order {
         if self.arrangement == order_for(pattern) {
             part.set(alloc, self.arrangement)
         } else {
-            Ok(set_of(part.matching(alloc, pattern)?))
+            Ok(part.matching(alloc, pattern)?.into_set())
         }
     }
 }

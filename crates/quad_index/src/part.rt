@@ -1,48 +1,103 @@
-//! Entries of an order, one after another, all of which were looked at.
-ghost use Rattle.std.specs.Prelude.{◌≡◌, IfOk, filter, length};
+//! Quads that are lent: some or all of a list's, or entries of an order, all of which were looked at.
+ghost use Rattle.std.specs.Prelude.{◌≡◌, ◌<◌, ◌↔◌, IsTrue, IfOk, filter, length};
+ghost use Rattle.std.proofs.Common.{get_or};
+ghost use Rattle.std.specs.List.Sorted.{IsStrictlySortedBy};
 ghost use Rattle.datasets.specs.Id.{id_order};
 ghost use Rattle.datasets.specs.Dataset.{quad_order, matches as the_matches};
 ghost use Rattle.sets.specs.Sets.{set_of as the_set_of};
 ghost use Rattle.quad_index.specs.Part.{quads_of_part};
 
 use crate::key::Arrangement;
-use crate::known::{KnownQuad, widened_quads};
+use crate::known::KnownQuad;
 use crate::matching::matching;
-use crate::narrow::{known_matching, widened_set};
+use crate::narrow::{known_matching, narrow_set};
+use crate::quad_list::QuadList;
 use datasets::{Id, Quad, QuadPattern};
+use radix::is_set;
 use sets::set_of;
 use std::alloc::{AllocError, Global};
 
-/// A part of an order's entries.
+/// Quads one after another, lent: all of known terms, or any.
 #[derive(Clone, Copy)]
-pub(crate) enum Part<'a> {
+pub enum Part<'a> {
     Narrow(&'a [KnownQuad]),
     Wide(&'a [Quad<Id>]),
 }
 
+// The item at a place.
+fn item_at<T: Copy>(items: &[T], place: usize) -> T
+    requires { place < length items.now }
+    ensures { result ≡ get_or items.now place result }
+{
+    items[place]
+}
+
 impl Part<'_> {
-    /// Its quads.
-    pub(crate) fn quads(&self, alloc: Global) -> Result<Vec<Quad<Id>>, AllocError>
-        ensures { IfOk result (λ quads. quads.items ≡ quads_of_part self.now) }
+    /// How many quads there are.
+    pub fn len(&self) -> usize
+        ensures { result ≡ length (quads_of_part self.now) }
     {
         match self {
-            Part::Narrow(known) => widened_quads(alloc, known),
-            Part::Wide(quads) => Vec::from_slice(alloc, quads),
+            Part::Narrow(known) => known.len(),
+            Part::Wide(quads) => quads.len(),
+        }
+    }
+
+    /// The quad at a place, counted from 0.
+    pub fn get(&self, place: usize) -> Quad<Id>
+        requires { place < length (quads_of_part self.now) }
+        ensures { result ≡ get_or (quads_of_part self.now) place result }
+    {
+        match self {
+            Part::Narrow(known) => item_at(known, place).to_quad(),
+            Part::Wide(quads) => item_at(quads, place),
+        }
+    }
+
+    /// Whether others are the same quads, in the same places.
+    pub fn is_same(&self, other: &Part<'_>) -> bool
+        ensures { IsTrue result ↔ (quads_of_part self.now ≡ quads_of_part other.now) }
+    {
+        if self.len() != other.len() {
+            return false;
+        }
+        for place in 0..self.len() {
+            if !self.get(place).cmp(&other.get(place)).is_eq() {
+                return false;
+            }
+        }
+        true
+    }
+
+    /// Whether they are a set: each is below the next, by subject, predicate, object and graph.
+    pub fn is_set(&self) -> bool
+        ensures { IsTrue result
+            ↔ IsStrictlySortedBy (quad_order id_order) (quads_of_part self.now) }
+    {
+        match self {
+            Part::Narrow(known) => is_set(known),
+            Part::Wide(quads) => is_set(quads),
+        }
+    }
+
+    /// The same quads, as a list of their own.
+    pub fn copied(&self, alloc: Global) -> Result<QuadList, AllocError>
+        ensures { IfOk result (λ list. list ≡ quads_of_part self.now) }
+    {
+        match self {
+            Part::Narrow(known) => Ok(QuadList::of_known(Vec::from_slice(alloc, known)?)),
+            Part::Wide(quads) => Ok(QuadList::of_wide(Vec::from_slice(alloc, quads)?)),
         }
     }
 
     /// Those of its quads that match.
-    pub(crate) fn matching(
-        &self,
-        alloc: Global,
-        pattern: &QuadPattern<Id>,
-    ) -> Result<Vec<Quad<Id>>, AllocError>
-        ensures { IfOk result (λ found. found.items
+    pub fn matching(&self, alloc: Global, pattern: &QuadPattern<Id>) -> Result<QuadList, AllocError>
+        ensures { IfOk result (λ found. found
             ≡ filter (the_matches id_order pattern.now) (quads_of_part self.now)) }
     {
         match self {
-            Part::Narrow(known) => known_matching(alloc, pattern, known),
-            Part::Wide(quads) => matching(alloc, pattern, quads),
+            Part::Narrow(known) => Ok(QuadList::of_known(known_matching(alloc, pattern, known)?)),
+            Part::Wide(quads) => Ok(QuadList::of_wide(matching(alloc, pattern, quads)?)),
         }
     }
 
@@ -51,13 +106,13 @@ impl Part<'_> {
         &self,
         alloc: Global,
         arrangement: Arrangement,
-    ) -> Result<Vec<Quad<Id>>, AllocError>
-        ensures { IfOk result (λ set. set.items
+    ) -> Result<QuadList, AllocError>
+        ensures { IfOk result (λ set. set
             ≡ the_set_of (quad_order id_order) (quads_of_part self.now)) }
     {
         match self {
-            Part::Narrow(known) => widened_set(alloc, known, arrangement),
-            Part::Wide(quads) => Ok(set_of(Vec::from_slice(alloc, quads)?)),
+            Part::Narrow(known) => Ok(QuadList::of_known(narrow_set(alloc, known, arrangement)?)),
+            Part::Wide(quads) => Ok(QuadList::of_wide(set_of(Vec::from_slice(alloc, quads)?))),
         }
     }
 }

@@ -1,14 +1,11 @@
 -- Sets of what a map makes of lists, in the order of what it makes.
 use Rattle.std.specs.Prelude.{Bool, false, not, ◌||◌, filter}
 use Rattle.std.specs.List.{list_any}
-use Rattle.std.specs.List.Sorted.{IsStrictlySortedBy}
 use Rattle.std.proofs.Common.{◌≡◌, List, [], ◌∷◌, ◌++◌, map, refl, ap, sym, ◌∙◌}
 use Rattle.std.proofs.lemmas.List.{map-append}
 use Rattle.std.specs.declared.cmp.Ordering.{Ordering}
-use Rattle.std.specs.declared.cmp.Ordering.TheVariants.{Less}
 use Rattle.std.specs.Ordering.{eq_by_cmp}
 use Rattle.sets.specs.Sets.{has, set_of, union, without}
-use Rattle.sets.proofs.Every.{all_map, all_of_map}
 use Rattle.quad_index.proofs.Mapped.{filter-map, map_set}
 
 pub any-map : {A B : Type 0} (p : B → Bool) (f : A → B) (xs : List A) → list_any p (map f xs) ≡ list_any (λ x. p (f x)) xs
@@ -27,16 +24,6 @@ module _ {A B : Type 0} (f : A → B) (R : B → B → Ordering) where
   map-changed xs gone more =
       map_set f R (without (λ a b. R (f a) (f b)) xs gone ++ more)
       ∙ ap (set_of R) (map-append f (without (λ a b. R (f a) (f b)) xs gone) more ∙ ap (λ zs. zs ++ map f more) (map-without xs gone))
-
-  pub sorted-map : (xs : List A) → IsStrictlySortedBy (λ a b. R (f a) (f b)) xs → IsStrictlySortedBy R (map f xs)
-  unfolding IsStrictlySortedBy
-  sorted-map [] s = s
-  sorted-map (x ∷ xs) s = (all_map (λ y. R (f x) y ≡ Less) f xs s.0, sorted-map xs s.1)
-
-  pub sorted-unmap : (xs : List A) → IsStrictlySortedBy R (map f xs) → IsStrictlySortedBy (λ a b. R (f a) (f b)) xs
-  unfolding IsStrictlySortedBy
-  sorted-unmap [] s = s
-  sorted-unmap (x ∷ xs) s = (all_of_map (λ y. R (f x) y ≡ Less) f xs s.0, sorted-unmap xs s.1)
 
 -- a list of what a map makes lacks what the map never makes
 pub lacks_others : {A B : Type 0} (f : A → B) (R : B → B → Ordering) (q : B) → ((x : A) → eq_by_cmp R q (f x) ≡ false) → (xs : List A) → has R (map f xs) q ≡ false

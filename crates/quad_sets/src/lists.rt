@@ -5,7 +5,7 @@ ghost use Rattle.sets.specs.Sets.{set_of, union, without};
 
 use crate::near::is_member_near;
 use sets::Exact;
-use std::alloc::{AllocError, Global};
+use std::alloc::AllocError;
 
 /// The set of the members of a vector. Of members that come in a few sorted runs it takes time in their number.
 pub fn merged<T: Exact + Drop>(mut members: Vec<T>) -> Result<Vec<T>, AllocError>
@@ -48,21 +48,18 @@ fn outside<T: Exact + Copy + Drop>(members: Vec<T>, set: &[T]) -> Vec<T>
     lacking(members, set)
 }
 
-/// The set of the members that are none of a set's, and of more. It is fastest where all rise.
+/// The set of the members of a vector that are none of a set's, and of more. It is fastest where all rise.
 pub(crate) fn changed<T: Exact + Copy + Drop>(
-    alloc: Global,
-    members: &[T],
+    members: Vec<T>,
     gone: &[T],
     more: &[T],
 ) -> Result<Vec<T>, AllocError>
     requires { IsStrictlySortedBy T.cmp gone.now }
     ensures { IfOk result (λ after. after.items
-        ≡ union T.cmp (without T.cmp members.now gone.now) more.now) }
+        ≡ union T.cmp (without T.cmp members.items gone.now) more.now) }
 {
-    let mut all = Vec::new(alloc);
-    all.reserve_exact(members.len().saturating_add(more.len()))?;
-    all.extend_from_slice(members)?;
-    let mut after = outside(all, gone);
+    let mut after = outside(members, gone);
+    after.reserve_exact(more.len())?;
     after.extend_from_slice(more)?;
     merged(after)
 }

@@ -13,30 +13,18 @@ use datasets::{Id, Quad, QuadPattern};
 use quad_index::matching::matches;
 use quad_index::{Arrangement, KnownQuad, part_for};
 use sets::is_member;
-use std::alloc::{AllocError, Global};
+use std::alloc::AllocError;
 
-// Of a set, a part that has all that the pattern matches.
-fn part_of_known<'a>(known: &'a [KnownQuad], pattern: &QuadPattern<Id>) -> &'a [KnownQuad]
+/// Of a set, a part that has all that the pattern matches.
+pub(crate) fn part_of_known<'a>(
+    known: &'a [KnownQuad],
+    pattern: &QuadPattern<Id>,
+) -> &'a [KnownQuad]
     requires { IsStrictlySortedBy (quad_order id_order) (map quad_of known.now) }
     ensures { filter (the_matches id_order pattern.now) (map quad_of result.now)
         ≡ filter (the_matches id_order pattern.now) (map quad_of known.now) }
 {
     part_for(known, Arrangement::Spog, pattern)
-}
-
-fn widened_matching(
-    alloc: Global,
-    known: &[KnownQuad],
-    pattern: &QuadPattern<Id>,
-) -> Result<Vec<Quad<Id>>, AllocError>
-    ensures { IfOk result (λ kept. kept.items
-        ≡ filter (the_matches id_order pattern.now) (map quad_of known.now)) }
-{
-    known
-        .iter()
-        .map(|entry| entry.to_quad())
-        .filter(|quad| matches(pattern, quad))
-        .collect(alloc)
 }
 
 fn is_any_widened(known: &[KnownQuad], pattern: &QuadPattern<Id>) -> bool
@@ -46,19 +34,6 @@ fn is_any_widened(known: &[KnownQuad], pattern: &QuadPattern<Id>) -> bool
         .iter()
         .map(|entry| entry.to_quad())
         .any(|quad| matches(pattern, &quad))
-}
-
-/// The quads of a set that match.
-pub(crate) fn known_matching(
-    alloc: Global,
-    known: &[KnownQuad],
-    pattern: &QuadPattern<Id>,
-) -> Result<Vec<Quad<Id>>, AllocError>
-    requires { IsStrictlySortedBy (quad_order id_order) (map quad_of known.now) }
-    ensures { IfOk result (λ kept. kept.items
-        ≡ filter (the_matches id_order pattern.now) (map quad_of known.now)) }
-{
-    widened_matching(alloc, part_of_known(known, pattern), pattern)
 }
 
 /// Whether any quad of a set matches.
@@ -95,15 +70,14 @@ pub(crate) fn is_near_known(known: &[KnownQuad], place: usize, quad: &Quad<Id>) 
 
 /// The set of the quads that are none of a set's, and of more.
 pub(crate) fn known_changed(
-    alloc: Global,
-    quads: &[KnownQuad],
+    quads: Vec<KnownQuad>,
     gone: &[KnownQuad],
     more: &[KnownQuad],
 ) -> Result<Vec<KnownQuad>, AllocError>
     requires { IsStrictlySortedBy (quad_order id_order) (map quad_of gone.now) }
     ensures { IfOk result (λ after. map quad_of after.items ≡ union (quad_order id_order)
-        (without (quad_order id_order) (map quad_of quads.now) (map quad_of gone.now))
+        (without (quad_order id_order) (map quad_of quads.items) (map quad_of gone.now))
         (map quad_of more.now)) }
 {
-    changed(alloc, quads, gone, more)
+    changed(quads, gone, more)
 }

@@ -4,26 +4,21 @@ ghost use Rattle.std.specs.List.Sorted.{IsStrictlySortedBy};
 ghost use Rattle.sets.specs.Sets.{set_of as the_set_of, union, without};
 ghost use Rattle.datasets.specs.Id.{id_order};
 ghost use Rattle.datasets.specs.Dataset.{quad_order};
-ghost use Rattle.quad_sets.specs.QuadSlice.{quads_of};
+ghost use Rattle.quad_index.specs.QuadList.{quads_in};
 
 use crate::lists::merged;
 use crate::narrow::known_changed;
-use crate::quad_slice::{Part, QuadSlice};
+use crate::quad_slice::QuadSlice;
 use datasets::{Id, Quad};
-use quad_index::{Entries, Index, known_quads, known_set};
+use quad_index::{Entries, Index, Part, QuadList, known_quads, known_set, widened_quads};
 use sets::set_of;
 use std::alloc::{AllocError, Global};
 use std::marker::Model;
 
 /// A set of quads, a quarter as long where all are of known terms. Contracts see its list, by subject, predicate, object and graph.
+#[derive(Drop)]
 pub struct QuadSet {
     entries: Entries,
-}
-
-impl Drop for QuadSet {
-    fn drop(self) {
-        let QuadSet { entries: _ } = self;
-    }
 }
 
 impl Model for QuadSet {
@@ -42,22 +37,57 @@ impl Model for QuadSet {
     ghost invariant = { λ s. IsStrictlySortedBy (quad_order id_order) (quads_in s.entries) };
 }
 
-// The quads of a changed set, where not all are of known terms.
-fn wide_changed(
+// The same items, with room for more behind them.
+fn with_room<T: Copy>(alloc: Global, items: &[T], more: usize) -> Result<Vec<T>, AllocError>
+    ensures { IfOk result (λ copy. copy.items ≡ items.now) }
+{
+    let mut copy = Vec::new(alloc);
+    copy.reserve_exact(items.len().saturating_add(more))?;
+    copy.extend_from_slice(items)?;
+    Ok(copy)
+}
+
+// The quads of a set, with room for more behind them.
+fn listed_with_room(
     alloc: Global,
     quads: &QuadSlice<'_>,
+    more: usize,
+) -> Result<QuadList, AllocError>
+    ensures { IfOk result (λ list. list ≡ quads.now) }
+{
+    match quads.entries() {
+        Part::Narrow(known) => Ok(QuadList::of_known(with_room(alloc, known, more)?)),
+        Part::Wide(quads) => Ok(QuadList::of_wide(with_room(alloc, quads, more)?)),
+    }
+}
+
+// The set of these quads.
+fn merged_set(quads: Vec<Quad<Id>>) -> Result<Vec<Quad<Id>>, AllocError>
+    ensures value { IfOk result (λ set. set.items
+        ≡ the_set_of (quad_order id_order) quads.items) }
+    ensures set { IfOk result (λ set. IsStrictlySortedBy (quad_order id_order) set.items) }
+{
+    merged(quads)
+}
+
+// The quads that are none of a set's, and more, as a set in which not all are of known terms.
+fn wide_changed(
+    alloc: Global,
+    entries: Entries,
     gone: &QuadSlice<'_>,
     more: &QuadSlice<'_>,
 ) -> Result<Vec<Quad<Id>>, AllocError>
-    ensures { IfOk result (λ after. after.items ≡ union (quad_order id_order)
-        (without (quad_order id_order) quads.now gone.now) more.now) }
+    ensures value { IfOk result (λ after. after.items ≡ union (quad_order id_order)
+        (without (quad_order id_order) (quads_in entries) gone.now) more.now) }
+    ensures set { IfOk result (λ after. IsStrictlySortedBy (quad_order id_order) after.items) }
 {
-    let mut all = Vec::new(alloc);
-    all.reserve_exact(quads.len().saturating_add(more.len()))?;
-    quads.push_all(&mut all)?;
-    let mut after = gone.lacked(all);
+    let quads = match entries {
+        Entries::Narrow(known) => widened_quads(alloc, &known)?,
+        Entries::Wide(quads) => quads,
+    };
+    let mut after = gone.lacked(quads);
     more.push_all(&mut after)?;
-    merged(after)
+    merged_set(after)
 }
 
 impl QuadSet {
@@ -93,6 +123,58 @@ impl QuadSet {
         Ok(QuadSet { entries })
     }
 
+    /// The quads of a list that is a set. It takes no memory.
+    pub fn of_list(list: QuadList) -> QuadSet
+        requires { IsStrictlySortedBy (quad_order id_order) list }
+        ensures { result ≡ list }
+    {
+        QuadSet {
+            entries: list.into_entries(),
+        }
+    }
+
+    /// The same set again.
+    pub fn copied(&self, alloc: Global) -> Result<QuadSet, AllocError>
+        ensures { IfOk result (λ copy. copy ≡ self.now) }
+    {
+        self.as_slice().rises();
+        Ok(QuadSet::of_list(self.entries.lent().copied(alloc)?))
+    }
+
+    /// Its quads, as a list. It takes no memory.
+    pub fn into_list(self) -> QuadList
+        ensures { result ≡ self }
+    {
+        QuadList::of_entries(self.entries)
+    }
+
+    /// The set of the quads of a list that are none of a set's, and of more: as `changed`, in the list's own memory, where all are of known
+    /// terms.
+    pub fn of_changed(
+        alloc: Global,
+        list: QuadList,
+        gone: &QuadSlice<'_>,
+        more: &QuadSlice<'_>,
+    ) -> Result<QuadSet, AllocError>
+        ensures { IfOk result (λ set. set ≡ union (quad_order id_order)
+            (without (quad_order id_order) list gone.now) more.now) }
+    {
+        match (list.into_entries(), gone.entries(), more.entries()) {
+            (Entries::Narrow(known), Part::Narrow(going), Part::Narrow(coming)) => {
+                let after = known_changed(known, going, coming)?;
+                Ok(QuadSet {
+                    entries: Entries::Narrow(after),
+                })
+            }
+            (entries, _, _) => {
+                let after = wide_changed(alloc, entries, gone, more)?;
+                Ok(QuadSet {
+                    entries: Entries::Wide(after),
+                })
+            }
+        }
+    }
+
     /// The set of the quads that are none of a set's, and of more. It is fastest where both are of known terms.
     pub fn changed(
         alloc: Global,
@@ -103,20 +185,8 @@ impl QuadSet {
         ensures { IfOk result (λ set. set ≡ union (quad_order id_order)
             (without (quad_order id_order) quads.now gone.now) more.now) }
     {
-        if let (Part::Narrow(known), Part::Narrow(going), Part::Narrow(coming)) = (
-            quads.entries(),
-            gone.entries(),
-            more.entries(),
-        ) {
-            let after = known_changed(alloc, known, going, coming)?;
-            return Ok(QuadSet {
-                entries: Entries::Narrow(after),
-            });
-        }
-        let after = wide_changed(alloc, quads, gone, more)?;
-        Ok(QuadSet {
-            entries: Entries::Wide(after),
-        })
+        let list = listed_with_room(alloc, quads, more.len())?;
+        QuadSet::of_changed(alloc, list, gone, more)
     }
 
     /// The quads of either set.
@@ -156,10 +226,6 @@ impl QuadSet {
         ensures value { result ≡ self.now }
         ensures set { IsStrictlySortedBy (quad_order id_order) result }
     {
-        let entries = match &self.entries {
-            Entries::Narrow(known) => Part::Narrow(known),
-            Entries::Wide(quads) => Part::Wide(quads),
-        };
-        QuadSlice::of_entries(entries)
+        QuadSlice::of_entries(self.entries.lent())
     }
 }

@@ -10,13 +10,16 @@ ghost use Rattle.datasets.specs.declared.id.Id.{Id as Number};
 ghost use Rattle.datasets.specs.declared.quad.Quad.{Quad as Spoken};
 ghost use Rattle.quad_index.specs.Index.{AllAlike, arrangements_of};
 ghost use Rattle.quad_index.specs.Known.{quad_of};
-ghost use Rattle.quad_sets.specs.QuadSlice.{quads_of};
+ghost use Rattle.quad_index.specs.Part.{quads_of_part};
 
-use crate::narrow::{is_among_known, is_any_known, is_near_known, known_matching};
+use crate::narrow::{is_among_known, is_any_known, is_near_known, part_of_known};
 use crate::near::is_member_near;
+use crate::quad_set::QuadSet;
 use datasets::{Id, Quad, QuadPattern};
-use quad_index::matching::{is_any_in_set, matching};
-use quad_index::{Arrangement, KnownQuad, Looks, Order, order_for, part_of_set, widened_quads};
+use quad_index::matching::is_any_in_set;
+use quad_index::{
+    Arrangement, KnownQuad, Looks, Order, Part, QuadList, order_for, part_of_set, widened_quads,
+};
 use sets::is_member;
 use std::alloc::{AllocError, Global};
 use std::marker::Model;
@@ -27,13 +30,6 @@ pub struct QuadSlice<'a> {
     entries: Part<'a>,
 }
 
-/// Quads one after another, in little memory where all are of known terms.
-#[derive(Clone, Copy)]
-pub(crate) enum Part<'a> {
-    Narrow(&'a [KnownQuad]),
-    Wide(&'a [Quad<Id>]),
-}
-
 impl<'a> Model for QuadSlice<'a> {
     ghost use Rattle.std.specs.Prelude.{List};
     ghost use Rattle.std.specs.List.Sorted.{IsStrictlySortedBy};
@@ -41,21 +37,13 @@ impl<'a> Model for QuadSlice<'a> {
     ghost use Rattle.datasets.specs.declared.quad.Quad.{Quad};
     ghost use Rattle.datasets.specs.Id.{id_order};
     ghost use Rattle.datasets.specs.Dataset.{quad_order};
-    ghost use Rattle.quad_sets.specs.QuadSlice.{quads_of};
+    ghost use Rattle.quad_index.specs.Part.{quads_of_part};
 
     ghost Value = { List (Quad Id) };
 
-    ghost view = { λ s. quads_of s.entries };
+    ghost view = { λ s. quads_of_part s.entries };
 
-    ghost invariant = { λ s. IsStrictlySortedBy (quad_order id_order) (quads_of s.entries) };
-}
-
-// The item at a place.
-fn item_at<T: Copy>(items: &[T], place: usize) -> T
-    requires { place < length items.now }
-    ensures { result ≡ get_or items.now place result }
-{
-    items[place]
+    ghost invariant = { λ s. IsStrictlySortedBy (quad_order id_order) (quads_of_part s.entries) };
 }
 
 // The items from one place on and before another.
@@ -103,16 +91,24 @@ impl<'a> QuadSlice<'a> {
 
     /// What a set has.
     pub(crate) fn of_entries(entries: Part<'a>) -> QuadSlice<'a>
-        requires { IsStrictlySortedBy (quad_order id_order) (quads_of entries) }
-        ensures { result ≡ quads_of entries.entry }
+        requires { IsStrictlySortedBy (quad_order id_order) (quads_of_part entries) }
+        ensures { result ≡ quads_of_part entries.entry }
     {
         QuadSlice { entries }
     }
 
+    /// The quads of a list that is a set.
+    pub fn of_set(list: &'a QuadList) -> QuadSlice<'a>
+        requires { IsStrictlySortedBy (quad_order id_order) list.now }
+        ensures { result ≡ list.now }
+    {
+        QuadSlice::of_entries(list.lent())
+    }
+
     /// What it has.
     pub(crate) fn entries(&self) -> Part<'a>
-        ensures value { quads_of result ≡ self.now }
-        ensures set { IsStrictlySortedBy (quad_order id_order) (quads_of result) }
+        ensures value { quads_of_part result ≡ self.now }
+        ensures set { IsStrictlySortedBy (quad_order id_order) (quads_of_part result) }
     {
         self.entries
     }
@@ -128,20 +124,14 @@ impl<'a> QuadSlice<'a> {
     pub fn len(&self) -> usize
         ensures { result ≡ length self.now }
     {
-        match self.entries {
-            Part::Narrow(known) => known.len(),
-            Part::Wide(quads) => quads.len(),
-        }
+        self.entries.len()
     }
 
     /// Whether it has none.
     pub fn is_empty(&self) -> bool
         ensures { IsTrue result ↔ (self.now ≡ []) }
     {
-        match self.entries {
-            Part::Narrow(known) => known.is_empty(),
-            Part::Wide(quads) => quads.is_empty(),
-        }
+        self.len() == 0
     }
 
     /// The quad at a place, counted from 0.
@@ -149,10 +139,7 @@ impl<'a> QuadSlice<'a> {
         requires { place < length self.now }
         ensures { result ≡ get_or self.now place result }
     {
-        match self.entries {
-            Part::Narrow(known) => item_at(known, place).to_quad(),
-            Part::Wide(quads) => item_at(quads, place),
-        }
+        self.entries.get(place)
     }
 
     /// Whether it has the quad, by binary search.
@@ -175,19 +162,25 @@ impl<'a> QuadSlice<'a> {
         }
     }
 
-    /// Its quads that match, which are found in the same way.
-    pub fn matching(
-        &self,
-        alloc: Global,
-        pattern: &QuadPattern<Id>,
-    ) -> Result<Vec<Quad<Id>>, AllocError>
-        ensures { IfOk result (λ found. found.items
-            ≡ filter (the_matches id_order pattern.now) self.now) }
+    // A part that has all of its quads that match.
+    fn part_near(&self, pattern: &QuadPattern<Id>) -> Part<'a>
+        ensures { filter (the_matches id_order pattern.now) (quads_of_part result)
+            ≡ filter (the_matches id_order pattern.now) self.now }
     {
         match self.entries {
-            Part::Narrow(known) => known_matching(alloc, known, pattern),
-            Part::Wide(quads) => matching(alloc, pattern, part_of_set(quads, pattern)),
+            Part::Narrow(known) => Part::Narrow(part_of_known(known, pattern)),
+            Part::Wide(quads) => Part::Wide(part_of_set(quads, pattern)),
         }
+    }
+
+    /// Its quads that match, which are found in the same way.
+    pub fn matching(&self, alloc: Global, pattern: &QuadPattern<Id>) -> Result<QuadSet, AllocError>
+        ensures { IfOk result (λ found. found
+            ≡ filter (the_matches id_order pattern.now) self.now) }
+    {
+        self.rises();
+        let found = self.part_near(pattern).matching(alloc, pattern)?;
+        Ok(QuadSet::of_list(found))
     }
 
     // Its quads in an order.
@@ -223,16 +216,17 @@ impl<'a> QuadSlice<'a> {
         alloc: Global,
         orders: &[Order],
         pattern: &QuadPattern<Id>,
-    ) -> Result<Vec<Quad<Id>>, AllocError>
+    ) -> Result<QuadSet, AllocError>
         requires { AllAlike self.now orders.now }
-        ensures { IfOk result (λ found. found.items
+        ensures { IfOk result (λ found. found
             ≡ filter (the_matches id_order pattern.now) self.now) }
     {
         self.rises();
-        match order_among(orders, order_for(pattern)) {
-            Some(order) => order.matching_set(alloc, pattern, &mut Looks::new()),
-            None => self.matching(alloc, pattern),
-        }
+        let Some(order) = order_among(orders, order_for(pattern)) else {
+            return self.matching(alloc, pattern);
+        };
+        let found = order.matching_set(alloc, pattern, &mut Looks::new())?;
+        Ok(QuadSet::of_list(found))
     }
 
     /// Puts its quads at the end of others.
@@ -275,15 +269,7 @@ impl<'a> QuadSlice<'a> {
     pub fn is_same(&self, other: &QuadSlice<'_>) -> bool
         ensures { IsTrue result ↔ (self.now ≡ other.now) }
     {
-        if self.len() != other.len() {
-            return false;
-        }
-        for place in 0..self.len() {
-            if !self.get(place).cmp(&other.get(place)).is_eq() {
-                return false;
-            }
-        }
-        true
+        self.entries.is_same(&other.entries)
     }
 
     // Whether it has the quad, and a place to begin with for a greater one. It is fast where the place before it is the quad's.

@@ -4,12 +4,10 @@ use Rattle.datasets.specs.declared.id.Id.{Id}
 use Rattle.datasets.specs.declared.quad.Quad.{Quad}
 use Rattle.datasets.specs.Dataset.{Quads, Is, Names}
 use Rattle.reads.specs.Reads.{Answer, told_quads}
-use Rattle.reads.specs.Same.{quads_eq}
-use Rattle.reads.proofs.Equal.{quads_eq-true}
 
-pub told_alone : (a : Answer) (quads : List (Quad Id)) (q : Quad Id) → Some quads ≡ told_quads a → true ≡ quads_eq quads (q ∷ []) → Quads (q ∷ []) ≡ a
+pub told_alone : (a : Answer) (quads : List (Quad Id)) (q : Quad Id) → Some quads ≡ told_quads a → quads ≡ q ∷ [] → Quads (q ∷ []) ≡ a
 told_alone (Quads found) quads q e h =
     let same : quads ≡ found = cc in
-    ap (λ (x : List (Quad Id)). Quads x) (sym (quads_eq-true quads (q ∷ []) (sym h)) ∙ same)
+    ap (λ (x : List (Quad Id)). Quads x) (sym h ∙ same)
 told_alone (Is so) quads q e h = absurd (cc)
 told_alone (Names names) quads q e h = absurd (cc)

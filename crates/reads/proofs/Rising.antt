@@ -14,6 +14,13 @@ use Rattle.datasets.specs.Id.{id_order, id_total, quad_total}
 use Rattle.change_laws.specs.Laws.{IsRising}
 use Rattle.reads.specs.Reads.{View, IsDataset}
 
+pub set_rises : (quads others : List (Quad Id)) → quads ≡ set_of (quad_order id_order) others → IsStrictlySortedBy (quad_order id_order) quads
+set_rises quads others e = subst (λ xs. IsStrictlySortedBy (quad_order id_order) xs) (sym e) (sorted-set_of (quad_total id_total) others)
+
+pub scan_rises : (quads : List (Quad Id)) (p : QuadPattern Id) (d : View) → IsRising id_order d → quads ≡ filter (matches id_order p) d.quads → IsStrictlySortedBy (quad_order id_order) quads
+scan_rises quads p d h e =
+    subst (λ xs. IsStrictlySortedBy (quad_order id_order) xs) (sym e) (IsStrictlySortedBy-filter (quad_order id_order) (matches id_order p) d.quads h.quads)
+
 module _ (quads : List (Quad Id)) (names : List Id) where
   from_quads : (others : List (Quad Id)) → quads ≡ others → IsStrictlySortedBy (quad_order id_order) others → IsStrictlySortedBy (quad_order id_order) quads
   from_quads others e s = subst (λ xs. IsStrictlySortedBy (quad_order id_order) xs) (sym e) s

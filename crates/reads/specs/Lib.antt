@@ -6,3 +6,4 @@ pub mod Questions
 pub mod Tells
 pub mod Asking
 pub mod Presence
+pub mod Kept

@@ -1,35 +1,49 @@
 //! Answers to reads.
 ghost use Rattle.std.specs.Prelude.{◌≡◌, ◌↔◌, IsTrue, IfOk, option_copied};
-ghost use Rattle.datasets.specs.Dataset.{told, Quads, Is, Names};
+ghost use Rattle.datasets.specs.Dataset.{Quads, Is, Names};
+ghost use Rattle.reads.specs.Kept.{told_by};
 ghost use Rattle.reads.specs.Reads.{told_quads, told_names, told_is};
 ghost use Rattle.reads.specs.Same.{answer_eq};
 
 use crate::same::{same_bool, same_names, same_quads};
-use datasets::{Answer, Id, Quad};
+use datasets::Id;
+use quad_index::QuadList;
 use std::alloc::{AllocError, Global};
 use std::marker::Model;
 use std::sync::Arc;
 
+/// What an answer to a read tells, its quads in little memory where all are of known terms.
+#[derive(Drop)]
+pub enum KeptAnswer {
+    /// The quads that a scan found.
+    Quads(QuadList),
+    /// Whether the one graph name that was asked for is there.
+    Is(bool),
+    /// All graph names.
+    Names(Vec<Id>),
+}
+
 /// An answer to a read, which is shared and not copied. Contracts see what it tells.
 #[derive(Drop)]
 pub struct Answered {
-    answer: Arc<Answer<Id>, Global>,
+    answer: Arc<KeptAnswer, Global>,
 }
 
 impl Model for Answered {
-    ghost use Rattle.datasets.specs.Dataset.{Told, told};
+    ghost use Rattle.datasets.specs.Dataset.{Told};
     ghost use Rattle.datasets.specs.declared.id.Id.{Id};
     ghost use Rattle.std.specs.Arc.{arc_value};
+    ghost use Rattle.reads.specs.Kept.{told_by};
 
     ghost Value = { Told Id };
 
-    ghost view = { λ a. told (arc_value a.answer) };
+    ghost view = { λ a. told_by (arc_value a.answer) };
 }
 
 impl Answered {
     /// This answer.
-    pub fn new(alloc: Global, answer: Answer<Id>) -> Result<Answered, AllocError>
-        ensures { IfOk result (λ shared. shared ≡ told answer) }
+    pub fn new(alloc: Global, answer: KeptAnswer) -> Result<Answered, AllocError>
+        ensures { IfOk result (λ shared. shared ≡ told_by answer) }
     {
         Ok(Answered {
             answer: Arc::new(alloc, answer)?,
@@ -37,11 +51,11 @@ impl Answered {
     }
 
     /// The quads, if it is the answer to a scan.
-    pub fn quads(&self) -> Option<&[Quad<Id>]>
+    pub fn quads(&self) -> Option<&QuadList>
         ensures { option_copied result ≡ told_quads self.now }
     {
         match &*self.answer {
-            Answer::Quads(quads) => Some(quads.as_slice()),
+            KeptAnswer::Quads(quads) => Some(quads),
             _ => None,
         }
     }
@@ -51,7 +65,7 @@ impl Answered {
         ensures { result ≡ told_is self.now }
     {
         match &*self.answer {
-            Answer::Is(so) => Some(*so),
+            KeptAnswer::Is(so) => Some(*so),
             _ => None,
         }
     }
@@ -61,7 +75,7 @@ impl Answered {
         ensures { option_copied result ≡ told_names self.now }
     {
         match &*self.answer {
-            Answer::Names(names) => Some(names.as_slice()),
+            KeptAnswer::Names(names) => Some(names.as_slice()),
             _ => None,
         }
     }
@@ -79,9 +93,9 @@ impl Answered {
         ensures { result ≡ answer_eq self.now other.now }
     {
         match (&*self.answer, &*other.answer) {
-            (Answer::Quads(x), Answer::Quads(y)) => same_quads(x, y),
-            (Answer::Is(x), Answer::Is(y)) => same_bool(*x, *y),
-            (Answer::Names(x), Answer::Names(y)) => same_names(x, y),
+            (KeptAnswer::Quads(x), KeptAnswer::Quads(y)) => same_quads(x, y),
+            (KeptAnswer::Is(x), KeptAnswer::Is(y)) => same_bool(*x, *y),
+            (KeptAnswer::Names(x), KeptAnswer::Names(y)) => same_names(x, y),
             _ => false,
         }
     }

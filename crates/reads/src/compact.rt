@@ -39,13 +39,12 @@ impl CompactView {
         CompactView { quads, names }
     }
 
-    /// The same dataset. An error comes only where memory runs out.
-    pub fn from_view(alloc: Global, view: View) -> Result<CompactView, AllocError>
+    /// The same dataset. It takes no memory.
+    pub fn from_view(_alloc: Global, view: View) -> Result<CompactView, AllocError>
         ensures { IfOk result (λ compact. compact ≡ view) }
     {
         view.rises();
         let (quads, names) = view.into_parts();
-        let quads = QuadSet::from_set(alloc, quads)?;
         Ok(CompactView { quads, names })
     }
 

@@ -6,11 +6,11 @@ ghost use Rattle.sets.specs.Sets.{set_of};
 ghost use Rattle.change_laws.specs.Laws.{IsRising};
 ghost use Rattle.reads.specs.Reads.{says};
 
-use crate::answered::Answered;
+use crate::answered::{Answered, KeptAnswer};
 use crate::compact::CompactView;
 use crate::lists::copied_names;
 use crate::view::View;
-use datasets::{Answer, Id, QuadPattern, Read};
+use datasets::{Id, QuadPattern, Read};
 use quad_index::{Arrangement, Index, QuadList};
 use quad_sets::QuadSet;
 use std::alloc::{AllocError, Global};
@@ -45,8 +45,8 @@ impl IndexedView {
     {
         dataset.rises();
         let (quads, names) = dataset.into_parts();
-        let quads = Index::new(alloc, &quads, orders)?;
-        let named = View::from_sets(Vec::new(alloc), names);
+        let quads = Index::of_quads(alloc, quads.into_list(), orders)?;
+        let named = View::from_sets(QuadSet::new(alloc), names);
         Ok(IndexedView { quads, named })
     }
 
@@ -63,7 +63,7 @@ impl IndexedView {
         ensures names { IfOk result (λ indexed. indexed.names ≡ set_of id_order names.items) }
     {
         let quads = Index::of_quads(alloc, quads, orders)?;
-        let named = View::from_parts(Vec::new(alloc), names);
+        let named = View::from_parts(QuadList::new(alloc), names);
         Ok(IndexedView { quads, named })
     }
 
@@ -80,7 +80,7 @@ impl IndexedView {
         ensures names { IfOk result (λ indexed. indexed.names ≡ set_of id_order names.items) }
     {
         let quads = Index::of_quads_by(rt, alloc, quads, orders)?;
-        let graphs = View::from_parts(Vec::new(alloc), names);
+        let graphs = View::from_parts(QuadList::new(alloc), names);
         Ok(IndexedView {
             quads,
             named: graphs,
@@ -105,7 +105,7 @@ impl IndexedView {
         ensures { IfOk result (λ copy. copy ≡ self.now) }
     {
         self.rises();
-        let quads = self.quads.quads(alloc)?;
+        let quads = QuadSet::of_index(alloc, &self.quads)?;
         let names = copied_names(alloc, self.names())?;
         Ok(View::from_sets(quads, names))
     }
@@ -135,7 +135,7 @@ impl IndexedView {
     {
         self.rises();
         let quads = self.quads.scan(alloc, pattern)?;
-        Ok(View::from_sets(quads, Vec::new(alloc)))
+        Ok(View::from_sets(QuadSet::of_list(quads), Vec::new(alloc)))
     }
 
     /// The part of the dataset that the read asks for: what it says of the part is what it says of the whole.
@@ -156,7 +156,7 @@ impl IndexedView {
         match read {
             Read::Scan(pattern) => {
                 let quads = self.quads.scan(alloc, pattern)?;
-                Answered::new(alloc, Answer::Quads(quads))
+                Answered::new(alloc, KeptAnswer::Quads(quads))
             }
             Read::GraphIs(_) => self.named.answer(alloc, read),
             Read::Graphs => self.named.answer(alloc, read),

@@ -1,5 +1,5 @@
 //! Datasets and reads at numbers of terms: what a read says of a dataset, reads with their answers, and what answers them. Stands on
-//! `datasets`, `change_laws` and `quad_index`.
+//! `datasets`, `change_laws`, `quad_index` and `quad_sets`.
 //!
 //! The contract used above: `View::answer` and `IndexedView::answer` are `says` of specs/Reads.antt.
 #![tactic(auto)]
@@ -16,7 +16,7 @@ mod shared_items;
 mod source;
 mod view;
 
-pub use answered::Answered;
+pub use answered::{Answered, KeptAnswer};
 pub use compact::CompactView;
 pub use indexed::IndexedView;
 pub use note::Note;

@@ -1,19 +1,11 @@
-//! Lists of quads and of graph names: unions and copies.
+//! Lists of graph names: unions and copies.
 ghost use Rattle.std.specs.Prelude.{◌≡◌, ◌∷◌, [], IfOk, if◌then◌else◌};
 ghost use Rattle.sets.specs.Sets.{union};
 ghost use Rattle.datasets.specs.Id.{id_order};
-ghost use Rattle.datasets.specs.Dataset.{quad_order};
 
-use datasets::{Id, Quad};
+use datasets::Id;
 use quad_sets::lists::merged;
 use std::alloc::{AllocError, Global};
-
-/// The same quads again.
-pub fn copied_quads(alloc: Global, quads: &[Quad<Id>]) -> Result<Vec<Quad<Id>>, AllocError>
-    ensures { IfOk result (λ copy. copy.items ≡ quads.now) }
-{
-    Vec::from_slice(alloc, quads)
-}
 
 /// The same names again.
 pub fn copied_names(alloc: Global, names: &[Id]) -> Result<Vec<Id>, AllocError>
@@ -31,19 +23,6 @@ pub fn name_if(alloc: Global, so: bool, name: &Id) -> Result<Vec<Id>, AllocError
         names.push(*name)?;
     }
     Ok(names)
-}
-
-/// The set of both lists' quads.
-pub fn quads_union(
-    mut quads: Vec<Quad<Id>>,
-    mut others: Vec<Quad<Id>>,
-) -> Result<Vec<Quad<Id>>, AllocError>
-    ensures { IfOk result (λ all. all.items ≡ union (quad_order id_order) quads.items
-        others.items) }
-{
-    quads.reserve_exact(others.len())?;
-    quads.append(&mut others)?;
-    merged(quads)
 }
 
 /// The set of both lists' names.

@@ -1,12 +1,11 @@
 //! The question whether one quad is there.
-ghost use Rattle.std.specs.Prelude.{◌≡◌, IfOk, IfSome};
+ghost use Rattle.std.specs.Prelude.{◌≡◌, ◌∷◌, [], IsTrue, IfOk, IfSome};
 ghost use Rattle.quad_index.specs.Known.{quad_of};
 ghost use Rattle.reads.specs.Presence.{scan_for as the_scan_for, presence};
 
-use crate::answered::Answered;
-use crate::same::same_quads;
-use datasets::{Answer, GraphPlace, Id, Quad, QuadPattern, Read};
-use quad_index::KnownQuad;
+use crate::answered::{Answered, KeptAnswer};
+use datasets::{GraphPlace, Id, Quad, QuadPattern, Read};
+use quad_index::{KnownQuad, QuadList};
 use std::alloc::{AllocError, Global};
 
 /// The scan for one quad.
@@ -55,9 +54,19 @@ pub fn presence_answer(
 {
     let mut quads = Vec::new(alloc);
     if there {
-        quads.push(known.to_quad())?;
+        quads.push(*known)?;
     }
-    Answered::new(alloc, Answer::Quads(quads))
+    Answered::new(alloc, KeptAnswer::Quads(QuadList::of_known(quads)))
+}
+
+// Whether a list is this quad alone.
+fn is_alone(quads: &QuadList, quad: &Quad<Id>) -> bool
+    ensures { IsTrue result → quads.now ≡ quad.now ∷ [] }
+{
+    if quads.len() != 1 {
+        return false;
+    }
+    quads.get(0).cmp(quad).is_eq()
 }
 
 /// Whether the quad is there by an answer to the scan for it, if it is such an answer.
@@ -69,7 +78,7 @@ pub fn is_present(known: &KnownQuad, answer: &Answered) -> Option<bool>
     if quads.is_empty() {
         return Some(false);
     }
-    if same_quads(quads, &[known.to_quad()]) {
+    if is_alone(quads, &known.to_quad()) {
         Some(true)
     } else {
         None

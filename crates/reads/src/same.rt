@@ -5,7 +5,8 @@ ghost use Rattle.datasets.specs.Id.{id_order};
 ghost use Rattle.datasets.specs.Dataset.{same_graph};
 ghost use Rattle.reads.specs.Same.{list_eq, bool_eq, quads_eq, names_eq, graph_place_eq, pattern_eq, read_eq};
 
-use datasets::{GraphPlace, Id, Quad, QuadPattern, Read};
+use datasets::{GraphPlace, Id, QuadPattern, Read};
+use quad_index::QuadList;
 
 fn same_lists<T: Ord>(left: &[T], right: &[T]) -> bool
     ensures { result ≡ list_eq (eq_by_cmp T.cmp) left.now right.now }
@@ -33,10 +34,10 @@ pub fn same_bool(a: bool, b: bool) -> bool
 }
 
 /// Whether two lists of quads are the same.
-pub fn same_quads(a: &[Quad<Id>], b: &[Quad<Id>]) -> bool
+pub fn same_quads(a: &QuadList, b: &QuadList) -> bool
     ensures { result ≡ quads_eq a.now b.now }
 {
-    same_lists(a, b)
+    a.is_same(b)
 }
 
 /// Whether two lists of names are the same.

@@ -8,9 +8,11 @@ ghost use Rattle.reads.specs.Reads.{says};
 
 use crate::answered::Answered;
 use crate::indexed::IndexedView;
-use crate::lists::{copied_names, copied_quads, name_if};
+use crate::lists::{copied_names, name_if};
 use crate::view::View;
-use datasets::{Id, Quad, QuadPattern, Read};
+use datasets::{Id, QuadPattern, Read};
+use quad_index::QuadList;
+use quad_sets::QuadSet;
 use std::alloc::{AllocError, Global};
 use std::marker::Model;
 
@@ -74,14 +76,15 @@ impl<'a> Scanned<'a> {
     }
 
     // The quads that match, where it is a scan.
-    fn quads(&self, pattern: &QuadPattern<Id>) -> &[Quad<Id>]
+    fn quads(&self, alloc: Global, pattern: &QuadPattern<Id>) -> Result<QuadList, AllocError>
         requires { self.now.read ≡ Read.Scan pattern.now }
-        ensures { result.now ≡ filter (matches id_order pattern.now) self.now.dataset.quads }
+        ensures { IfOk result (λ quads. quads
+            ≡ filter (matches id_order pattern.now) self.now.dataset.quads) }
     {
         let _ = pattern;
         match self.answer.quads() {
-            Some(quads) => quads,
-            None => &[],
+            Some(quads) => quads.copied(alloc),
+            None => Ok(QuadList::new(alloc)),
         }
     }
 
@@ -114,8 +117,8 @@ impl<'a> Scanned<'a> {
             { quads = filter (matches id_order pattern.now) self.now.dataset.quads; names = [] }) }
     {
         self.rises();
-        let quads = copied_quads(alloc, self.quads(pattern))?;
-        Ok(View::from_sets(quads, Vec::new(alloc)))
+        let quads = self.quads(alloc, pattern)?;
+        Ok(View::from_sets(QuadSet::of_list(quads), Vec::new(alloc)))
     }
 
     fn name_part(&self, alloc: Global, name: &Id) -> Result<View, AllocError>
@@ -127,7 +130,7 @@ impl<'a> Scanned<'a> {
         }) }
     {
         let names = name_if(alloc, self.has(name), name)?;
-        Ok(View::from_sets(Vec::new(alloc), names))
+        Ok(View::from_sets(QuadSet::new(alloc), names))
     }
 
     fn names_part(&self, alloc: Global) -> Result<View, AllocError>
@@ -137,7 +140,7 @@ impl<'a> Scanned<'a> {
     {
         self.rises();
         let names = copied_names(alloc, self.names())?;
-        Ok(View::from_sets(Vec::new(alloc), names))
+        Ok(View::from_sets(QuadSet::new(alloc), names))
     }
 
     /// The part of the dataset that the read asks for: what it says of the part is what it says of the whole. An error comes only where

@@ -6,19 +6,20 @@ ghost use Rattle.datasets.specs.Dataset.{quad_order, matches, Quads, Is, Names};
 ghost use Rattle.change_laws.specs.Laws.{IsRising};
 ghost use Rattle.reads.specs.Reads.{says, IsDataset};
 
-use crate::answered::Answered;
-use crate::lists::{copied_names, copied_quads, name_if};
-use datasets::{Answer, Id, Quad, QuadPattern, Read};
-use quad_index::matching::matching;
-use quad_index::part_of_set;
+use crate::answered::{Answered, KeptAnswer};
+use crate::lists::{copied_names, name_if};
+use datasets::{Id, QuadPattern, Read};
+use quad_index::QuadList;
+use quad_sets::{QuadSet, QuadSlice};
 use sets::{is_member, set_of};
 use std::alloc::{AllocError, Global};
 use std::marker::Model;
 
-/// A dataset, or what changes made of one: a set of quads and a set of graph names. A quad's graph need not be named.
+/// A dataset, or what changes made of one: a set of quads, in little memory where all are of known terms, and a set of graph names. A quad's
+/// graph need not be named.
 #[derive(Drop)]
 pub struct View {
-    quads: Vec<Quad<Id>>,
+    quads: QuadSet,
     names: Vec<Id>,
 }
 
@@ -30,9 +31,9 @@ impl Model for View {
 
     ghost Value = { Dataset Id };
 
-    ghost view = { λ d. record { quads = d.quads.items; names = d.names.items } };
+    ghost view = { λ d. record { quads = d.quads; names = d.names.items } };
 
-    ghost invariant = { λ d. IsRising id_order (record { quads = d.quads.items; names = d.names.items }) };
+    ghost invariant = { λ d. IsRising id_order (record { quads = d.quads; names = d.names.items }) };
 }
 
 impl View {
@@ -42,41 +43,41 @@ impl View {
         ensures dataset { IsDataset result }
     {
         View {
-            quads: Vec::new(alloc),
+            quads: QuadSet::new(alloc),
             names: Vec::new(alloc),
         }
     }
 
     /// The sets of these quads and of these graph names, in any order and with repeats. It takes no memory.
-    pub fn from_parts(quads: Vec<Quad<Id>>, names: Vec<Id>) -> View
-        ensures quads { result.quads ≡ the_set_of (quad_order id_order) quads.items }
+    pub fn from_parts(quads: QuadList, names: Vec<Id>) -> View
+        ensures quads { result.quads ≡ the_set_of (quad_order id_order) quads }
         ensures names { result.names ≡ the_set_of id_order names.items }
     {
         View {
-            quads: set_of(quads),
+            quads: QuadSet::of_list(quads.into_set()),
             names: set_of(names),
         }
     }
 
     /// These sets of quads and of graph names. It takes no memory.
-    pub fn from_sets(quads: Vec<Quad<Id>>, names: Vec<Id>) -> View
-        requires { IsRising id_order (record { quads = quads.items; names = names.items }) }
-        ensures { result ≡ record { quads = quads.items; names = names.items } }
+    pub fn from_sets(quads: QuadSet, names: Vec<Id>) -> View
+        requires { IsRising id_order (record { quads = quads; names = names.items }) }
+        ensures { result ≡ record { quads = quads; names = names.items } }
     {
         View { quads, names }
     }
 
     /// Its quads and its graph names, by themselves.
-    pub fn into_parts(self) -> (Vec<Quad<Id>>, Vec<Id>)
-        ensures quads { result.0.items ≡ self.quads }
+    pub fn into_parts(self) -> (QuadSet, Vec<Id>)
+        ensures quads { result.0 ≡ self.quads }
         ensures names { result.1.items ≡ self.names }
     {
         (self.quads, self.names)
     }
 
     /// Its quads.
-    pub fn quads(&self) -> &[Quad<Id>]
-        ensures { result.now ≡ self.now.quads }
+    pub fn quads(&self) -> QuadSlice<'_>
+        ensures { result ≡ self.now.quads }
     {
         self.quads.as_slice()
     }
@@ -92,7 +93,7 @@ impl View {
     pub fn copied(&self, alloc: Global) -> Result<View, AllocError>
         ensures { IfOk result (λ copy. copy ≡ self.now) }
     {
-        let quads = copied_quads(alloc, &self.quads)?;
+        let quads = self.quads.copied(alloc)?;
         let names = copied_names(alloc, &self.names)?;
         Ok(View { quads, names })
     }
@@ -109,8 +110,8 @@ impl View {
         ensures { IfOk result (λ part. part ≡ record
             { quads = filter (matches id_order pattern.now) self.now.quads; names = [] }) }
     {
-        let part = part_of_set(&self.quads, pattern);
-        let quads = matching(alloc, pattern, part)?;
+        self.rises();
+        let quads = self.quads().matching(alloc, pattern)?;
         Ok(View {
             quads,
             names: Vec::new(alloc),
@@ -128,7 +129,7 @@ impl View {
         let is_there = is_member(&self.names, name);
         let names = name_if(alloc, is_there, name)?;
         Ok(View {
-            quads: Vec::new(alloc),
+            quads: QuadSet::new(alloc),
             names,
         })
     }
@@ -139,7 +140,7 @@ impl View {
     {
         let names = copied_names(alloc, &self.names)?;
         Ok(View {
-            quads: Vec::new(alloc),
+            quads: QuadSet::new(alloc),
             names,
         })
     }
@@ -162,11 +163,10 @@ impl View {
     {
         let answer = match read {
             Read::Scan(pattern) => {
-                let part = part_of_set(&self.quads, pattern);
-                Answer::Quads(matching(alloc, pattern, part)?)
+                KeptAnswer::Quads(self.quads().matching(alloc, pattern)?.into_list())
             }
-            Read::GraphIs(name) => Answer::Is(is_member(&self.names, name)),
-            Read::Graphs => Answer::Names(copied_names(alloc, &self.names)?),
+            Read::GraphIs(name) => KeptAnswer::Is(is_member(&self.names, name)),
+            Read::Graphs => KeptAnswer::Names(copied_names(alloc, &self.names)?),
         };
         Answered::new(alloc, answer)
     }

@@ -68,7 +68,7 @@ fn event_of_entry(alloc: Global, terms: &Dict, entry: &PackedEntry) -> Result<Li
         Shown::Answered(i, n, read, _) => {
             Ok(LineEvent::Read(i, n, name_read(alloc, terms, &read)?))
         }
-        Shown::Passed(i, n) => Ok(LineEvent::Check(i, n)),
+        Shown::Other(event, _) => line_event(alloc, terms, &event),
         Shown::Whole(kept) => event_of(alloc, terms, kept),
     }
 }
@@ -90,7 +90,7 @@ fn reply_of_entry(entry: &PackedEntry) -> LineReply
 {
     match entry.shown() {
         Shown::Answered(_, _, _, count) => LineReply::Answered(count),
-        Shown::Passed(_, _) => LineReply::Passed,
+        Shown::Other(_, reply) => line_reply(&reply),
         Shown::Whole(kept) => reply_of(kept),
     }
 }

@@ -4,7 +4,7 @@ use datasets::{Id, Quad};
 use meaning::Refusal;
 use nquads::{BaseFault, canonical_text, read_bytes};
 use numbering::{Numbered, named, number};
-use reads::View;
+use reads::{CompactView, View};
 use rules::{Block, split};
 use std::alloc::{AllocError, Global};
 use std::test::Fail;
@@ -45,7 +45,8 @@ fn is_numbered(numbered: &Numbered, dataset: &View) -> bool {
     };
     numbered.base.terms().len() == 4
         && matches!(dataset.names(), [Id::Known(3)])
-        && matches!(dataset.quads(), [only] if *only == quad)
+        && dataset.quads().len() == 1
+        && dataset.quads().contains(&quad)
         && matches!(numbered.block.as_slice(), [Err(Refusal::Syntax)])
 }
 
@@ -58,7 +59,10 @@ fn comes_to_numbers(alloc: Global, block: Block) -> Result<bool, BaseFault> {
     let dataset = base(alloc)?;
     let numbered = number(&Alone, alloc, dataset, block)?;
     let copy = numbered.base.dataset().copied(alloc)?;
-    Ok(is_numbered(&numbered, &copy))
+    let so = is_numbered(&numbered, &copy);
+    let compact = CompactView::from_view(alloc, copy)?;
+    let same = numbered.base.dataset().compact(alloc)?;
+    Ok(so && compact.quads().is_same(&same.quads()) && compact.names() == same.names())
 }
 
 // To numbers and back.

@@ -19,9 +19,12 @@ fn is_told(alloc: Global, quad: Quad<Id>, there: bool) -> Result<bool, AllocErro
         return Ok(false);
     };
     let answer = presence_answer(alloc, &known, there)?;
-    let has_quad = match answer.quads() {
-        Some([found]) => there && *found == quad,
-        Some([]) => !there,
+    let Some(quads) = answer.quads() else {
+        return Ok(false);
+    };
+    let has_quad = match quads.quads(alloc)?.as_slice() {
+        [found] => there && *found == quad,
+        [] => !there,
         _ => false,
     };
     let told = matches!(is_present(&known, &answer), Some(so) if so == there);

@@ -52,7 +52,9 @@ impl<'a> Current<'a> {
         ensures ok { OnOk result (self.new ≡ applied change.now self.old) }
         ensures err { OnErr result (self.new ≡ self.old) }
     {
-        self.changes.push(alloc, change)
+        self.changes.push(alloc, change)?;
+        self.changes.put_in_order(alloc);
+        Ok(())
     }
 
     /// The dataset, by itself. An error comes only where memory runs out.

@@ -17,7 +17,8 @@ use crate::mapping::Mapping;
 use crate::operators::{apart_from, difference, joins, passing, push_fitted};
 use crate::unit::is_unit;
 use algebra::{Expression, Place, TriplePattern};
-use datasets::{Id, Quad};
+use datasets::Id;
+use quad_sets::QuadSlice;
 use sets::{place_of, set_of};
 use std::alloc::{AllocError, Global};
 use std::marker::Model;
@@ -76,7 +77,7 @@ impl Solutions {
         alloc: Global,
         width: u32,
         pattern: &TriplePattern<Id>,
-        quads: &[Quad<Id>],
+        quads: &QuadSlice<'_>,
     ) -> Result<Solutions, AllocError>
         ensures { IfOk result (λ found. found ≡ the_solutions_among id_order width pattern.now
             quads.now) }

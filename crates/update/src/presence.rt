@@ -30,8 +30,8 @@ fn has_quads(answer: &Answered) -> bool
     ensures { result ≡ the_has_quads answer.now }
 {
     match answer.quads() {
-        Some([_, ..]) => true,
-        _ => false,
+        Some(quads) => !quads.is_empty(),
+        None => false,
     }
 }
 

@@ -97,7 +97,8 @@ pub fn quads_of<S: Source>(
         quads.items) }
 {
     let pattern = whole(place_of(target));
-    let quads = scan(alloc, &pattern, changes, source, notes)?;
+    let found = scan(alloc, &pattern, changes, source, notes)?;
+    let quads = found.as_slice().quads(alloc)?;
     Ok(among(target, quads))
 }
 

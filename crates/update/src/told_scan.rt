@@ -3,13 +3,14 @@ ghost use Rattle.std.specs.Prelude.{◌≡◌, ◌≤◌, length, IsTrue, IfOk, 
 ghost use Rattle.std.specs.List.Sorted.{IsStrictlySortedBy};
 ghost use Rattle.datasets.specs.Id.{id_order};
 ghost use Rattle.datasets.specs.Dataset.{quad_order, matches, free_or, in_place};
+ghost use Rattle.sets.specs.Sets.{has};
 ghost use Rattle.reads.specs.Reads.{View, says};
 ghost use Rattle.reads.specs.Runs.{Agrees};
 ghost use Rattle.update.specs.Told.{quads_in as the_quads_in, told_by, first_told as the_first_told, IsTold, AreTold};
 
 use datasets::{GraphPlace, Id, Quad, QuadPattern, Read};
+use quad_sets::QuadSlice;
 use reads::{Answered, Note};
-use sets::is_member;
 use std::alloc::{AllocError, Global};
 use std::marker::Model;
 
@@ -61,26 +62,26 @@ fn lets_through(pattern: &QuadPattern<Id>, quad: &Quad<Id>) -> bool
         && is_in_place(pattern.graph, quad.graph)
 }
 
-// The quads that an answer tells. An answer of another kind tells none.
-fn quads_in(answer: &Answered) -> &[Quad<Id>]
-    ensures { result.now ≡ the_quads_in answer.now }
+// Whether the quads that an answer tells are a set. An answer of another kind tells none.
+fn tells_set(answer: &Answered) -> bool
+    ensures { IsTrue result
+        → IsStrictlySortedBy (quad_order id_order) (the_quads_in answer.now) }
 {
     match answer.quads() {
-        Some(quads) => quads,
-        None => &[],
+        Some(quads) => quads.is_set(),
+        None => true,
     }
 }
 
-// Whether each quad is below the next.
-fn is_rising(quads: &[Quad<Id>]) -> bool
-    ensures { IsTrue result → IsStrictlySortedBy (quad_order id_order) quads.now }
+// Whether a quad is one of those that an answer tells.
+fn is_told_there(answer: &Answered, quad: &Quad<Id>) -> bool
+    requires { IsStrictlySortedBy (quad_order id_order) (the_quads_in answer.now) }
+    ensures { result ≡ has (quad_order id_order) (the_quads_in answer.now) quad.now }
 {
-    for i in 1..quads.len() {
-        if !quads[i - 1].cmp(&quads[i]).is_lt() {
-            return false;
-        }
+    match answer.quads() {
+        Some(quads) => QuadSlice::of_set(quads).contains(quad),
+        None => false,
     }
-    true
 }
 
 // Whether a pattern lets one quad through at most.
@@ -99,7 +100,7 @@ fn told_scan(alloc: Global, note: &Note) -> Result<Option<ToldScan>, AllocError>
     let Read::Scan(pattern) = &note.read else {
         return Ok(None);
     };
-    if is_of_one(pattern) || !is_rising(quads_in(&note.answer)) {
+    if is_of_one(pattern) || !tells_set(&note.answer) {
         return Ok(None);
     }
     let answer = note.answer.copied(alloc)?;
@@ -146,7 +147,7 @@ impl ToldScan {
         ensures { result ≡ told_by self.now quad.now }
     {
         if lets_through(&self.pattern, quad) {
-            Some(is_member(quads_in(&self.answer), quad))
+            Some(is_told_there(&self.answer, quad))
         } else {
             None
         }

@@ -8,7 +8,6 @@ ghost use Rattle.update.specs.Whole.{is_whole as the_is_whole, whole_place as th
 use crate::lists::joined;
 use datasets::{GraphPlace, Id, Quad, QuadPattern, Read};
 use reads::Note;
-use reads::lists::copied_quads;
 use sets::{is_member, set_of};
 use std::alloc::{AllocError, Global};
 use std::marker::Model;
@@ -58,15 +57,13 @@ fn whole_place(note: &Note) -> Option<GraphPlace<Id>>
 }
 
 // The quads that a note tells of a whole graph place.
-fn quads_told(note: &Note) -> &[Quad<Id>]
-    ensures { result.now ≡ the_quads_told note.now.read note.now.answer }
+fn quads_told(alloc: Global, note: &Note) -> Result<Vec<Quad<Id>>, AllocError>
+    ensures { IfOk result (λ quads. quads.items
+        ≡ the_quads_told note.now.read note.now.answer) }
 {
-    match whole_place(note) {
-        Some(_) => match note.answer.quads() {
-            Some(quads) => quads,
-            None => &[],
-        },
-        None => &[],
+    match (whole_place(note), note.answer.quads()) {
+        (Some(_), Some(quads)) => quads.quads(alloc),
+        _ => Ok(Vec::new(alloc)),
     }
 }
 
@@ -135,7 +132,7 @@ fn all_told(alloc: Global, notes: &[Note]) -> Result<Vec<Quad<Id>>, AllocError>
 {
     let mut quads = Vec::new(alloc);
     for note in notes {
-        let more = copied_quads(alloc, quads_told(note))?;
+        let more = quads_told(alloc, note)?;
         quads = joined(quads, more)?;
     }
     Ok(quads)

@@ -1,6 +1,6 @@
 -- What changes make of a dataset, and of the part of it that a read asks for.
 use Rattle.std.proofs.Common.{◌≡◌, ℕ, zero, suc, set, ◌-◌, arith, ◌<◌, ◌≤◌, ◌+◌, ◌==◌, true, false, List, [], ◌∷◌, ◌++◌, length, take, get_or, refl, ap, sym, ◌∙◌}
-use Rattle.std.proofs.lemmas.Bool.{false≢true, eqb-true}
+use Rattle.std.proofs.lemmas.Bool.{false≢true}
 use Rattle.std.proofs.lemmas.List.{take_more}
 use Rattle.datasets.specs.Id.{id_order}
 use Rattle.change_laws.specs.Laws.{IsRising}
@@ -71,10 +71,6 @@ pushed_is cs new x c is same v =
     ap (λ xs. changed_by xs v) is ∙ changed_by-append cs (x ∷ []) v ∙ changed_by-one x (changed_by cs v) ∙ ap (λ y. applied y (changed_by cs v)) same
 
 -- LISTS WITH NOTHING IN THEM
-
-pub empty_is : {X : Type 0} (xs : List X) (n : ℕ) → n ≡ length xs → (n == 0) ≡ true → xs ≡ []
-empty_is [] n e h = refl
-empty_is (x ∷ xs) n e h = absurd (let none = eqb-true n 0 h in omega (arith, e, none))
 
 pub some_are : {X : Type 0} (xs : List X) (n : ℕ) → n ≡ length xs → (n == 0) ≡ false → xs ≡ [] → ⊥
 some_are xs n e h none = false≢true (sym h ∙ ap (λ k. k == 0) (e ∙ ap length none))

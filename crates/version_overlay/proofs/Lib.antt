@@ -1,4 +1,5 @@
 pub mod Changing
 pub mod Generations
+pub mod Presences
 pub mod Scanning
 pub mod Speaking

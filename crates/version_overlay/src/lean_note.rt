@@ -1,5 +1,7 @@
 //! Reads with their answers, in little memory once the answers are not needed for now.
 ghost use Rattle.std.specs.Prelude.{◌≡◌, ◌↔◌, IsTrue, IfOk};
+ghost use Rattle.quad_index.specs.Known.{quad_of};
+ghost use Rattle.reads.specs.Presence.{presence};
 ghost use Rattle.reads.specs.Reads.{says};
 ghost use Rattle.version_overlay.specs.Settled.{changed_by};
 
@@ -7,8 +9,8 @@ use crate::whole_note::WholeNote;
 use datasets::{Id, Read};
 use delta::Delta;
 use quad_index::KnownQuad;
-use reads::presence::{presence_answer, scan_for};
-use reads::same::same_reads;
+use reads::presence::{is_present, presence_answer, scan_for};
+use reads::same::{same_bool, same_reads};
 use reads::{Answered, IndexedView, Note};
 use std::alloc::{AllocError, Global};
 use std::marker::Model;
@@ -35,7 +37,38 @@ impl<'a> Model for LeanNote<'a> {
     ghost view = { λ n. note_of n.form };
 }
 
+// Whether this is the answer that the quad is there, or that it is not.
+#[tactic(auto, using(crate::proofs::Presences::told_same))]
+fn is_presence(
+    alloc: Global,
+    quad: &KnownQuad,
+    there: bool,
+    answer: &Answered,
+) -> Result<bool, AllocError>
+    ensures { IfOk result (λ same. IsTrue same
+        ↔ (presence (quad_of quad.now) there ≡ answer.now)) }
+{
+    if let Some(told) = is_present(quad, answer) {
+        return Ok(same_bool(told, there));
+    }
+    Ok(presence_answer(alloc, quad, there)?.is_same(answer))
+}
+
 impl<'a> LeanNote<'a> {
+    // The same in as little memory as it can have.
+    fn of_whole(alloc: Global, note: WholeNote<'a>) -> Result<LeanNote<'a>, AllocError>
+        ensures { IfOk result (λ lean. lean ≡ note.entry) }
+    {
+        if let Some((quad, there)) = note.presence() {
+            return Ok(LeanNote {
+                form: Form::Presence(quad, there),
+            });
+        }
+        Ok(LeanNote {
+            form: Form::Whole(Box::new(alloc, note)?),
+        })
+    }
+
     /// A read with its answer, which is kept. An error comes only where memory runs out.
     pub fn kept(
         alloc: Global,
@@ -45,10 +78,7 @@ impl<'a> LeanNote<'a> {
     ) -> Result<LeanNote<'a>, AllocError>
         ensures { IfOk result (λ note. note ≡ record { read = read.now; answer = answer }) }
     {
-        let note = Box::new(alloc, WholeNote::kept(base, read, answer))?;
-        Ok(LeanNote {
-            form: Form::Whole(note),
-        })
+        LeanNote::of_whole(alloc, WholeNote::kept(base, read, answer))
     }
 
     /// A read with its answer, which may be forgotten: the read says it of the base after these changes. An error comes only where memory
@@ -63,10 +93,7 @@ impl<'a> LeanNote<'a> {
         requires { answer ≡ says read.now (changed_by changes.items base.now) }
         ensures { IfOk result (λ note. note ≡ record { read = read.now; answer = answer }) }
     {
-        let note = Box::new(alloc, WholeNote::lean(base, read, answer, changes))?;
-        Ok(LeanNote {
-            form: Form::Whole(note),
-        })
+        LeanNote::of_whole(alloc, WholeNote::lean(base, read, answer, changes))
     }
 
     /// The read.
@@ -93,8 +120,10 @@ impl<'a> LeanNote<'a> {
     pub fn is_answer(&self, alloc: Global, other: &Answered) -> Result<bool, AllocError>
         ensures { IfOk result (λ same. IsTrue same ↔ (self.now.answer ≡ other.now)) }
     {
-        let answer = self.answer(alloc)?;
-        Ok(answer.is_same(other))
+        match &self.form {
+            Form::Presence(quad, there) => is_presence(alloc, quad, *there, other),
+            Form::Whole(note) => Ok(note.answer(alloc)?.is_same(other)),
+        }
     }
 
     /// Whether this is the read with the answer.
@@ -107,16 +136,12 @@ impl<'a> LeanNote<'a> {
         self.is_answer(alloc, &note.answer)
     }
 
-    /// The answer is no longer kept, if it can be found again or told in a word.
+    /// The answer is no longer kept, if it can be found again.
     pub fn forget(&mut self)
         ensures { self.new ≡ self.old }
     {
-        let Form::Whole(note) = &mut self.form else {
-            return;
-        };
-        match note.presence() {
-            Some((quad, there)) => self.form = Form::Presence(quad, there),
-            None => note.forget(),
+        if let Form::Whole(note) = &mut self.form {
+            note.forget();
         }
     }
 }

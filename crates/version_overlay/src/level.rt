@@ -1,7 +1,7 @@
-//! One change of several requests, its present quads in several orders, and what it makes of the part of a dataset that a read asks for.
+//! One change of several requests, its present quads in several orders where they are asked for, and what it makes of the part of a dataset
+//! that a read asks for.
 ghost use Rattle.std.specs.Prelude.{◌≡◌, true, false, [], IfOk, filter};
 ghost use Rattle.std.specs.List.{list_any};
-ghost use Rattle.std.specs.List.Sorted.{IsStrictlySortedBy};
 ghost use Rattle.sets.specs.Sets.{has};
 ghost use Rattle.datasets.specs.declared.id.Id.{Id as Number};
 ghost use Rattle.datasets.specs.declared.quad.Quad.{Quad as Named};
@@ -13,13 +13,11 @@ ghost use Rattle.reads.specs.Reads.{View as Dataset, says, applied};
 ghost use Rattle.version_overlay.specs.Settled.{part_or};
 
 use crate::along::{changed_part, part_of};
-use datasets::{Id, Quad, QuadPattern, Read};
+use datasets::{Id, QuadPattern, Read};
 use delta::Delta;
 use quad_index::{Arrangement, Order};
-use quad_sets::QuadSlice;
-use reads::lists::quads_union;
+use quad_sets::{QuadSet, QuadSlice};
 use reads::{Scanned, View};
-use sets::is_member;
 use std::alloc::{AllocError, Global};
 use std::marker::Model;
 
@@ -40,12 +38,14 @@ fn orders_worth(
     quads.in_orders(alloc, orders)
 }
 
-/// A change whose present quads are found by binary search. Contracts see the change.
+/// A change whose present quads are found by binary search, once they are put in order. Contracts see the change.
 #[derive(Drop)]
 pub struct Level {
     change: Delta,
     // The present quads in orders beside SPOG.
     orders: Vec<Order>,
+    // Whether they were put in order, where they are many.
+    is_ordered: bool,
 }
 
 impl Model for Level {
@@ -60,12 +60,29 @@ impl Model for Level {
 }
 
 impl Level {
-    /// This change, its present quads in these orders beside SPOG where they are many. An error comes only where memory runs out.
-    pub fn new(alloc: Global, change: Delta, orders: &[Arrangement]) -> Result<Level, AllocError>
-        ensures { IfOk result (λ level. level ≡ change) }
+    /// This change, its present quads in SPOG alone. It takes no memory.
+    pub fn new(alloc: Global, change: Delta) -> Level
+        ensures { result ≡ change }
     {
-        let orders = orders_worth(alloc, &change.present(), orders)?;
-        Ok(Level { change, orders })
+        Level {
+            change,
+            orders: Vec::new(alloc),
+            is_ordered: false,
+        }
+    }
+
+    /// The present quads are put in these orders beside SPOG, where they are many, they were not before, and there is memory. A read finds them
+    /// sooner then.
+    pub fn put_in_order(&mut self, alloc: Global, orders: &[Arrangement])
+        ensures { self.new ≡ self.old }
+    {
+        if self.is_ordered {
+            return;
+        }
+        if let Ok(orders) = orders_worth(alloc, &self.change.present(), orders) {
+            self.orders = orders;
+            self.is_ordered = true;
+        }
     }
 
     /// The change.
@@ -110,11 +127,11 @@ impl Level {
     {
         let coming = self.change.present().scan(alloc, &self.orders, pattern)?;
         let going = self.change.absent();
-        if coming.is_empty() && !is_any_gone(alloc, scanned, pattern, &part, &going)? {
+        if coming.as_slice().is_empty() && !is_any_gone(alloc, scanned, pattern, &part, &going)? {
             return Ok(part);
         }
         let (quads, _names) = part_of(alloc, scanned, part)?.into_parts();
-        let quads = quads_union(going.lacked(quads), coming)?;
+        let quads = QuadSet::of_changed(alloc, quads.into_list(), &going, &coming.as_slice())?;
         Ok(Some(View::from_sets(quads, Vec::new(alloc))))
     }
 }
@@ -134,10 +151,7 @@ fn is_any_gone(
         → has (quad_order id_order) going.now q ≡ false) }
 {
     match part {
-        Some(view) => {
-            view.rises();
-            Ok(have_common(view.quads(), going))
-        }
+        Some(view) => Ok(have_common(&view.quads(), going)),
         None => is_any_told_gone(alloc, scanned, pattern, going),
     }
 }
@@ -158,38 +172,29 @@ fn is_any_told_gone(
     scanned.rises();
     let answer = scanned.answer(alloc)?;
     match answer.quads() {
-        Some(quads) => Ok(have_common(quads, going)),
+        Some(quads) => Ok(have_common(&QuadSlice::of_set(quads), going)),
         None => Ok(true),
     }
 }
 
 // Whether two sets of quads have a quad in common. Those of the smaller one are looked for in the other.
-fn have_common(first: &[Quad<Id>], second: &QuadSlice<'_>) -> bool
-    requires { IsStrictlySortedBy (quad_order id_order) first.now }
+fn have_common(first: &QuadSlice<'_>, second: &QuadSlice<'_>) -> bool
     ensures { result ≡ false → (q : Named Number) → has (quad_order id_order) first.now q ≡ true
         → has (quad_order id_order) second.now q ≡ false }
 {
     if first.len() <= second.len() {
-        is_any_in(first, second)
+        is_any_of(first, second)
     } else {
         is_any_of(second, first)
     }
 }
 
-// Whether any of these quads is one of a set's.
-fn is_any_in(quads: &[Quad<Id>], set: &QuadSlice<'_>) -> bool
-    ensures { result ≡ list_any (λ q. has (quad_order id_order) set.now q) quads.now }
-{
-    quads.iter().any(|quad| set.contains(quad))
-}
-
 // Whether any of a set's quads is one of another's.
-fn is_any_of(quads: &QuadSlice<'_>, set: &[Quad<Id>]) -> bool
-    requires { IsStrictlySortedBy (quad_order id_order) set.now }
+fn is_any_of(quads: &QuadSlice<'_>, set: &QuadSlice<'_>) -> bool
     ensures { result ≡ list_any (λ q. has (quad_order id_order) set.now q) quads.now }
 {
     for place in 0..quads.len() {
-        if is_member(set, &quads.get(place)) {
+        if set.contains(&quads.get(place)) {
             return true;
         }
     }

@@ -1,7 +1,8 @@
 //! The changes of the requests that are committed, which will not change again.
 //!
 //! They lie in levels, the oldest first. As soon as the last four are alike in length they become one, or the last two where they are put in no
-//! order, so a read looks at few of them, and what a change speaks of is copied about as often as there are levels.
+//! order, so a read looks at few of them, and what a change speaks of is copied about as often as there are levels. A level is put in order once
+//! a read may find something in it.
 ghost use Rattle.std.specs.Prelude.{◌≡◌, ◌≤◌, ◌<◌, ◌+◌, true, false, [], length, vec_len, IfOk, IfSome, OnOk, OnErr};
 ghost use Rattle.datasets.specs.Id.{id_order};
 ghost use Rattle.change_laws.specs.Laws.{IsRising};
@@ -69,14 +70,22 @@ impl Settled {
             return Ok(());
         }
         put_all(&mut self.seen, delta)?;
-        let level = Level::new(alloc, delta.copied(alloc)?, &self.orders)?;
+        let level = Level::new(alloc, delta.copied(alloc)?);
         self.levels.push(level)?;
         join_alike(alloc, &mut self.levels, &self.orders);
         Ok(())
     }
 
-    // Whether the changes may have changed what the read says.
-    fn may_say_else(&self, read: &Read<Id>) -> bool
+    /// The changes are put in order, as far as there is memory, so that a read that they may have changed is answered sooner. No answer depends
+    /// on it.
+    pub fn put_in_order(&mut self, alloc: Global)
+        ensures { self.new ≡ self.old }
+    {
+        put_all_in_order(alloc, &mut self.levels, &self.orders);
+    }
+
+    /// Whether the changes may have changed what the read says.
+    pub fn may_say_else(&self, read: &Read<Id>) -> bool
         ensures { result ≡ false → (d : Dataset) → IsRising id_order d
             → says read.now (changed_by self.now d) ≡ says read.now d }
     {
@@ -166,6 +175,15 @@ fn joined(alloc: Global, earlier: &[Level], last: &Level) -> Result<Delta, Alloc
     Ok(change)
 }
 
+// The levels are put in these orders, as far as there is memory.
+fn put_all_in_order(alloc: Global, levels: &mut Vec<Level>, orders: &[Arrangement])
+    ensures { levels.new.items ≡ levels.old.items }
+{
+    for level in levels.iter_mut() {
+        level.put_in_order(alloc, orders);
+    }
+}
+
 // How many quads and names a level's change speaks of.
 fn size(level: &Level) -> usize {
     let change = level.change();
@@ -207,11 +225,7 @@ fn alike_at_end(levels: &[Level], orders: &[Arrangement]) -> Option<usize>
 }
 
 // The last two levels become one. After want of memory they are as before.
-fn join_last(
-    alloc: Global,
-    levels: &mut Vec<Level>,
-    orders: &[Arrangement],
-) -> Result<(), AllocError>
+fn join_last(alloc: Global, levels: &mut Vec<Level>) -> Result<(), AllocError>
     requires { 2 ≤ vec_len levels.old }
     ensures same { (d : Dataset) → changed_by levels.new.items d ≡ changed_by levels.old.items d }
     ensures count { OnOk result (vec_len levels.new + 1 ≡ vec_len levels.old) }
@@ -219,28 +233,23 @@ fn join_last(
     let last = levels.len() - 1;
     let earlier = levels[last - 1].change();
     let change = earlier.followed_by(alloc, levels[last].change())?;
-    let level = Level::new(alloc, change, orders)?;
+    let level = Level::new(alloc, change);
     levels.pop();
     levels[last - 1] = level;
     Ok(())
 }
 
-// So many of the last levels become one, the later ones first, so that an early one is copied once. What stands between is put in no order.
-fn join_many(
-    alloc: Global,
-    levels: &mut Vec<Level>,
-    count: usize,
-    orders: &[Arrangement],
-) -> Result<(), AllocError>
+// So many of the last levels become one, the later ones first, so that an early one is copied once.
+fn join_many(alloc: Global, levels: &mut Vec<Level>, count: usize) -> Result<(), AllocError>
     requires some { 2 ≤ count }
     requires within { count ≤ vec_len levels.old }
     ensures same { (d : Dataset) → changed_by levels.new.items d ≡ changed_by levels.old.items d }
     ensures fewer { OnOk result (vec_len levels.new < vec_len levels.old) }
 {
-    for done in 2..count {
-        join_last(alloc, levels, &[])?;
+    for done in 1..count {
+        join_last(alloc, levels)?;
     }
-    join_last(alloc, levels, orders)
+    Ok(())
 }
 
 // The last levels become one while they are alike in length, and there is memory.
@@ -248,7 +257,7 @@ fn join_alike(alloc: Global, levels: &mut Vec<Level>, orders: &[Arrangement])
     ensures { (d : Dataset) → changed_by levels.new.items d ≡ changed_by levels.old.items d }
 {
     while let Some(count) = alike_at_end(levels, orders) {
-        if join_many(alloc, levels, count, orders).is_err() {
+        if join_many(alloc, levels, count).is_err() {
             break;
         }
     }

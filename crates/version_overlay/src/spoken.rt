@@ -53,15 +53,24 @@ impl Spoken {
         self.current.put(alloc, delta, request)
     }
 
+    /// Whether a request may have spoken of what the read asks for. It is a look at the filter, and takes no memory.
+    pub fn may_have_spoken(&self, read: &Read<Id>) -> bool
+        ensures { result ≡ false → (j : ℕ) → speaks self.now read.now j ≡ false }
+    {
+        match read {
+            Read::Scan(pattern) => self.seen.may_match(pattern),
+            Read::GraphIs(_) => true,
+            Read::Graphs => true,
+        }
+    }
+
     /// The requests that may have spoken of what the read asks for, in any order and with repeats: none of them is missing.
     pub fn requests(&self, alloc: Global, read: &Read<Id>) -> Result<Vec<usize>, AllocError>
         ensures { IfOk result (λ found. (j : ℕ) → speaks self.now read.now j ≡ true
             → list_any (λ r. r == j) found.items ≡ true) }
     {
-        if let Read::Scan(pattern) = read {
-            if !self.seen.may_match(pattern) {
-                return Ok(Vec::new(alloc));
-            }
+        if !self.may_have_spoken(read) {
+            return Ok(Vec::new(alloc));
         }
         let mut found = self.older.requests(alloc, read)?;
         found.append(&mut self.current.requests(alloc, read)?)?;

@@ -1,16 +1,9 @@
-use Rattle.std.proofs.Common.{inl, inr}
-use Rattle.std.proofs.lemmas.Bool.{cases_lt}
 use Rattle.block_machine.specs.Kept.{shown}
 use Rattle.block_machine.proofs.Leading.{leads_all}
 use Rattle.block_machine.proofs.candidates.candidates_for.Goals as goal
 
 pub returns : goal.returns
 returns c =
-    leads_all (shown c.args.kept.now.slots.items) c.args.read.now c.args.from c.rising_between.result.items c.args.i c.requires.within c.rising_between.ensures.sorted c.rising_between.ensures.from
+    leads_all (shown c.args.kept.now.slots.items) c.args.read.now c.args.from c.rising_between.result.items c.args.i c.requires.rises c.rising_between.ensures.sorted c.rising_between.ensures.from
     c.rising_between.ensures.below
-    (λ j ge lt e.
-    c.rising_between.ensures.same j ge lt
-    (elim (cases_lt j c.args.kept.now.low) [
-      | inl settled ↦ c.in_ok-push_between.ensures.added j ge settled
-      | inr up ↦ c.in_ok-push_between.ensures.kept j (c.in_ok-found.ensures j (c.requires.holds.knows j c.args.read.now up e))
-    ]))
+    (λ j ge lt e. c.rising_between.ensures.same j ge lt (c.in_ok-found.ensures j ge lt e))

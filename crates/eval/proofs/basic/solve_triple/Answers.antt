@@ -24,5 +24,5 @@ returns-clause-solved g c d a =
     let quads = (applied c.args.query.now.changes.now d).quads in
     c.in_ok-found.ensures
     ∙ ap (solutions_among id_order width c.args.pattern.now)
-    (c.deref.ensures.value ∙ c.in_ok-quads.ensures.seen d a ∙ ap (λ s. filter (matches id_order s) quads) c.scan_of-wanted.ensures)
+    (c.as_slice.ensures.value ∙ c.in_ok-quads.ensures.seen d a ∙ ap (λ s. filter (matches id_order s) quads) c.scan_of-wanted.ensures)
     ∙ solutions_scanned width c.args.pattern.now c.args.graph quads

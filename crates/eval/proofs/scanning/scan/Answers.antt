@@ -1,4 +1,7 @@
-use Rattle.std.proofs.Common.{ap, ◌∙◌}
+use Rattle.std.specs.Prelude.{filter}
+use Rattle.std.proofs.Common.{refl, ap, ◌∙◌}
+use Rattle.datasets.specs.Id.{id_order}
+use Rattle.datasets.specs.Dataset.{matches}
 use Rattle.reads.specs.Reads.{told_quads, says}
 use Rattle.asking.proofs.Notes.{goes_short, told_last}
 use Rattle.eval.proofs.Seen.{scan_seen}
@@ -10,6 +13,6 @@ returns-in_err-quads-clause-goes g c allowed near = goes_short _ c.from_residual
 pub returns-clause-seen : goal.returns-clause-seen
 unfolding says
 returns-clause-seen g c d a =
-    c.in_ok-quads.ensures
-    ∙ scan_seen c.args.pattern.now c.args.changes.now d c.quads_of.result.now
-    (c.quads_of.ensures _ (ap told_quads (told_last c.args.notes.now.items c.ask.new.notes.items _ d c.in_ok-answer.ensures.noted a)))
+    let told = told_last c.args.notes.now.items c.ask.new.notes.items _ d c.in_ok-answer.ensures.noted a in
+    c.in_ok-quads.ensures _ (ap told_quads told)
+    ∙ scan_seen c.args.pattern.now c.args.changes.now d (filter (matches id_order c.args.pattern.now) d.quads) refl

@@ -1,9 +1,9 @@
-use Rattle.std.proofs.Common.{◌≡◌, ◌++◌, length}
-use Rattle.lexer.specs.Strings.{unescaped, unescaped_after}
+use Rattle.std.proofs.Common.{◌≡◌, ◌++◌, length, string_bytes, IsUtf8}
+use Rattle.lexer.specs.Strings.{IsEscaped, unescaped}
 use Rattle.lexer.proofs.strings.unescaped.Given as goal
 
-abbrev pub invariant-loop-rest : goal.invariant-loop-rest
-invariant-loop-rest l = l.value.items ++ unescaped_after l.escaped l.rest ≡ unescaped l.fn.written
+abbrev pub invariant-loop-before : goal.invariant-loop-before
+invariant-loop-before l = (string_bytes l.value ++ unescaped l.rest ≡ unescaped l.fn.written) × IsEscaped l.rest × IsUtf8 l.rest
 
-abbrev pub decreases-loop-rest : goal.decreases-loop-rest
-decreases-loop-rest l = length l.rest
+abbrev pub decreases-loop-before : goal.decreases-loop-before
+decreases-loop-before l = length l.rest

@@ -7,5 +7,5 @@ use Rattle.update.proofs.whole.all_told.Goals as goal
 pub loop-note-preserved : goal.loop-note-preserved
 loop-note-preserved c =
     listed_more (λ (n : Note). quads_told n.read n.answer) c.args.notes.now c.loop-note.note-index c.note-item.result c.loop-note.quads.items _ _ c.loop-note-test.true c.note-item.is
-    (c.in_ok-quads.ensures ∙ ap (λ z. c.loop-note.quads.items ++ z) (c.in_ok-more.ensures ∙ c.quads_told.ensures))
+    (c.in_ok-quads.ensures ∙ ap (λ z. c.loop-note.quads.items ++ z) c.in_ok-more.ensures)
     c.loop-note.invariant

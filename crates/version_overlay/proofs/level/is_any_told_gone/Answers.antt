@@ -11,8 +11,8 @@ use Rattle.reads.specs.Reads.{says}
 use Rattle.version_overlay.proofs.Scanning.{told_some}
 use Rattle.version_overlay.proofs.level.is_any_told_gone.Goals as goal
 
-pub have_common-requires : goal.have_common-requires
-have_common-requires c =
+pub of_set-requires : goal.of_set-requires
+of_set-requires c =
     let d = c.args.scanned.now.dataset in
     let P : List (Quad Id) → Type 0 = λ xs. IsStrictlySortedBy (quad_order id_order) xs in
     subst P
@@ -24,5 +24,5 @@ returns-in-Some c none q e =
     let d = c.args.scanned.now.dataset in
     c.have_common.ensures none q
     (ap (λ xs. has (quad_order id_order) xs q)
-    (told_some c.args.pattern.now d c.in_ok-answer.answer c.in-Some.quads.now (c.in_ok-answer.ensures ∙ ap (λ r. says r d) c.requires.scan) (ap option_copied (sym c.in-Some.is) ∙ c.quads.ensures))
+    (c.of_set.ensures ∙ told_some c.args.pattern.now d c.in_ok-answer.answer c.in-Some.quads.now (c.in_ok-answer.ensures ∙ ap (λ r. says r d) c.requires.scan) (ap option_copied (sym c.in-Some.is) ∙ c.quads.ensures))
     ∙ e)

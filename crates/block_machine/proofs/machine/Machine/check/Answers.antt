@@ -5,8 +5,7 @@ use Rattle.block_machine.proofs.machine.Machine.check.Goals as goal
 
 pub invariant_of-self : goal.invariant_of-self
 invariant_of-self c =
-    keeps_step c.self.inside.slots c.self.inside.front c.self.inside.latest c.self.inside.standings c.self.invariant c.args.i (ap is_closed (sym c.status-status.ensures ∙ c.in_default.ensures.none)) _ c.pass_on.new.self c.pass_on.ensures _ c.standing.ensures _ c.set.ensures
+    keeps_step c.self.inside.slots c.self.inside.front c.self.inside.latest c.self.inside.standings c.self.invariant c.args.i (ap is_closed (sym c.status-status.ensures ∙ c.in_default.ensures.none)) _ c.abort.new.self c.abort.ensures _ c.standing.ensures _ c.set.ensures
 
-pub invariant_of-self-in-Changed : goal.invariant_of-self-in-Changed
-invariant_of-self-in-Changed c =
-    keeps_step c.self.inside.slots c.self.inside.front c.self.inside.latest c.self.inside.standings c.self.invariant c.args.i (ap is_closed (sym c.status-status.ensures ∙ c.in_default.ensures.none)) _ c.abort.new.self c.abort.ensures _ c.standing-in-Changed.ensures _ c.set-in-Changed.ensures
+pub returns-in-Same-clause-changed : goal.returns-in-Same-clause-changed
+returns-in-Same-clause-changed c = c.pass_on.ensures c.args.worker

@@ -6,6 +6,6 @@ use Rattle.block_machine.proofs.machine.Machine.read.Goals as goal
 
 pub invariant_of-self-2 : goal.invariant_of-self-2
 invariant_of-self-2 c =
-    asked_keeps c.args.scanned.now.dataset c.settle.new.self c.read.new.self c.self.inside.front c.self.inside.latest c.self.inside.standings c.args.i c.args.scanned.now.read c.in_ok-j.field-0 c.in_ok-j.ensures.ok
-    (subst (λ s. KeepsBeside s c.self.inside.front c.self.inside.latest c.self.inside.standings) (sym c.settle.ensures) c.self.invariant)
-    (ap is_closed (ap (λ s. status_of s c.args.i) c.settle.ensures ∙ sym c.status-status.ensures ∙ c.in_default.ensures.none))
+    asked_keeps c.args.scanned.now.dataset c.put_in_order.new.self c.read.new.self c.self.inside.front c.self.inside.latest c.self.inside.standings c.args.i c.args.scanned.now.read c.in_ok-j.field-0 c.in_ok-j.ensures.ok
+    (subst (λ s. KeepsBeside s c.self.inside.front c.self.inside.latest c.self.inside.standings) (sym (c.put_in_order.ensures ∙ c.settle.ensures)) c.self.invariant)
+    (ap is_closed (ap (λ s. status_of s c.args.i) (c.put_in_order.ensures ∙ c.settle.ensures) ∙ sym c.status-status.ensures ∙ c.in_default.ensures.none))

@@ -1,4 +1,4 @@
-use Rattle.std.proofs.Common.{◌∙◌, ◌++◌, ◌∷◌, [], slice_set, refl, sym, ap, subst, arith}
+use Rattle.std.proofs.Common.{◌∙◌, ◌++◌, ◌∷◌, [], slice_set, refl, ap, subst, arith}
 use Rattle.version_overlay.specs.Spoken.{speaks}
 use Rattle.block_machine.specs.declared.state.Slot.{Slot as KeptSlot}
 use Rattle.block_machine.specs.Machine.{Noted, Slot, slot_at, with_note}
@@ -36,10 +36,10 @@ invariant_of-self-2 c =
 pub returns-clause-ok : goal.returns-clause-ok
 returns-clause-ok c =
     let found = subst (IsFound c.args.scanned.now.dataset c.self.inside.kept.slots.items c.self.inside.kept.low c.args.i c.args.scanned.now.read) c.in-Noted.is c.in_ok-j.ensures in
-    let now = found.1.1 ∙ now_is c.self.inside.kept.slots.items c.self.inside.kept.low (speaks c.self.inside.kept.spoken) c.self.inside.kept.settled c.self.invariant c.args.self.now c.self.view_is c.args.i c.requires.still c.args.scanned.now.dataset c.args.scanned.now.read in (
-      (blocker_is c.self.inside.kept.slots.items c.self.inside.kept.low (speaks c.self.inside.kept.spoken) c.self.inside.kept.settled c.self.invariant c.args.self.now c.self.view_is c.args.i c.requires.still c.args.scanned.now.read ∙ found.0, c.in_ok-answer.ensures ∙ ap (λ (n : Noted). n.answer) now),
+    let now = found.1.1.0 ∙ now_is c.self.inside.kept.slots.items c.self.inside.kept.low (speaks c.self.inside.kept.spoken) c.self.inside.kept.settled c.self.invariant c.args.self.now c.self.view_is c.args.i c.requires.still c.args.scanned.now.dataset c.args.scanned.now.read in (
+      (blocker_is c.self.inside.kept.slots.items c.self.inside.kept.low (speaks c.self.inside.kept.spoken) c.self.inside.kept.settled c.self.invariant c.args.self.now c.self.view_is c.args.i c.requires.still c.args.scanned.now.read ∙ found.0, found.1.1.1 ∙ ap (λ (n : Noted). n.answer) now),
       (
-        c.in_ok-again.ensures ∙ sym c.in_ok-answer.ensures,
+        c.in_ok-again.ensures,
         view_set c.self.inside.kept.slots.items c.self.inside.kept.low (speaks c.self.inside.kept.spoken) c.self.inside.kept.settled c.self.invariant c.args.self.now c.self.view_is c.args.i c.requires.still c.index_mut.result.now c.note.new.slot c.index_mut.ensures.value
             (λ f (z : Slot). with_note z (f c.in-Noted.noted)) (noted_by c.note.new.slot c.index_mut.result.now c.in-Noted.noted c.in_ok-note.ensures.ok)
             (low_same c.self.inside.kept.low c.note.new.slot.notes (c.index_mut.result.now.notes ++ c.in-Noted.noted ∷ []) (ap (λ (z : KeptSlot). z.notes) c.in_ok-note.ensures.ok)

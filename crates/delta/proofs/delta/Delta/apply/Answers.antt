@@ -1,5 +1,5 @@
-use Rattle.std.proofs.Common.{◌++◌, ap, ◌∙◌}
-use Rattle.sets.specs.Sets.{set_of, without}
+use Rattle.std.proofs.Common.{◌++◌}
+use Rattle.sets.specs.Sets.{without}
 use Rattle.datasets.specs.Id.{id_order}
 use Rattle.datasets.specs.Dataset.{quad_order}
 use Rattle.reads.proofs.Rising.{rises-sets}
@@ -7,5 +7,5 @@ use Rattle.delta.proofs.delta.Delta.apply.Goals as goal
 
 pub from_sets-requires : goal.from_sets-requires
 from_sets-requires c =
-    rises-sets _ _ (without (quad_order id_order) c.into_parts-quads.result.0.items c.absent.result ++ c.present.result) (without id_order c.into_parts-quads.result.1.items c.gone.result.now ++ c.there.result.now)
-    (c.in_ok-quads.ensures ∙ ap (set_of (quad_order id_order)) c.in_ok-quads_and_more.ensures) c.in_ok-names.ensures
+    rises-sets _ _ (without (quad_order id_order) c.into_list-list.result c.absent.result ++ c.present.result)
+    (without id_order c.into_parts-quads.result.1.items c.gone.result.now ++ c.there.result.now) c.in_ok-quads.ensures c.in_ok-names.ensures

@@ -7,5 +7,5 @@ use Rattle.delta.proofs.delta.Delta.apply_compact.Goals as goal
 
 pub from_sets-requires : goal.from_sets-requires
 from_sets-requires c =
-    rises-sets _ _ (without (quad_order id_order) c.as_slice.result c.absent.result ++ c.present.result)
+    rises-sets _ _ (without (quad_order id_order) c.into_list-list.result c.absent.result ++ c.present.result)
     (without id_order c.into_parts-quads.result.1.items c.gone.result.now ++ c.there.result.now) c.in_ok-quads.ensures c.in_ok-names.ensures

@@ -20,7 +20,7 @@ returns-in-Some-clause-looks c =
     let others = c.in-Some.order.now.quads in
     let alike = c.in-Some.ensures.alike in
     IfOk-weaker c.matching_set.result _ _
-    (λ found e kept. scan_of c.args.looks.now c.matching_set.new.looks quads others found.items (filter fits others) (length_permutation quads others alike)
+    (λ found e kept. scan_of c.args.looks.now c.matching_set.new.looks quads others found (filter fits others) (length_permutation quads others alike)
     (same_count fits quads others alike ∙ sym (ap length e))
     (c.matching_set.ensures.looks (c.in-Some.ensures.arrangement ∙ c.order_for.ensures)))
     (returns-in-Some-clause-found c)

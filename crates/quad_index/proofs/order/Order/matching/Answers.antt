@@ -16,7 +16,7 @@ pub returns-then-eq-clause-found : goal.returns-then-eq-clause-found
 returns-then-eq-clause-found c =
     let its : c.args.self.now.arrangement ≡ arrangement_for c.args.pattern.now =
     sym (ap (λ (o : Sorted). o.arrangement) c.self.view_is) ∙ same_true the_type tt _ _ (sym c.eq.ensures ∙ c.if-eq.true) ∙ c.order_for.ensures in
-    IfOk-weaker c.quads.result _ _ (λ found e. e ∙ c.part_for-part.ensures.entries ∙ sym (exact_part _ c.args.pattern.now c.args.self.now.quads its)) c.quads.ensures
+    IfOk-weaker c.copied.result _ _ (λ found e. e ∙ c.part_for-part.ensures.entries ∙ sym (exact_part _ c.args.pattern.now c.args.self.now.quads its)) c.copied.ensures
 
 pub returns-else-eq-clause-found : goal.returns-else-eq-clause-found
 returns-else-eq-clause-found c =

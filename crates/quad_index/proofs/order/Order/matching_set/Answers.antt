@@ -28,5 +28,5 @@ returns-then-eq-clause-looks c its digits n =
 pub returns-in_ok-matching-clause-found : goal.returns-in_ok-matching-clause-found
 returns-in_ok-matching-clause-found c =
     let fits = matches id_order c.args.pattern.now in
-    c.set_of.ensures
+    c.into_set.ensures
     ∙ ap (set_of (quad_order id_order)) (c.in_ok-matching.ensures ∙ ap (filter fits) c.part_for-part.ensures.entries ∙ part_has_all (λ (q : Quad Id). q) c.args.self.now.arrangement c.args.pattern.now fits (λ q h. h) c.args.self.now.quads)

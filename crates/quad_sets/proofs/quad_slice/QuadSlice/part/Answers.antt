@@ -3,7 +3,7 @@ use Rattle.std.proofs.Common.{◌-◌, map, take, drop, ap, sym, ◌∙◌}
 use Rattle.std.proofs.lemmas.List.{drop-map, take-map}
 use Rattle.std.proofs.lemmas.Result.{IfOk-weaker}
 use Rattle.quad_index.specs.Known.{quad_of}
-use Rattle.quad_sets.specs.QuadSlice.{quads_of}
+use Rattle.quad_index.specs.Part.{quads_of_part}
 use Rattle.quad_sets.proofs.quad_slice.QuadSlice.part.Goals as goal
 
 pub returns-in-Narrow : goal.returns-in-Narrow
@@ -15,5 +15,5 @@ returns-in-Narrow c =
     ∙ ap (map quad_of) c.between.ensures
     ∙ sym (take-map quad_of count (drop from c.in-Narrow.known.now))
     ∙ ap (take count) (sym (drop-map quad_of from c.in-Narrow.known.now))
-    ∙ ap (λ xs. slice_range xs from c.args.past) (ap quads_of (sym c.in-Narrow.is) ∙ c.self.view_is))
+    ∙ ap (λ xs. slice_range xs from c.args.past) (ap quads_of_part (sym c.in-Narrow.is) ∙ c.self.view_is))
     c.widened_quads.ensures

@@ -11,7 +11,7 @@ pub returns-in_ok-quads-in-Scan : goal.returns-in_ok-quads-in-Scan
 returns-in_ok-quads-in-Scan c =
     IfOk-weaker c.new.result _ _
     (λ a f. f
-    ∙ says-quads c.args.read.now c.in-Scan.pattern c.in_ok-quads-in-Scan.quads.items c.args.self.now (c.in_ok-quads-in-Scan.ensures ∙ ap (λ (v : View). filter (matches id_order c.in-Scan.pattern) v.quads) c.self.view_is) c.in-Scan.is)
+    ∙ says-quads c.args.read.now c.in-Scan.pattern c.in_ok-quads-in-Scan.quads c.args.self.now (c.in_ok-quads-in-Scan.ensures ∙ ap (λ (v : View). filter (matches id_order c.in-Scan.pattern) v.quads) c.self.view_is) c.in-Scan.is)
     c.new.ensures
 
 pub returns-in-GraphIs : goal.returns-in-GraphIs

@@ -7,4 +7,4 @@ use Rattle.reads.proofs.view.View.matching_part.Goals as goal
 
 pub invariant_of-result : goal.invariant_of-result
 invariant_of-result c =
-    rises-scan _ _ c.args.pattern.now _ c.self.invariant (c.in_ok-quads.ensures ∙ c.part_of_set-part.ensures ∙ ap (λ quads. filter (matches id_order c.args.pattern.now) quads) c.deref.ensures.value) c.new.ensures.items
+    rises-scan _ _ c.args.pattern.now c.args.self.now c.rises.ensures (c.in_ok-quads.ensures ∙ ap (filter (matches id_order c.args.pattern.now)) c.quads.ensures) c.new.ensures.items

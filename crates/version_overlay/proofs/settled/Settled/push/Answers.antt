@@ -26,7 +26,7 @@ module _ (c : goal.After-join_alike) where
   one_more : (d : View) → changed_by c.join_alike.new.levels.items d ≡ applied c.args.delta.now (changed_by c.self.inside.levels.items d)
   one_more d =
       c.join_alike.ensures d
-      ∙ pushed_is c.self.inside.levels.items c.push.new.self.items c.in_ok-level.level c.args.delta.now c.in_ok-push.ensures.items (c.in_ok-level.ensures ∙ c.in_ok-copied.ensures) d
+      ∙ pushed_is c.self.inside.levels.items c.push.new.self.items c.new-level.result c.args.delta.now c.in_ok-push.ensures.items (c.new-level.ensures ∙ c.in_ok-copied.ensures) d
 
 pub invariant_of-self-2 : goal.invariant_of-self-2
 invariant_of-self-2 c p stops d rising =
