@@ -1,14 +1,13 @@
 -- Places of numbers.
 use Rattle.std.specs.Prelude.{map, slice_index_or}
-use Rattle.std.proofs.Common.{◌≡◌, ℕ, ◌<◌, true, List, [], ◌∷◌, ◌++◌, length, Option, Some, None, refl, sym, ap, ◌∙◌, subst, ◌+◌, take, arith, add-one, append_assoc}
+use Rattle.std.proofs.Common.{◌≡◌, ℕ, ◌<◌, true, List, [], ◌∷◌, ◌++◌, length, Option, Some, None, refl, sym, ap, ◌∙◌, subst, ◌+◌, take, add-one, append_assoc}
 use Rattle.std.specs.List.{list_all}
 use Rattle.std.specs.Option.{option_map}
-use Rattle.std.proofs.lemmas.Bool.{and_parts, and_from, lt-ltb}
-use Rattle.std.proofs.lemmas.List.{map-append, length-append}
-use Rattle.std.proofs.Math.Seq.{take-suc, get_or-append_seam}
+use Rattle.std.proofs.lemmas.Bool.{and_parts, and_from}
+use Rattle.std.proofs.lemmas.List.{map-append}
+use Rattle.std.proofs.Math.Seq.{take-suc}
 use Rattle.sets.proofs.Filters.{each_joined}
 use Rattle.terms.specs.declared.term.Term.{Term}
-use Rattle.terms.specs.declared.term.Term.TheVariants as term
 use Rattle.terms.specs.Placed.{term_at, quad_at, is_within, is_name_within, is_quad_within, GoesOn, TermsKeepPlaces}
 use Rattle.datasets.specs.declared.id.Id.{Id}
 use Rattle.datasets.specs.declared.id.Id.TheVariants.{Known, Made}
@@ -28,7 +27,7 @@ known_parts terms q h =
     let s = and_parts (is_known terms q.subject) _ h in
     let p = and_parts (is_known terms q.predicate) _ s.1 in
     let o = and_parts (is_known terms q.object) _ p.1 in
-    (s.0, (p.0, (o.0, o.1)))
+    (s.0, p.0, o.0, o.1)
 
 module _ (keep : TermsKeepPlaces) (old new : List Term) (on : GoesOn old new) where
   kept_names : (names : List ℕ) → list_all (is_within old) names ≡ true → (map (term_at new) names ≡ map (term_at old) names) × (list_all (is_within new) names ≡ true)

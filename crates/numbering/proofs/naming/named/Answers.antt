@@ -11,8 +11,8 @@ use Rattle.numbering.proofs.Numbers.{of_parts, parts_dataset}
 use Rattle.numbering.proofs.Places.{stand_kept, known_names_kept}
 use Rattle.numbering.proofs.naming.named.Goals as goal
 
-pub from_list-requires : goal.from_list-requires
-from_list-requires c = subst (λ (ts : List Term). AreApart ts) (sym c.into_terms.ensures.terms) c.into_terms.ensures.apart
+pub from_list-table-requires : goal.from_list-table-requires
+from_list-table-requires c = subst (λ (ts : List Term). AreApart ts) (sym c.into_terms.ensures.terms) c.into_terms.ensures.apart
 
 pub place_quads-requires : goal.place_quads-requires
 place_quads-requires c =

@@ -1,4 +1,3 @@
-use Rattle.std.proofs.Common.{◌≡◌, true}
 use Rattle.std.proofs.lemmas.List.Sums.{AllPass-from_list_all}
 use Rattle.dict.specs.Dictionary.{is_known}
 use Rattle.numbering.specs.Tables.{NamesStandFor}
