@@ -4,7 +4,7 @@ ghost use Rattle.datasets.specs.Dataset.{IsDataset};
 ghost use Rattle.terms.specs.Term.{term_order};
 ghost use Rattle.dict.specs.Dictionary.{term_of, is_known};
 ghost use Rattle.meaning_laws.specs.Renaming.{renamed, dataset_known};
-ghost use Rattle.nquads.specs.Canonical.{canonical};
+ghost use Rattle.nquads.specs.Canonical.{canonical, text_of_pieces};
 ghost use Rattle.command_line.specs.Replies.{reply_lines};
 ghost use Rattle.cli.specs.Failures.{is_unread, is_unwritten, FailedIf, OneFailedIf};
 ghost use Rattle.cli.specs.Inputs.{IsFaultOf};
@@ -16,7 +16,7 @@ use crate::outputs::{Texts, write_texts};
 use command_line::{Fault, File, replies_text};
 use delta::Outcome;
 use devices::Watched;
-use nquads::canonical_text_by;
+use nquads::canonical_pieces_by;
 use numbering::laws::carries_block;
 use numbering::{Numbered, named, number};
 use pool::{Open, run_block};
@@ -36,7 +36,7 @@ pub(crate) trait Runs {
     ghost use Rattle.cli.specs.Failures.{is_unread, FailedIf, TellsNoOther};
     ghost use Rattle.cli.specs.Inputs.{IsBaseAnswer};
     ghost use Rattle.cli.specs.Outputs.{IsWhole};
-    ghost use Rattle.nquads.specs.Canonical.{canonical};
+    ghost use Rattle.nquads.specs.Canonical.{canonical, text_of_pieces};
     ghost use Rattle.numbering.specs.Numbered.{IsNumbered};
 
     // What it takes of its types.
@@ -52,9 +52,9 @@ pub(crate) trait Runs {
         ensures others { TellsNoOther File.Base result };
 
     /// The base and the block at numbers of terms.
-    fn number(&self, alloc: Global, dataset: &DataSet, block: Block) -> Result<Numbered, AllocError>
+    fn number(&self, alloc: Global, dataset: DataSet, block: Block) -> Result<Numbered, AllocError>
         requires ready { Ready }
-        ensures { IfOk result (λ n. IsNumbered dataset.now block n.base n.block.items) };
+        ensures { IfOk result (λ n. IsNumbered dataset block n.base n.block.items) };
 
     /// The outcome of the whole block.
     fn outcome(&self, alloc: Global, numbered: &Numbered) -> Result<Outcome, AllocError>
@@ -63,10 +63,10 @@ pub(crate) trait Runs {
         requires short { AreShort numbered.now.block.items }
         ensures { IfOk result (λ outcome. IsWhole numbered.now.base.terms numbered.now.base.dataset numbered.now.block.items outcome.dataset outcome.replies) };
 
-    /// The canonical text of a dataset.
-    fn text(&self, alloc: Global, dataset: &DataSet, tag: u32) -> Result<Vec<u8>, AllocError>
+    /// The canonical text of a dataset, in pieces.
+    fn text(&self, alloc: Global, dataset: &DataSet, tag: u32) -> Result<Vec<Vec<u8>>, AllocError>
         requires ready { Ready }
-        ensures { IfOk result (λ text. text.items ≡ canonical dataset.now tag) };
+        ensures { IfOk result (λ pieces. text_of_pieces pieces.items ≡ canonical dataset.now tag) };
 }
 
 /// The texts of an outcome at numbers of terms. What is not needed any more is let go before the texts are made.
@@ -80,15 +80,16 @@ pub(crate) fn texts_of_outcome<W: Runs>(
     requires known { dataset_known (is_known numbered.base.terms) outcome.dataset ≡ true }
     requires dataset { IsDataset term_order (renamed (term_of numbered.base.terms)
         outcome.dataset) }
-    ensures dataset { IfOk result (λ texts. texts.dataset.items
+    ensures dataset { IfOk result (λ texts. text_of_pieces texts.dataset.items
         ≡ canonical (renamed (term_of numbered.base.terms) outcome.dataset) numbered.base.tag) }
     ensures replies { IfOk result (λ texts. string_bytes texts.replies
         ≡ reply_lines outcome.replies) }
 {
     let Outcome { dataset, replies } = outcome;
-    let tag = numbered.base.tag();
-    let answer = named(alloc, numbered.base.terms(), &dataset)?;
-    drop(numbered);
+    let Numbered { base, block } = numbered;
+    drop(block);
+    let tag = base.tag();
+    let answer = named(alloc, base.into_terms(), &dataset)?;
     drop(dataset);
     let text = way.text(alloc, &answer, tag)?;
     // Only writing is left. To let each term go would take as long, and the process's end lets all go at once.
@@ -109,13 +110,12 @@ fn texts_of<W: Runs>(
     requires ready { W.Ready }
     requires few { length block ≤ 4096 }
     requires short { AreShort block }
-    ensures { IfOk result (λ texts. IsAnswerTo base block texts.dataset.items
+    ensures { IfOk result (λ texts. IsAnswerTo base block (text_of_pieces texts.dataset.items)
         (string_bytes texts.replies)) }
 {
     carries_block();
     let _parts = base.parts();
-    let numbered = way.number(alloc, &base, block)?;
-    drop(base);
+    let numbered = way.number(alloc, base, block)?;
     let outcome = way.outcome(alloc, &numbered)?;
     let texts = texts_of_outcome(way, alloc, numbered, outcome)?;
     Ok(texts)
@@ -192,7 +192,7 @@ impl<'r, T: Threads + Wait + Sync> Runs for Workers<'r, T> {
     fn number(
         &self,
         alloc: Global,
-        dataset: &DataSet,
+        dataset: DataSet,
         block: Block,
     ) -> Result<Numbered, AllocError> {
         if self.count == 1 {
@@ -209,8 +209,8 @@ impl<'r, T: Threads + Wait + Sync> Runs for Workers<'r, T> {
         Ok(outcome)
     }
 
-    fn text(&self, alloc: Global, dataset: &DataSet, tag: u32) -> Result<Vec<u8>, AllocError> {
-        canonical_text_by(self.rt, alloc, dataset, tag, self.count as usize)
+    fn text(&self, alloc: Global, dataset: &DataSet, tag: u32) -> Result<Vec<Vec<u8>>, AllocError> {
+        canonical_pieces_by(self.rt, alloc, dataset, tag, self.count as usize)
     }
 }
 

@@ -9,7 +9,7 @@ use crate::inputs::read_base;
 use command_line::{Fault, File};
 use delta::Outcome;
 use devices::Watched;
-use nquads::canonical_text;
+use nquads::canonical_pieces;
 use numbering::{Numbered, number};
 use rules::Block;
 use serial::run;
@@ -32,7 +32,7 @@ impl Runs for OneByOne {
     fn number(
         &self,
         alloc: Global,
-        dataset: &DataSet,
+        dataset: DataSet,
         block: Block,
     ) -> Result<Numbered, AllocError> {
         number(&Alone, alloc, dataset, block)
@@ -42,8 +42,8 @@ impl Runs for OneByOne {
         run(alloc, &numbered.base, numbered.block.as_slice())
     }
 
-    fn text(&self, alloc: Global, dataset: &DataSet, tag: u32) -> Result<Vec<u8>, AllocError> {
-        canonical_text(alloc, dataset, tag)
+    fn text(&self, alloc: Global, dataset: &DataSet, tag: u32) -> Result<Vec<Vec<u8>>, AllocError> {
+        canonical_pieces(alloc, dataset, tag)
     }
 }
 

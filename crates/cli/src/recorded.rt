@@ -1,5 +1,6 @@
 //! The engine of the command `run` with a journal.
 ghost use Rattle.std.specs.Prelude.{◌≡◌, ◌≢◌, ◌<◌, ◌≤◌, ◌-◌, ◌^◌, ℕ, true, length, IfOk, IfErr, IfSome, OnOk, IsErrOf, string_bytes};
+ghost use Rattle.nquads.specs.Canonical.{text_of_pieces};
 ghost use Rattle.cli.specs.Failures.{is_unread, is_unwritten, is_journal_unwritten, FailedIf, OneFailedIf};
 ghost use Rattle.update.specs.Asked.{AreShort};
 ghost use Rattle.cli.specs.Journals.{IsFaultWithJournal, IsJournalAt, IsJournalOf, WroteJournal, WroteJournalInPart};
@@ -78,16 +79,15 @@ fn texts_with_journal<T: Threads + Wait + Sync>(
     requires most { workers ≤ 64 }
     requires few { length block ≤ 4096 }
     requires short { AreShort block }
-    ensures answer { IfOk result (λ texts. IsAnswerTo base block texts.answer.dataset.items
-        (string_bytes texts.answer.replies)) }
+    ensures answer { IfOk result (λ texts. IsAnswerTo base block
+        (text_of_pieces texts.answer.dataset.items) (string_bytes texts.answer.replies)) }
     ensures journal { IfOk result (λ texts. (front : ℕ) × (length block ≤ front)
         × IsJournalOf base block texts.journal.items front) }
 {
     carries_block();
     let _parts = base.parts();
     let way = Workers { rt, count: workers };
-    let numbered = way.number(alloc, &base, block)?;
-    drop(base);
+    let numbered = way.number(alloc, base, block)?;
     let Record { outcome, journal } = recorded(rt, alloc, &numbered, workers)?;
     let answer = texts_of_outcome(&way, alloc, numbered, outcome)?;
     Ok(RecordTexts { answer, journal })

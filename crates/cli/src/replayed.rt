@@ -2,6 +2,7 @@
 ghost use Rattle.std.specs.Prelude.{◌≡◌, ◌≢◌, ◌<◌, ◌≤◌, ◌-◌, ◌^◌, true, length, IfOk, IfErr, IfSome, OnOk, IsErrOf, string_bytes};
 ghost use Rattle.reads.specs.Reads.{IsDataset};
 ghost use Rattle.update.specs.Asked.{AreShort};
+ghost use Rattle.nquads.specs.Canonical.{text_of_pieces};
 ghost use Rattle.cli.specs.Failures.{is_unread, is_unwritten, FailedIf, OneFailedIf};
 ghost use Rattle.cli.specs.Journals.{IsFaultOfLines, IsFaultOfReplay, IsFrontOf, IsReplay, IsReplayFault, WroteReplay, WroteReplayInPart, journal_fault as the_journal_fault};
 ghost use Rattle.cli.specs.Outputs.{IfBoth, taken};
@@ -64,16 +65,15 @@ fn texts_of_journal(
 ) -> Result<Texts, Fault>
     requires few { length block ≤ 4096 }
     requires short { AreShort block }
-    ensures answer { IfOk result (λ texts. IsReplay base block journal.items texts.dataset.items
-        (string_bytes texts.replies)) }
+    ensures answer { IfOk result (λ texts. IsReplay base block journal.items
+        (text_of_pieces texts.dataset.items) (string_bytes texts.replies)) }
     ensures fault { IfErr result (IsReplayFault base block journal.items) }
 {
     carries_block();
     let _parts = base.parts();
-    let Ok(numbered) = OneByOne.number(alloc, &base, block) else {
+    let Ok(numbered) = OneByOne.number(alloc, base, block) else {
         return Err(Fault::Memory);
     };
-    drop(base);
     let lines = match read_journal(alloc, journal.as_slice(), numbered.base.tag()) {
         Ok(lines) => lines,
         Err(fault) => return Err(journal_fault(fault)),

@@ -1,12 +1,12 @@
 -- Terms gathered with their places, one after another, and put in another order.
 use Rattle.std.specs.Prelude.{◌⊎◌, ◌||◌}
-use Rattle.std.proofs.Common.{◌≡◌, ℕ, ◌+◌, ◌<◌, ◌≤◌, true, false, List, [], ◌∷◌, ◌++◌, length, map, take, inl, inr, refl, sym, ap, subst, ◌∙◌, arith, get_or}
+use Rattle.std.proofs.Common.{◌≡◌, ℕ, ◌+◌, ◌<◌, ◌≤◌, true, false, List, [], ◌∷◌, ◌++◌, length, map, inl, inr, refl, sym, ap, subst, ◌∙◌, arith, get_or}
 use Rattle.std.specs.List.{list_any}
 use Rattle.std.specs.List.Sorted.{IsPermutation, IsSorted, IsSortedByKey}
 use Rattle.std.specs.Ordering.{is_lt}
 use Rattle.std.proofs.lemmas.Bool.{ltb-true, lt-ltb, eq-eqb, cases_lt, or_right}
-use Rattle.std.proofs.lemmas.List.{map-append, append_assoc, take_more, length-map, length-append, get_or_append_left, get_or-map}
-use Rattle.std.proofs.Math.Seq.{get_or-append_seam, take-length}
+use Rattle.std.proofs.lemmas.List.{map-append, append_assoc, length-map, length-append, get_or_append_left, get_or-map}
+use Rattle.std.proofs.Math.Seq.{get_or-append_seam}
 use Rattle.std.proofs.lemmas.List.Elements.{All-append, All-nil, All-cons}
 use Rattle.std.proofs.lemmas.List.Folds.{list_any-append}
 use Rattle.std.proofs.lemmas.List.Sorted.{All-permutation, list_any-IsPermutation}
@@ -64,18 +64,11 @@ module _ (terms : List Term) (list : List Placed) (p : Placed) (h : IsGathered t
   }
 
 -- one more of a list that goes on where all of the terms before ended
-pub gathered_at : (all terms : List Term) (i : ℕ) (list new : List Placed) (p : Placed) → i < length terms → term_in p ≡ get_or terms i (term_in p)
-    → p.place ≡ length list → new ≡ list ++ p ∷ [] → IsGathered (all ++ take i terms) list → IsGathered (all ++ take (i + 1) terms) new
-gathered_at all terms i list new p lt is place e h =
-    let ends : take (i + 1) terms ≡ take i terms ++ term_in p ∷ [] = take_more terms i (term_in p) lt ∙ ap (λ t. take i terms ++ t ∷ []) (sym is) in
-    let made : (all ++ take i terms) ++ term_in p ∷ [] ≡ all ++ take (i + 1) terms = append_assoc all (take i terms) (term_in p ∷ []) ∙ ap (λ ts. all ++ ts) (sym ends) in
-    subst (λ (xs : List Placed). IsGathered (all ++ take (i + 1) terms) xs) (sym e)
-    (subst (λ (ts : List Term). IsGathered ts (list ++ p ∷ [])) made (gathered_more (all ++ take i terms) list p h place))
-
-pub gathered_whole : (all terms : List Term) (i : ℕ) (list : List Placed) → length terms ≤ i → i ≤ length terms → IsGathered (all ++ take i terms) list → IsGathered (all ++ terms) list
-gathered_whole all terms i list ge le h =
-    let e : i ≡ length terms = omega (arith, ge, le) in
-    subst (λ (ts : List Term). IsGathered (all ++ ts) list) (ap (λ n. take n terms) e ∙ take-length terms) h
+pub gathered_next : (all done : List Term) (list new : List Placed) (p : Placed) → p.place ≡ length list → new ≡ list ++ p ∷ []
+    → IsGathered (all ++ done) list → IsGathered (all ++ (done ++ term_in p ∷ [])) new
+gathered_next all done list new p place e h =
+    subst (λ (xs : List Placed). IsGathered (all ++ (done ++ term_in p ∷ [])) xs) (sym e)
+    (subst (λ (ts : List Term). IsGathered ts (list ++ p ∷ [])) (append_assoc all done (term_in p ∷ [])) (gathered_more (all ++ done) list p h place))
 
 -- in another order they are at the same places
 pub still_placed : (terms : List Term) (list sorted : List Placed) → IsPermutation list sorted → ArePlaced terms list → ArePlaced terms sorted

@@ -4,5 +4,5 @@ pub mod Gathering
 pub mod Taking
 pub mod Numbering
 pub mod Whole
-pub mod RisingLaws
+pub mod StepLaws
 pub mod Apart

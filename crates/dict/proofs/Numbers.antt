@@ -26,7 +26,7 @@ written_at (t ∷ ts) zero d h lt = (and_parts (is_written t) (list_all is_writt
 written_at (t ∷ ts) (suc n) d h lt = written_at ts n d (and_parts (is_written t) (list_all is_written ts) h).1 (omega (arith, lt))
 
 -- what is written comes before what is made
-before_made : (t : Term) (r o l s : ℕ) → is_written t ≡ true → term_order t (term.Made r o l s) ≡ Less
+pub before_made : (t : Term) (r o l s : ℕ) → is_written t ≡ true → term_order t (term.Made r o l s) ≡ Less
 before_made (term.Iri i) r o l s h = refl
 before_made (term.Literal x) r o l s h = refl
 before_made (term.Blank b) r o l s h = refl

@@ -1,7 +1,8 @@
 -- Terms by their places in a list, and the list that comes of taking them in their order.
 use Rattle.std.specs.Prelude.{◌≡◌, ℕ, ◌-◌, ◌<◌, ◌==◌, length, Bool, true, false, List, [], ◌∷◌, ◌++◌, All, map, slice_index_or, if◌then◌else◌}
 use Rattle.std.specs.List.{list_any, fold}
-use Rattle.std.specs.Ordering.{eq_by_cmp, is_lt}
+use Rattle.std.specs.Ordering.{eq_by_cmp, is_eq}
+use Rattle.std.specs.declared.cmp.Ordering.{Ordering}
 use Rattle.terms.specs.Term.{term_order}
 use Rattle.terms.specs.Placed.{term_at, is_within}
 use Rattle.terms.specs.declared.term.Term.{Term}
@@ -11,15 +12,17 @@ use Rattle.dict.specs.Dictionary.{is_written, term_of, is_known}
 use Rattle.dict.specs.declared.ranks.Placed.{Placed}
 
 abbrev pub term_in : Placed → Term
-term_in p = p.term.now
+term_in p = p.term
 
--- its term is before another's
-abbrev pub is_before : Placed → Placed → Bool
-is_before x y = is_lt (term_order (term_in x) (term_in y))
+-- how the term at a place stands to the one in front of it; the first is not the same as what is not there
+pub record IsStep (list : List Placed) (place : ℕ) (step : Ordering) : Type 0 where
+  pub first : place ≡ 0 → is_eq step ≡ false
+  pub later : (d : Placed) → 0 < place → place < length list → step ≡ term_order (term_in (slice_index_or list place d)) (term_in (slice_index_or list (place - 1) d))
 
--- the term at a place is not before the one in front of it
-pub record RisesAt (list : List Placed) (place : ℕ) : Type 0 where
-  pub rises : (d : Placed) → 0 < place → place < length list → is_before (slice_index_or list place d) (slice_index_or list (place - 1) d) ≡ false
+-- so it is told of each of them
+pub record AreSteps (list : List Placed) (steps : List Ordering) : Type 0 where
+  pub as_many : length steps ≡ length list
+  pub each : (place : ℕ) (d : Ordering) → place < length list → IsStep list place (slice_index_or steps place d)
 
 abbrev pub is_at : ℕ → Placed → Bool
 is_at place p = place == p.place

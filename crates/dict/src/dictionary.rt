@@ -60,23 +60,25 @@ impl Dict {
     }
 
     /// The dictionary of these terms and of more, in any order and with doubles, and the numbers of the first list's terms, each at its term's
-    /// place. Made nodes are left out of the dictionary. Terms are compared only to put them in order. An error comes only where memory runs
-    /// out.
+    /// place. Made nodes are left out of the dictionary. Terms are compared only to put them in order, and none is copied. An error comes only
+    /// where memory runs out.
     pub fn numbered(
         alloc: Global,
-        terms: &[Term],
-        more: &[Term],
+        terms: Vec<Term>,
+        more: Vec<Term>,
     ) -> Result<(Dict, Vec<Id>), AllocError>
         ensures terms { IfOk result (λ r. r.0 ≡ the_set_of term_order
-            (filter is_written (terms.now ++ more.now))) }
+            (filter is_written (terms.items ++ more.items))) }
         ensures form { IfOk result (λ r. IsDictionary r.0) }
-        ensures renamed { IfOk result (λ r. map (the_term_of r.0) r.1.items ≡ terms.now) }
+        ensures renamed { IfOk result (λ r. map (the_term_of r.0) r.1.items ≡ terms.items) }
         ensures known { IfOk result (λ r. list_all (is_known r.0) r.1.items ≡ true) }
     {
-        let placed = in_order(alloc, terms, more)?;
-        let (found, mut ids) = numbered(alloc, placed.as_slice(), placed.len())?;
+        let count = terms.len();
+        let ordered = in_order(alloc, terms, more)?;
+        let length = ordered.placed.len();
+        let (found, mut ids) = numbered(alloc, ordered, length)?;
         let dict = Dict::of(found)?;
-        ids.truncate(terms.len());
+        ids.truncate(count);
         Ok((dict, ids))
     }
 
@@ -84,19 +86,21 @@ impl Dict {
     pub fn numbered_by<T: Threads + Sync>(
         rt: &T,
         alloc: Global,
-        terms: &[Term],
-        more: &[Term],
+        terms: Vec<Term>,
+        more: Vec<Term>,
     ) -> Result<(Dict, Vec<Id>), AllocError>
         ensures terms { IfOk result (λ r. r.0 ≡ the_set_of term_order
-            (filter is_written (terms.now ++ more.now))) }
+            (filter is_written (terms.items ++ more.items))) }
         ensures form { IfOk result (λ r. IsDictionary r.0) }
-        ensures renamed { IfOk result (λ r. map (the_term_of r.0) r.1.items ≡ terms.now) }
+        ensures renamed { IfOk result (λ r. map (the_term_of r.0) r.1.items ≡ terms.items) }
         ensures known { IfOk result (λ r. list_all (is_known r.0) r.1.items ≡ true) }
     {
-        let placed = in_order_by(rt, alloc, terms, more)?;
-        let (found, mut ids) = numbered(alloc, placed.as_slice(), placed.len())?;
+        let count = terms.len();
+        let ordered = in_order_by(rt, alloc, terms, more)?;
+        let length = ordered.placed.len();
+        let (found, mut ids) = numbered(alloc, ordered, length)?;
         let dict = Dict::of(found)?;
-        ids.truncate(terms.len());
+        ids.truncate(count);
         Ok((dict, ids))
     }
 
@@ -116,6 +120,17 @@ impl Dict {
         ensures apart { AreApart self.now }
     {
         self.terms.as_slice()
+    }
+
+    /// Its terms, each once and in their order, taken out of it.
+    #[tactic(auto, using(crate::proofs::Apart::dictionary_apart))]
+    pub fn into_terms(self) -> Vec<Term>
+        ensures terms { result.items ≡ self }
+        ensures form { IsDictionary self }
+        ensures apart { AreApart self }
+    {
+        let Dict { terms } = self;
+        terms
     }
 
     /// The number of a term, or nothing where the dictionary lacks it. It takes no memory.

@@ -8,7 +8,7 @@ mod dictionary;
 pub mod laws;
 mod parts;
 mod ranks;
-mod rising;
+mod steps;
 
 pub use datasets::Id;
 pub use dictionary::Dict;

@@ -5,10 +5,10 @@ ghost use Rattle.terms.specs.declared.term.Term.{Term as OneTerm};
 ghost use Rattle.terms.specs.Term.{term_order};
 ghost use Rattle.terms.specs.Placed.{term_at, is_within};
 ghost use Rattle.dict.specs.Dictionary.{is_written};
-ghost use Rattle.dict.specs.Ranks.{IsGathered, ArePlaced, IsNumberOf, term_in, ends_with as ends_with_term, with_next, taken, number_in};
+ghost use Rattle.dict.specs.Ranks.{IsGathered, ArePlaced, AreSteps, IsNumberOf, term_in, ends_with, with_next, taken, number_in};
 
 use crate::parts::{FIRST, Stand, stands, stands_by};
-use crate::rising::rises_by;
+use crate::steps::{falls, steps, steps_by};
 use datasets::Id;
 use sorting::sorted_by;
 use std::alloc::{AllocError, Global};
@@ -16,12 +16,19 @@ use std::cmp::Ordering;
 use std::thread::Threads;
 use terms::Term;
 
-/// A term that lies in a list, its place there, and where it stands in its order.
-#[derive(Clone, Copy, Drop)]
-pub(crate) struct Placed<'a> {
-    pub(crate) term: &'a Term,
+/// A term that was taken out of a list, its place there, and where it stands in its order.
+#[derive(Drop)]
+pub(crate) struct Placed {
+    pub(crate) term: Term,
     place: u32,
     stand: Stand,
+}
+
+/// Terms in their order, each with its place, and how each stands to the one in front of it.
+#[derive(Drop)]
+pub(crate) struct Ordered {
+    pub(crate) placed: Vec<Placed>,
+    pub(crate) steps: Vec<Ordering>,
 }
 
 /// A place as 32 bits. More terms than that do not fit into memory.
@@ -35,13 +42,13 @@ fn narrowed(place: usize) -> Result<u32, AllocError>
 }
 
 /// Adds the terms of a list that goes on where the others ended, each with where it stands by its place.
-fn push_placed<'a>(
-    placed: &mut Vec<Placed<'a>>,
+fn push_placed(
+    placed: &mut Vec<Placed>,
     stands: &[Stand],
-    terms: &'a [Term],
+    terms: Vec<Term>,
 ) -> Result<(), AllocError>
     ensures { OnOk result ((all : List OneTerm) → IsGathered all placed.old.items
-        → IsGathered (all ++ terms.now) placed.new.items) }
+        → IsGathered (all ++ terms.items) placed.new.items) }
 {
     placed.reserve(terms.len())?;
     for term in terms {
@@ -53,124 +60,135 @@ fn push_placed<'a>(
 }
 
 /// The terms of these two lists, one after the other, with their places, each with where it stands by its place.
-fn gathered_with<'a>(
+fn gathered_with(
     alloc: Global,
-    terms: &'a [Term],
-    more: &'a [Term],
+    terms: Vec<Term>,
+    more: Vec<Term>,
     stands: &[Stand],
-) -> Result<Vec<Placed<'a>>, AllocError>
-    ensures { IfOk result (λ placed. IsGathered (terms.now ++ more.now) placed.items) }
+) -> Result<Vec<Placed>, AllocError>
+    ensures { IfOk result (λ placed. IsGathered (terms.items ++ more.items) placed.items) }
 {
     let mut placed = Vec::new(alloc);
+    placed.reserve(stands.len())?;
     push_placed(&mut placed, stands, terms)?;
     push_placed(&mut placed, stands, more)?;
     Ok(placed)
 }
 
 /// The terms of these two lists, one after the other, with their places.
-fn gathered<'a>(
-    alloc: Global,
-    terms: &'a [Term],
-    more: &'a [Term],
-) -> Result<Vec<Placed<'a>>, AllocError>
-    ensures { IfOk result (λ placed. IsGathered (terms.now ++ more.now) placed.items) }
+fn gathered(alloc: Global, terms: Vec<Term>, more: Vec<Term>) -> Result<Vec<Placed>, AllocError>
+    ensures { IfOk result (λ placed. IsGathered (terms.items ++ more.items) placed.items) }
 {
-    let stands = stands(alloc, terms, more)?;
+    let stands = stands(alloc, terms.as_slice(), more.as_slice())?;
     gathered_with(alloc, terms, more, stands.as_slice())
 }
 
 /// The same, where several threads look for where the terms stand.
-fn gathered_by<'a, T: Threads + Sync>(
+fn gathered_by<T: Threads + Sync>(
     rt: &T,
     alloc: Global,
-    terms: &'a [Term],
-    more: &'a [Term],
-) -> Result<Vec<Placed<'a>>, AllocError>
-    ensures { IfOk result (λ placed. IsGathered (terms.now ++ more.now) placed.items) }
+    terms: Vec<Term>,
+    more: Vec<Term>,
+) -> Result<Vec<Placed>, AllocError>
+    ensures { IfOk result (λ placed. IsGathered (terms.items ++ more.items) placed.items) }
 {
-    let stands = stands_by(rt, alloc, terms, more)?;
+    let stands = stands_by(rt, alloc, terms.as_slice(), more.as_slice())?;
     gathered_with(alloc, terms, more, stands.as_slice())
 }
 
 /// The order of two terms, from where they stand where that differs.
-fn by_stands(left: &Placed<'_>, right: &Placed<'_>) -> Ordering {
+fn by_stands(left: &Placed, right: &Placed) -> Ordering {
     match left.stand.cmp(&right.stand) {
-        Ordering::Equal => left.term.cmp(right.term),
+        Ordering::Equal => left.term.cmp(&right.term),
         stands => stands,
     }
 }
 
+/// These terms put in order, and how each stands to the one in front of it.
+fn sorted_with_steps(alloc: Global, mut moved: Vec<Placed>) -> Result<Ordered, AllocError>
+    ensures same { IfOk result (λ r. IsPermutation moved.items r.placed.items) }
+    ensures sorted { IfOk result (λ r. IsSortedByKey term_in term_order r.placed.items) }
+    ensures steps { IfOk result (λ r. AreSteps r.placed.items r.steps.items) }
+{
+    moved.sort_unstable_by(|left, right| left.term.cmp(&right.term));
+    let steps = steps(alloc, moved.as_slice())?;
+    Ok(Ordered {
+        placed: moved,
+        steps,
+    })
+}
+
+/// These terms in their order, in which they are likely to be: with these steps they are looked at first, and put in order where one falls.
+fn by_terms(alloc: Global, moved: Vec<Placed>, steps: Vec<Ordering>) -> Result<Ordered, AllocError>
+    requires { AreSteps moved.items steps.items }
+    ensures same { IfOk result (λ r. IsPermutation moved.items r.placed.items) }
+    ensures sorted { IfOk result (λ r. IsSortedByKey term_in term_order r.placed.items) }
+    ensures steps { IfOk result (λ r. AreSteps r.placed.items r.steps.items) }
+{
+    if falls(steps.as_slice()) {
+        return sorted_with_steps(alloc, moved);
+    }
+    Ok(Ordered {
+        placed: moved,
+        steps,
+    })
+}
+
 /// The terms of these two lists in their order, with their places in the one after the other.
-pub(crate) fn in_order<'a>(
+pub(crate) fn in_order(
     alloc: Global,
-    terms: &'a [Term],
-    more: &'a [Term],
-) -> Result<Vec<Placed<'a>>, AllocError>
-    ensures placed { IfOk result (λ placed. ArePlaced (terms.now ++ more.now) placed.items) }
-    ensures same { IfOk result (λ placed. IsPermutation (terms.now ++ more.now)
-        (map term_in placed.items)) }
-    ensures sorted { IfOk result (λ placed. IsSortedByKey term_in term_order placed.items) }
+    terms: Vec<Term>,
+    more: Vec<Term>,
+) -> Result<Ordered, AllocError>
+    ensures placed { IfOk result (λ r. ArePlaced (terms.items ++ more.items) r.placed.items) }
+    ensures same { IfOk result (λ r. IsPermutation (terms.items ++ more.items)
+        (map term_in r.placed.items)) }
+    ensures sorted { IfOk result (λ r. IsSortedByKey term_in term_order r.placed.items) }
+    ensures steps { IfOk result (λ r. AreSteps r.placed.items r.steps.items) }
 {
     let mut placed = gathered(alloc, terms, more)?;
-    // Where terms stand is in their order, so that the second sort finds all in order.
     placed.sort_unstable_by(|left, right| by_stands(left, right));
-    placed.sort_unstable_by(|left, right| left.term.cmp(right.term));
-    Ok(placed)
+    let steps = steps(alloc, placed.as_slice())?;
+    by_terms(alloc, placed, steps)
 }
 
-/// These terms in their order, in which they are likely to be, so that several threads look first whether they are.
-fn by_terms<'a, T: Threads + Sync>(rt: &T, mut moved: Vec<Placed<'a>>) -> Vec<Placed<'a>>
-    ensures same { IsPermutation moved.entry.items result.items }
-    ensures sorted { IsSortedByKey term_in term_order result.items }
-{
-    if !rises_by(rt, moved.as_slice()) {
-        moved.sort_unstable_by(|left, right| left.term.cmp(right.term));
-    }
-    moved
-}
-
-/// The same, put in order by several threads.
-pub(crate) fn in_order_by<'a, T: Threads + Sync>(
+/// The same, put in order and looked at by several threads.
+pub(crate) fn in_order_by<T: Threads + Sync>(
     rt: &T,
     alloc: Global,
-    terms: &'a [Term],
-    more: &'a [Term],
-) -> Result<Vec<Placed<'a>>, AllocError>
-    ensures placed { IfOk result (λ placed. ArePlaced (terms.now ++ more.now) placed.items) }
-    ensures same { IfOk result (λ placed. IsPermutation (terms.now ++ more.now)
-        (map term_in placed.items)) }
-    ensures sorted { IfOk result (λ placed. IsSortedByKey term_in term_order placed.items) }
+    terms: Vec<Term>,
+    more: Vec<Term>,
+) -> Result<Ordered, AllocError>
+    ensures placed { IfOk result (λ r. ArePlaced (terms.items ++ more.items) r.placed.items) }
+    ensures same { IfOk result (λ r. IsPermutation (terms.items ++ more.items)
+        (map term_in r.placed.items)) }
+    ensures sorted { IfOk result (λ r. IsSortedByKey term_in term_order r.placed.items) }
+    ensures steps { IfOk result (λ r. AreSteps r.placed.items r.steps.items) }
 {
     let placed = gathered_by(rt, alloc, terms, more)?;
     let moved = sorted_by(rt, placed, |left, right| by_stands(left, right));
-    Ok(by_terms(rt, moved))
+    let steps = steps_by(rt, alloc, moved.as_slice())?;
+    by_terms(alloc, moved, steps)
 }
 
-fn ends_with(found: &[Term], term: &Term) -> bool
-    ensures { result ≡ ends_with_term found.now term.now }
+/// The number of a written term that is above a rising list, where it is put in, or that is the same as its last.
+fn next_known(found: &mut Vec<Term>, term: Term, is_same: bool) -> Result<Id, AllocError>
+    requires written { is_written term ≡ true }
+    requires same { is_same ≡ ends_with found.old.items term }
+    ensures found { OnOk result (found.new.items ≡ with_next found.old.items term) }
+    ensures number { IfOk result (λ id. IsNumberOf found.new.items term id) }
 {
-    match found {
-        [.., last] => term == last,
-        [] => false,
-    }
-}
-
-/// The number of a written term that is at the end of a rising list or above it, where it is put in.
-fn next_known(alloc: Global, found: &mut Vec<Term>, term: &Term) -> Result<Id, AllocError>
-    requires { is_written term.now ≡ true }
-    ensures found { OnOk result (found.new.items ≡ with_next found.old.items term.now) }
-    ensures number { IfOk result (λ id. IsNumberOf found.new.items term.now id) }
-{
-    if !ends_with(found.as_slice(), term) {
-        found.push(term.copied(alloc)?)?;
+    if !is_same {
+        found.push(term)?;
     }
     Ok(Id::Known(narrowed(found.len() - 1)?))
 }
 
 /// The number of a term, the same where it is a made node.
-fn next_number(alloc: Global, found: &mut Vec<Term>, term: &Term) -> Result<Id, AllocError>
-    ensures found { OnOk result (found.new.items ≡ with_next found.old.items term.now) }
-    ensures number { IfOk result (λ id. IsNumberOf found.new.items term.now id) }
+fn next_number(found: &mut Vec<Term>, term: Term, is_same: bool) -> Result<Id, AllocError>
+    requires { is_written term ≡ true → is_same ≡ ends_with found.old.items term }
+    ensures found { OnOk result (found.new.items ≡ with_next found.old.items term) }
+    ensures number { IfOk result (λ id. IsNumberOf found.new.items term id) }
 {
     match term {
         Term::Made {
@@ -179,34 +197,41 @@ fn next_number(alloc: Global, found: &mut Vec<Term>, term: &Term) -> Result<Id, 
             label,
             rank,
         } => Ok(Id::Made {
-            request: *request,
-            op: *op,
-            label: *label,
-            rank: *rank,
+            request,
+            op,
+            label,
+            rank,
         }),
-        _ => next_known(alloc, found, term),
+        written => next_known(found, written, is_same),
     }
 }
 
 /// The terms of a rising list, each once and without made nodes, and the numbers at the places of the list that they came from, which is of
-/// this length.
+/// this length. No term is compared: the steps tell which is the same as the one in front of it.
 pub(crate) fn numbered(
     alloc: Global,
-    placed: &[Placed<'_>],
+    ordered: Ordered,
     length: usize,
 ) -> Result<(Vec<Term>, Vec<Id>), AllocError>
-    requires { All (λ p. p.place < length) placed.now }
+    requires places { All (λ p. p.place < length) ordered.placed.items }
+    requires sorted { IsSortedByKey term_in term_order ordered.placed.items }
+    requires steps { AreSteps ordered.placed.items ordered.steps.items }
     ensures length { IfOk result (λ r. list_length r.1.items ≡ length) }
-    ensures terms { IfOk result (λ r. r.0.items ≡ taken (map term_in placed.now)) }
-    ensures numbers { IfOk result (λ r. (all : List OneTerm) → ArePlaced all placed.now
+    ensures terms { IfOk result (λ r. r.0.items ≡ taken (map term_in ordered.placed.items)) }
+    ensures numbers { IfOk result (λ r. (all : List OneTerm) → ArePlaced all ordered.placed.items
         → (place : ℕ) → is_within all place ≡ true
         → IsNumberOf r.0.items (term_at all place) (number_in r.1.items place)) }
 {
+    let Ordered { placed, steps } = ordered;
     let mut found = Vec::new(alloc);
+    found.reserve(placed.len())?;
     let mut ids = vec![in alloc; Id::Known(0); length]?;
+    let mut index = 0;
     for entry in placed {
-        let id = next_number(alloc, &mut found, entry.term)?;
+        let is_same = steps[index].is_eq();
+        let id = next_number(&mut found, entry.term, is_same)?;
         ids[entry.place as usize] = id;
+        index += 1;
     }
     Ok((found, ids))
 }

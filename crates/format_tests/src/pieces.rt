@@ -2,7 +2,9 @@
 use crate::made::fault_of;
 use crate::texts::{BAD, TEXTS, is_bad_at};
 use devices::Watched;
-use nquads::{BaseFault, canonical_text, canonical_text_by, read_by, read_bytes};
+use nquads::{
+    BaseFault, canonical_pieces, canonical_pieces_by, canonical_text, read_by, read_bytes,
+};
 use std::alloc::{AllocError, Global};
 use std::thread::Threads;
 
@@ -45,6 +47,15 @@ const CUT: [(&str, &str); 9] = [
     ),
 ];
 
+/// The text of pieces, one behind another.
+fn text_of(alloc: Global, pieces: &[Vec<u8>]) -> Result<Vec<u8>, AllocError> {
+    let mut text = Vec::new(alloc);
+    for piece in pieces {
+        text.extend_from_slice(piece.as_slice())?;
+    }
+    Ok(text)
+}
+
 /// Whether what so many threads read of a text has that canonical text, made by one thread and by as many.
 fn is_read<T: Threads + Sync>(
     rt: &T,
@@ -55,11 +66,11 @@ fn is_read<T: Threads + Sync>(
 ) -> Result<bool, BaseFault> {
     let mut reader = Watched::new(text.as_bytes());
     let dataset = read_by(rt, alloc, &mut reader, threads)?;
-    let by_one = canonical_text(alloc, &dataset, 1)?;
-    let by_threads = canonical_text_by(rt, alloc, &dataset, 1, threads)?;
+    let by_one = canonical_pieces(alloc, &dataset, 1)?;
+    let by_threads = canonical_pieces_by(rt, alloc, &dataset, 1, threads)?;
     Ok(
-        by_one.as_slice() == canonical.as_bytes()
-            && by_threads.as_slice() == canonical.as_bytes()
+        text_of(alloc, by_one.as_slice())?.as_slice() == canonical.as_bytes()
+            && text_of(alloc, by_threads.as_slice())?.as_slice() == canonical.as_bytes()
             && reader.failures == 0,
     )
 }
@@ -124,8 +135,8 @@ fn long_texts_by_threads(rt: HostRuntime) -> Result<(), BaseFault> {
     let alloc = rt.alloc();
     let dataset = read_bytes(alloc, falling(alloc, 10_000)?.as_slice())?;
     let by_one = canonical_text(alloc, &dataset, 1)?;
-    let by_threads = canonical_text_by(&rt, alloc, &dataset, 1, 8)?;
+    let by_threads = canonical_pieces_by(&rt, alloc, &dataset, 1, 8)?;
     assert!(rt; by_one.starts_with(b"<x:100001> <x:p> \"9999\" .\n<x:100002> <x:p> \"9998\" .\n"));
-    assert!(rt; by_one.as_slice() == by_threads.as_slice());
+    assert!(rt; by_one.as_slice() == text_of(alloc, by_threads.as_slice())?.as_slice());
     Ok(())
 }

@@ -17,7 +17,7 @@ use terms::{DataSet, Term, canonical};
 // A base and a block that is read at numbers.
 fn numbered_over(alloc: Global, base: &str, block: Block) -> Result<Numbered, BaseFault> {
     let base = read_bytes(alloc, base.as_bytes())?;
-    Ok(number(&Alone, alloc, &base, block)?)
+    Ok(number(&Alone, alloc, base, block)?)
 }
 
 /// A base and a block at numbers.
@@ -127,12 +127,12 @@ fn falling(alloc: Global, quads: u32) -> Result<Vec<u8>, AllocError> {
 }
 
 // The block at numbers, over a base that one thread puts in order.
-fn by_one(alloc: Global, base: &DataSet) -> Result<Numbered, Fail> {
+fn by_one(alloc: Global, base: DataSet) -> Result<Numbered, Fail> {
     Ok(number(&Alone, alloc, base, split(alloc, MOVED)?)?)
 }
 
 // The same by threads.
-fn by_threads<T: Threads + Sync>(rt: &T, alloc: Global, base: &DataSet) -> Result<Numbered, Fail> {
+fn by_threads<T: Threads + Sync>(rt: &T, alloc: Global, base: DataSet) -> Result<Numbered, Fail> {
     Ok(number(&Together::new(rt), alloc, base, split(alloc, MOVED)?)?)
 }
 
@@ -154,16 +154,11 @@ fn are_alike(
     )
 }
 
-// Whether one thread and several give the same numbers.
-fn are_numbered_alike<T: Threads + Sync>(
-    rt: &T,
-    alloc: Global,
-    base: &DataSet,
-    quads: usize,
-) -> Result<bool, Fail> {
-    let one = by_one(alloc, base)?;
-    let other = by_threads(rt, alloc, base)?;
-    Ok(are_alike(alloc, &one, &other, quads)?)
+// Whether one thread and several give the same numbers of a base of so many quads.
+fn are_numbered_alike<T: Threads + Sync>(rt: &T, alloc: Global, quads: u32) -> Result<bool, Fail> {
+    let one = by_one(alloc, falling_base(alloc, quads)?)?;
+    let other = by_threads(rt, alloc, falling_base(alloc, quads)?)?;
+    Ok(are_alike(alloc, &one, &other, quads as usize)?)
 }
 
 // A base of so many quads.
@@ -176,8 +171,6 @@ const MOVED: &[u8] = b"INSERT { ?s <x:q> 7 } WHERE { GRAPH <x:g0> { ?s <x:p> ?o 
 
 #[test]
 fn numbered_by_threads(rt: HostRuntime) -> Result<(), Fail> {
-    let alloc = rt.alloc();
-    let base = falling_base(alloc, 12_000)?;
-    assert!(rt; are_numbered_alike(&rt, alloc, &base, 12_000)?);
+    assert!(rt; are_numbered_alike(&rt, rt.alloc(), 12_000)?);
     Ok(())
 }

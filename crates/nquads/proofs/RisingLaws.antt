@@ -1,6 +1,6 @@
 -- Lines that rise are the set of themselves, whatever the order in which they came before.
 use Rattle.std.specs.Prelude.{Bool, ◌&&◌, ◌||◌}
-use Rattle.std.proofs.Common.{◌≡◌, ℕ, ◌+◌, ◌<◌, true, cond, List, [], ◌∷◌, ◌++◌, length, get_or, take, map, filter, refl, sym, ap, ◌∙◌, subst}
+use Rattle.std.proofs.Common.{◌≡◌, ℕ, ◌+◌, ◌<◌, true, cond, List, [], ◌∷◌, ◌++◌, length, get_or, take, map, filter, refl, sym, ap, ◌∙◌}
 use Rattle.std.specs.List.{list_any, list_all, flat_map, AllByRecursion}
 use Rattle.std.specs.List.Sorted.{IsPermutation, IsStrictlySortedBy}
 use Rattle.std.specs.declared.cmp.Ordering.{Ordering}
@@ -21,9 +21,11 @@ use Rattle.sets.proofs.Every.{all_joined}
 use Rattle.sets.proofs.Filters.{any-filter}
 use Rattle.terms.specs.Term.{text_cmp}
 use Rattle.terms.specs.TermLaws.{text_total, text_exact}
-use Rattle.nquads.specs.Canonical.{ended}
+use Rattle.nquads.specs.Canonical.{ended, text_of_pieces}
 use Rattle.nquads.specs.declared.rising.Rising.{Rising}
-use Rattle.nquads.specs.Rising.{IsRising}
+use Rattle.nquads.specs.declared.rising_pieces.RisingInPieces.{RisingInPieces}
+use Rattle.nquads.specs.Rising.{IsRising, IsRisingInPieces}
+use Rattle.std.specs.Global.{Vec}
 use Rattle.nquads.proofs.CanonicalLaws.{any-map}
 
 pub less_is : (r : Ordering) → is_lt r ≡ true → r ≡ Less
@@ -68,10 +70,35 @@ sorted_both (x ∷ xs) line ys s below t =
     (all_joined (λ y. text_cmp x y ≡ Less) xs (line ∷ ys) (sorted_head text_cmp x xs s) (below.0, all_over x line ys below.0 (sorted_head text_cmp line ys t)))
     (sorted_both xs line ys (sorted_tail text_cmp x xs s) below.1 t)
 
-pub rising_both : (lines others : List (List ℕ)) (line : List ℕ) (low high new : Rising) → text_cmp low.last.items line ≡ Less → new.text.items ≡ low.text.items ++ high.text.items
-    → new.last.items ≡ high.last.items → IsRising lines low → IsRising (line ∷ others) high → IsRising (lines ++ line ∷ others) new
-rising_both lines others line low high new lt text last h k = record {
-  text = text ∙ (λ i. h.text i ++ k.text i) ∙ sym (flat_map-append ended lines (line ∷ others));
+-- graphs' lines and then quads' lines that rise are the set of both
+risen_set : (graphs quads : List (List ℕ)) → IsStrictlySortedBy text_cmp (graphs ++ quads) → graphs ++ quads ≡ set_of text_cmp (quads ++ graphs)
+risen_set graphs quads rises =
+    same_set text_total text_exact (graphs ++ quads) (set_of text_cmp (quads ++ graphs)) rises (sorted-set_of text_total (quads ++ graphs))
+    (λ t. list_any-append (eq_by_cmp text_cmp t) graphs quads ∙ or_comm (list_any (eq_by_cmp text_cmp t) graphs) (list_any (eq_by_cmp text_cmp t) quads)
+    ∙ sym (list_any-append (eq_by_cmp text_cmp t) quads graphs) ∙ sym (has-set_of text_total t (quads ++ graphs)))
+
+-- the text of graphs' lines and then quads' lines that rise
+pub rising_whole : (made : Rising) (graphs quads : List (List ℕ)) → IsRising (([] ++ graphs) ++ quads) made → made.text.items ≡ flat_map ended (set_of text_cmp (quads ++ graphs))
+rising_whole made graphs quads h = h.text ∙ ap (flat_map ended) (risen_set graphs quads h.rises)
+
+-- ---- texts in pieces
+
+pub one_piece : (pieces none : List (Vec ℕ)) (v : Vec ℕ) → none ≡ [] → pieces ≡ none ++ v ∷ [] → text_of_pieces pieces ≡ v.items
+one_piece pieces none v e made = ap text_of_pieces (made ∙ ap (λ (vs : List (Vec ℕ)). vs ++ v ∷ []) e) ∙ append-nil v.items
+
+pub pieces_alone : (made : Rising) (whole : RisingInPieces) (lines : List (List ℕ)) → text_of_pieces whole.pieces.items ≡ made.text.items → whole.last.items ≡ made.last.items
+    → IsRising lines made → IsRisingInPieces lines whole
+pieces_alone made whole lines text last h = record {
+  text = text ∙ h.text;
+  rises = h.rises;
+  last = λ above e. h.last above (ap (λ t. text_cmp t above) (sym last) ∙ e);
+}
+
+pub pieces_both : (lines others : List (List ℕ)) (line : List ℕ) (low high new : RisingInPieces) → text_cmp low.last.items line ≡ Less → new.pieces.items ≡ low.pieces.items ++ high.pieces.items
+    → new.last.items ≡ high.last.items → IsRisingInPieces lines low → IsRisingInPieces (line ∷ others) high → IsRisingInPieces (lines ++ line ∷ others) new
+pieces_both lines others line low high new lt pieces last h k = record {
+  text = ap text_of_pieces pieces ∙ flat_map-append (λ (v : Vec ℕ). v.items) low.pieces.items high.pieces.items
+      ∙ (λ i. h.text i ++ k.text i) ∙ sym (flat_map-append ended lines (line ∷ others));
   rises = sorted_both lines line others h.rises (h.last line lt) k.rises;
   last = λ above e.
       let over : AllByRecursion (λ x. text_cmp x above ≡ Less) (line ∷ others) = k.last above (ap (λ t. text_cmp t above) (sym last) ∙ e) in
@@ -79,21 +106,9 @@ rising_both lines others line low high new lt text last h k = record {
 }
 
 -- the text of graphs' lines and then quads' lines that rise
-pub rising_whole : (made : Rising) (graphs quads : List (List ℕ)) → IsRising (([] ++ graphs) ++ quads) made → made.text.items ≡ flat_map ended (set_of text_cmp (quads ++ graphs))
-rising_whole made graphs quads h =
-    h.text ∙ ap (flat_map ended) (same_set text_total text_exact (graphs ++ quads) (set_of text_cmp (quads ++ graphs)) h.rises (sorted-set_of text_total (quads ++ graphs))
-    (λ t. list_any-append (eq_by_cmp text_cmp t) graphs quads ∙ or_comm (list_any (eq_by_cmp text_cmp t) graphs) (list_any (eq_by_cmp text_cmp t) quads)
-    ∙ sym (list_any-append (eq_by_cmp text_cmp t) quads graphs) ∙ sym (has-set_of text_total t (quads ++ graphs))))
-
-pub no_lines : (lines : List (List ℕ)) → flat_map ended lines ≡ [] → lines ≡ []
-no_lines [] e = refl
-no_lines ([] ∷ lines) e = absurd cc
-no_lines ((b ∷ bs) ∷ lines) e = absurd cc
-
--- the quads alone, where there is no line of a graph
-pub rising_alone : (none made : Rising) (graphs quads : List (List ℕ)) → none.text.items ≡ [] → IsRising graphs none → IsRising quads made → made.text.items ≡ flat_map ended (set_of text_cmp (quads ++ graphs))
-rising_alone none made graphs quads e g h =
-    rising_whole made graphs quads (subst (λ (lines : List (List ℕ)). IsRising (lines ++ quads) made) (sym (no_lines graphs (sym g.text ∙ e))) h)
+pub pieces_whole : (made : RisingInPieces) (graphs quads : List (List ℕ)) → IsRisingInPieces (([] ++ graphs) ++ quads) made
+    → text_of_pieces made.pieces.items ≡ flat_map ended (set_of text_cmp (quads ++ graphs))
+pieces_whole made graphs quads h = h.text ∙ ap (flat_map ended) (risen_set graphs quads h.rises)
 
 -- in another order, quads and names have the same set of lines
 module _ {A : Type 0} (f : A → List ℕ) (g : ℕ → List ℕ) (kept : ℕ → Bool) (quads others : List A) (names those : List ℕ)

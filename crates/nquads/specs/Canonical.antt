@@ -2,6 +2,7 @@
 -- graph without a quad; the lines in the order of their bytes, each once, each ended by LF.
 use Rattle.std.specs.Prelude.{ℕ, Bool, not, List, [], ◌∷◌, ◌++◌, map, filter, Option, Some, None, codes}
 use Rattle.std.specs.List.{flat_map}
+use Rattle.std.specs.Global.{Vec}
 use Rattle.sets.specs.Sets.{set_of, has}
 use Rattle.datasets.specs.declared.quad.Quad.{Quad}
 use Rattle.datasets.specs.Dataset.{Dataset, names_of}
@@ -32,3 +33,7 @@ ended line = line ++ 10 ∷ []
 
 abbrev pub canonical : Dataset Term → ℕ → List ℕ
 canonical d tag = flat_map ended (set_of text_cmp (lines_of d.quads d.names tag))
+
+-- the bytes of pieces that stand one behind another
+abbrev pub text_of_pieces : List (Vec ℕ) → List ℕ
+text_of_pieces pieces = flat_map (λ piece. piece.items) pieces

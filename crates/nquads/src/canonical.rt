@@ -6,11 +6,11 @@ ghost use Rattle.sets.specs.Sets.{set_of as set_of_lines};
 ghost use Rattle.terms.specs.Term.{text_cmp};
 ghost use Rattle.terms.specs.Canonical.{term_text};
 ghost use Rattle.terms.specs.Placed.{is_within, is_name_within, is_quad_within};
-ghost use Rattle.nquads.specs.Canonical.{ended, canonical as canonical_of};
+ghost use Rattle.nquads.specs.Canonical.{ended, text_of_pieces, canonical as canonical_of};
 ghost use Rattle.nquads.specs.Placed.{text_at, graph_text_at, quad_text_at, graph_line_at, is_name_at, is_in_at, IsTextOf};
 
 use crate::rising::rising_text;
-use crate::rising_pieces::rising_text_by;
+use crate::rising_pieces::rising_pieces_by;
 use crate::text_line::TextLine;
 use crate::text_order::{names_by_text, quads_by_text, quads_by_text_by};
 use datasets::Quad;
@@ -251,8 +251,17 @@ fn text_of_lines(
     }
 }
 
-/// The same text, its lines made by so many threads.
-fn text_of_lines_by<T: Threads + Sync>(
+/// A text as one piece.
+fn in_one_piece(alloc: Global, text: Vec<u8>) -> Result<Vec<Vec<u8>>, AllocError>
+    ensures { IfOk result (λ pieces. text_of_pieces pieces.items ≡ text.items) }
+{
+    let mut pieces = Vec::new(alloc);
+    pieces.push(text)?;
+    Ok(pieces)
+}
+
+/// The same text, its lines made by so many threads, in pieces that stand one behind another.
+fn pieces_of_lines_by<T: Threads + Sync>(
     rt: &T,
     alloc: Global,
     texts: &[TextLine],
@@ -260,10 +269,10 @@ fn text_of_lines_by<T: Threads + Sync>(
     names: &[u32],
     full: &HashSet<u32>,
     threads: usize,
-) -> Result<Vec<u8>, AllocError>
+) -> Result<Vec<Vec<u8>>, AllocError>
     requires quads { list_all (is_quad_within texts.now) quads.now ≡ true }
     requires names { list_all (is_within texts.now) names.now ≡ true }
-    ensures { IfOk result (λ text. text.items
+    ensures { IfOk result (λ pieces. text_of_pieces pieces.items
         ≡ flat_map ended (set_of_lines text_cmp
         (map (quad_text_at texts.now) quads.now
         ++ map (graph_line_at texts.now)
@@ -271,7 +280,7 @@ fn text_of_lines_by<T: Threads + Sync>(
 {
     let quads_in_order = quads_by_text_by(rt, alloc, texts, quads)?;
     let names_in_order = names_by_text(alloc, texts, names)?;
-    let found = rising_text_by(
+    let found = rising_pieces_by(
         rt,
         alloc,
         texts,
@@ -280,10 +289,11 @@ fn text_of_lines_by<T: Threads + Sync>(
         full,
         threads,
     )?;
-    if let Some(text) = found {
-        return Ok(text);
+    if let Some(pieces) = found {
+        return Ok(pieces);
     }
-    sorted_text(alloc, texts, quads, names, full)
+    let text = sorted_text(alloc, texts, quads, names, full)?;
+    in_one_piece(alloc, text)
 }
 
 /// The canonical text of a dataset, where `tag` is in the labels of made nodes. It fails only where memory runs out.
@@ -299,25 +309,38 @@ pub fn canonical_text(alloc: Global, dataset: &DataSet, tag: u32) -> Result<Vec<
     Ok(text)
 }
 
-/// The same text, its lines made by so many threads, where they can be had, and put in order by as many as there are processors.
-pub fn canonical_text_by<T: Threads + Sync>(
+/// The same text, in pieces that stand one behind another.
+pub fn canonical_pieces(
+    alloc: Global,
+    dataset: &DataSet,
+    tag: u32,
+) -> Result<Vec<Vec<u8>>, AllocError>
+    ensures { IfOk result (λ pieces. text_of_pieces pieces.items ≡ canonical_of dataset.now tag) }
+{
+    let text = canonical_text(alloc, dataset, tag)?;
+    in_one_piece(alloc, text)
+}
+
+/// The same pieces, their lines made by so many threads, where they can be had, and put in order by as many as there are processors. No piece
+/// is moved once it is made.
+pub fn canonical_pieces_by<T: Threads + Sync>(
     rt: &T,
     alloc: Global,
     dataset: &DataSet,
     tag: u32,
     threads: usize,
-) -> Result<Vec<u8>, AllocError>
-    ensures { IfOk result (λ text. text.items ≡ canonical_of dataset.now tag) }
+) -> Result<Vec<Vec<u8>>, AllocError>
+    ensures { IfOk result (λ pieces. text_of_pieces pieces.items ≡ canonical_of dataset.now tag) }
 {
     sets_pass_alike();
     quads_name_their_graphs();
     if threads <= 1 {
-        return canonical_text(alloc, dataset, tag);
+        return canonical_pieces(alloc, dataset, tag);
     }
     let parts = dataset.parts();
     let texts = texts_of_by(rt, alloc, parts.terms, tag)?;
     let full = full_graphs(alloc, parts.quads)?;
-    let text = text_of_lines_by(
+    let pieces = pieces_of_lines_by(
         rt,
         alloc,
         texts.as_slice(),
@@ -326,5 +349,5 @@ pub fn canonical_text_by<T: Threads + Sync>(
         &full,
         threads,
     )?;
-    Ok(text)
+    Ok(pieces)
 }

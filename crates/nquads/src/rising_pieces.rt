@@ -6,9 +6,9 @@ ghost use Rattle.std.specs.Thread.{IsSync};
 ghost use Rattle.sets.specs.Sets.{set_of};
 ghost use Rattle.terms.specs.Term.{text_cmp};
 ghost use Rattle.terms.specs.Placed.{is_within, is_quad_within};
-ghost use Rattle.nquads.specs.Canonical.{ended};
+ghost use Rattle.nquads.specs.Canonical.{ended, text_of_pieces};
 ghost use Rattle.nquads.specs.Placed.{quad_text_at, graph_line_at};
-ghost use Rattle.nquads.specs.Rising.{IsRising};
+ghost use Rattle.nquads.specs.Rising.{IsRising, IsRisingInPieces};
 
 use crate::canonical::push_quad;
 use crate::pieces::share;
@@ -25,19 +25,44 @@ const SAMPLED: usize = 64;
 /// The most room that is asked for before it is needed.
 const MOST_ROOM: usize = 1_073_741_824;
 
-/// A text and another behind it that begins with this line, if the line is above the first text's last.
-fn behind(low: Rising, high: Rising, line: &[u8]) -> Result<Option<Rising>, AllocError>
+/// A text in pieces, one behind another, whose lines rise, as far as it is made, and its last line.
+#[derive(Drop)]
+pub(crate) struct RisingInPieces {
+    pieces: Vec<Vec<u8>>,
+    last: Vec<u8>,
+}
+
+/// A text as one piece.
+fn as_piece(alloc: Global, made: Rising) -> Result<RisingInPieces, AllocError>
+    ensures { IfOk result (λ whole. (lines : List (List ℕ)) → IsRising lines made
+        → IsRisingInPieces lines whole) }
+{
+    let mut pieces = Vec::new(alloc);
+    pieces.push(made.text)?;
+    Ok(RisingInPieces {
+        pieces,
+        last: made.last,
+    })
+}
+
+/// A text and another behind it that begins with this line, if the line is above the first text's last. No byte of theirs is moved.
+fn behind(
+    low: RisingInPieces,
+    high: RisingInPieces,
+    line: &[u8],
+) -> Result<Option<RisingInPieces>, AllocError>
     ensures { IfOk result (λ found. IfSome found
-        (λ made. (lines others : List (List ℕ)) → IsRising lines low
-        → IsRising (line.now ∷ others) high → IsRising (lines ++ line.now ∷ others) made)) }
+        (λ made. (lines others : List (List ℕ)) → IsRisingInPieces lines low
+        → IsRisingInPieces (line.now ∷ others) high
+        → IsRisingInPieces (lines ++ line.now ∷ others) made)) }
 {
     if !is_above(low.last.as_slice(), line) {
         return Ok(None);
     }
-    let (mut text, mut rest) = (low.text, high.text);
-    text.append(&mut rest)?;
-    Ok(Some(Rising {
-        text,
+    let (mut pieces, mut rest) = (low.pieces, high.pieces);
+    pieces.append(&mut rest)?;
+    Ok(Some(RisingInPieces {
+        pieces,
         last: high.last,
     }))
 }
@@ -45,16 +70,16 @@ fn behind(low: Rising, high: Rising, line: &[u8]) -> Result<Option<Rising>, Allo
 /// A text and the text of the lines of these quads behind it, if they rise on.
 fn behind_quads(
     alloc: Global,
-    low: Rising,
-    high: Rising,
+    low: RisingInPieces,
+    high: RisingInPieces,
     texts: &[TextLine],
     quads: &[Quad<u32>],
-) -> Result<Option<Rising>, AllocError>
+) -> Result<Option<RisingInPieces>, AllocError>
     requires { list_all (is_quad_within texts.now) quads.now ≡ true }
     ensures { IfOk result (λ found. IfSome found
-        (λ made. (lines : List (List ℕ)) → IsRising lines low
-        → IsRising (map (quad_text_at texts.now) quads.now) high
-        → IsRising (lines ++ map (quad_text_at texts.now) quads.now) made)) }
+        (λ made. (lines : List (List ℕ)) → IsRisingInPieces lines low
+        → IsRisingInPieces (map (quad_text_at texts.now) quads.now) high
+        → IsRisingInPieces (lines ++ map (quad_text_at texts.now) quads.now) made)) }
 {
     let Some(first) = quads.first() else {
         return Ok(Some(low));
@@ -103,65 +128,54 @@ fn begun(alloc: Global, room: usize) -> Rising
     }
 }
 
-/// The text of the lines of these quads, if they rise, with room for so many bytes.
+/// The text of the lines of these quads, if they rise, as one piece.
 fn rising_piece(
     alloc: Global,
     texts: &[TextLine],
     quads: &[Quad<u32>],
-    room: usize,
-) -> Result<Option<Rising>, AllocError>
+) -> Result<Option<RisingInPieces>, AllocError>
     requires { list_all (is_quad_within texts.now) quads.now ≡ true }
     ensures { IfOk result (λ found. IfSome found
-        (IsRising (map (quad_text_at texts.now) quads.now))) }
+        (IsRisingInPieces (map (quad_text_at texts.now) quads.now))) }
 {
-    let mut made = begun(alloc, room);
+    let mut made = begun(alloc, room_for(texts, quads));
     let mut line = Vec::new(alloc);
     let rises = push_quads(&mut made, &mut line, texts, quads)?;
     if !rises {
         return Ok(None);
     }
-    Ok(Some(made))
+    let whole = as_piece(alloc, made)?;
+    Ok(Some(whole))
 }
 
-/// The text of the lines of these quads, made by so many threads, if they rise. The first piece has room for so many bytes, since the others
-/// are put behind it.
+/// The text of the lines of these quads, made by so many threads, if they rise, each piece where its thread made it.
 fn rising_quads<T: Threads + Sync>(
     rt: &T,
     alloc: Global,
     texts: &[TextLine],
     quads: &[Quad<u32>],
     threads: usize,
-    room: usize,
-) -> Result<Option<Rising>, AllocError>
+) -> Result<Option<RisingInPieces>, AllocError>
     requires { list_all (is_quad_within texts.now) quads.now ≡ true }
     ensures { IfOk result (λ found. IfSome found
-        (IsRising (map (quad_text_at texts.now) quads.now))) }
+        (IsRisingInPieces (map (quad_text_at texts.now) quads.now))) }
 {
     if threads <= 1 {
-        return rising_piece(alloc, texts, quads, room);
+        return rising_piece(alloc, texts, quads);
     }
     let (first, rest) = quads.split_at(share(quads.len(), threads));
     let (low, high) = join(
         rt,
-        || -> Result<Option<Rising>, AllocError>
+        || -> Result<Option<RisingInPieces>, AllocError>
             requires { IsSync T.row × (list_all (is_quad_within texts.now) first.now ≡ true) }
             ensures { IfOk result (λ found. IfSome found
-                (IsRising (map (quad_text_at texts.entry.now) first.entry.now))) }
-        { rising_quads(rt, alloc, texts, first, threads / 2, room) },
-        || -> Result<Option<Rising>, AllocError>
+                (IsRisingInPieces (map (quad_text_at texts.entry.now) first.entry.now))) }
+        { rising_quads(rt, alloc, texts, first, threads / 2) },
+        || -> Result<Option<RisingInPieces>, AllocError>
             requires { IsSync T.row × (list_all (is_quad_within texts.now) rest.now ≡ true) }
             ensures { IfOk result (λ found. IfSome found
-                (IsRising (map (quad_text_at texts.entry.now) rest.entry.now))) }
-        {
-            rising_quads(
-                rt,
-                alloc,
-                texts,
-                rest,
-                threads - threads / 2,
-                room_for(texts, rest),
-            )
-        },
+                (IsRisingInPieces (map (quad_text_at texts.entry.now) rest.entry.now))) }
+        { rising_quads(rt, alloc, texts, rest, threads - threads / 2) },
     );
     match (low?, high?) {
         (Some(low), Some(high)) => behind_quads(alloc, low, high, texts, rest),
@@ -169,8 +183,9 @@ fn rising_quads<T: Threads + Sync>(
     }
 }
 
-/// The lines of the graphs that have no quad and those of the quads, made by so many threads, if each is above the one before it.
-pub(crate) fn rising_text_by<T: Threads + Sync>(
+/// The lines of the graphs that have no quad and those of the quads, made by so many threads, if each is above the one before it, in pieces
+/// that stand one behind another.
+pub(crate) fn rising_pieces_by<T: Threads + Sync>(
     rt: &T,
     alloc: Global,
     texts: &[TextLine],
@@ -178,11 +193,11 @@ pub(crate) fn rising_text_by<T: Threads + Sync>(
     names: &[u32],
     full: &HashSet<u32>,
     threads: usize,
-) -> Result<Option<Vec<u8>>, AllocError>
+) -> Result<Option<Vec<Vec<u8>>>, AllocError>
     requires quads { list_all (is_quad_within texts.now) quads.now ≡ true }
     requires names { list_all (is_within texts.now) names.now ≡ true }
     ensures { IfOk result (λ found. IfSome found
-        (λ text. text.items ≡ flat_map ended
+        (λ pieces. text_of_pieces pieces.items ≡ flat_map ended
         (set_of text_cmp (map (quad_text_at texts.now) quads.now
         ++ map (graph_line_at texts.now)
         (filter (λ name. not (contains nat_eq full.now name)) names.now))))) }
@@ -196,15 +211,12 @@ pub(crate) fn rising_text_by<T: Threads + Sync>(
     if !graphs_rise {
         return Ok(None);
     }
-    let room = room_for(texts, quads);
-    let Some(high) = rising_quads(rt, alloc, texts, quads, threads, room)? else {
+    let low = as_piece(alloc, made)?;
+    let Some(high) = rising_quads(rt, alloc, texts, quads, threads)? else {
         return Ok(None);
     };
-    if made.text.is_empty() {
-        return Ok(Some(high.text));
-    }
-    match behind_quads(alloc, made, high, texts, quads)? {
-        Some(whole) => Ok(Some(whole.text)),
+    match behind_quads(alloc, low, high, texts, quads)? {
+        Some(whole) => Ok(Some(whole.pieces)),
         None => Ok(None),
     }
 }

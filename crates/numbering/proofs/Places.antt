@@ -11,15 +11,24 @@ use Rattle.terms.specs.declared.term.Term.{Term}
 use Rattle.terms.specs.declared.term.Term.TheVariants as term
 use Rattle.terms.specs.Placed.{term_at, quad_at, is_within, is_name_within, is_quad_within, GoesOn, TermsKeepPlaces}
 use Rattle.datasets.specs.declared.id.Id.{Id}
+use Rattle.datasets.specs.declared.id.Id.TheVariants.{Known, Made}
 use Rattle.datasets.specs.declared.quad.Quad.{Quad}
-use Rattle.dict.specs.Dictionary.{term_of}
-use Rattle.meaning_laws.specs.Renaming.{renamed_quad}
-use Rattle.numbering.specs.Tables.{ArePlaces, StandFor, NamesStandFor}
+use Rattle.dict.specs.Dictionary.{term_of, is_known}
+use Rattle.meaning_laws.specs.Renaming.{renamed_quad, quad_known, option_known}
+use Rattle.numbering.specs.Tables.{StandFor, NamesStandFor}
 
--- ---- the places of a dictionary's terms
+-- ---- lists of terms that go on
 
 pub further : (a b c : List Term) → GoesOn a b → GoesOn b c → GoesOn a c
 further a b c g h = (g.0 ++ h.0, h.1 ∙ ap (λ xs. xs ++ h.0) g.1 ∙ append_assoc a g.0 h.0)
+
+pub known_parts : (terms : List Term) (q : Quad Id) → quad_known (is_known terms) q ≡ true
+    → (is_known terms q.subject ≡ true) × (is_known terms q.predicate ≡ true) × (is_known terms q.object ≡ true) × (option_known (is_known terms) q.graph ≡ true)
+known_parts terms q h =
+    let s = and_parts (is_known terms q.subject) _ h in
+    let p = and_parts (is_known terms q.predicate) _ s.1 in
+    let o = and_parts (is_known terms q.object) _ p.1 in
+    (s.0, (p.0, (o.0, o.1)))
 
 module _ (keep : TermsKeepPlaces) (old new : List Term) (on : GoesOn old new) where
   kept_names : (names : List ℕ) → list_all (is_within old) names ≡ true → (map (term_at new) names ≡ map (term_at old) names) × (list_all (is_within new) names ≡ true)
@@ -30,10 +39,33 @@ module _ (keep : TermsKeepPlaces) (old new : List Term) (on : GoesOn old new) wh
       let rest = kept_names ns parts.1 in
       ((λ i. first.0 i ∷ rest.0 i), and_from (is_within new n) _ first.1 rest.1)
 
-  pub places_kept : (dict : List Term) (places : List ℕ) → ArePlaces dict old places → ArePlaces dict new places
-  places_kept dict places are =
-      let kept = kept_names places are.within in
-      record { each = kept.0 ∙ are.each; within = kept.1 }
+  -- a dictionary's number stays one, of the same term
+  pub known_kept : (id : Id) → is_known old id ≡ true → (term_of new id ≡ term_of old id) × (is_known new id ≡ true)
+  known_kept (Known n) h = keep old new on n h
+  known_kept (Made r o l s) h = (refl, refl)
+
+  pub known_name_kept : (name : Option Id) → option_known (is_known old) name ≡ true → (option_map (term_of new) name ≡ option_map (term_of old) name) × (option_known (is_known new) name ≡ true)
+  known_name_kept None h = (refl, refl)
+  known_name_kept (Some id) h = let kept = known_kept id h in (ap Some kept.0, kept.1)
+
+  pub known_quad_kept : (q : Quad Id) → quad_known (is_known old) q ≡ true → (renamed_quad (term_of new) q ≡ renamed_quad (term_of old) q) × (quad_known (is_known new) q ≡ true)
+  known_quad_kept q h =
+      let parts = known_parts old q h in
+      let s = known_kept q.subject parts.0 in
+      let p = known_kept q.predicate parts.1 in
+      let o = known_kept q.object parts.2 in
+      let g = known_name_kept q.graph parts.3 in (
+        (λ i. record { subject = s.0 i; predicate = p.0 i; object = o.0 i; graph = g.0 i }),
+        and_from (is_known new q.subject) _ s.1 (and_from (is_known new q.predicate) _ p.1 (and_from (is_known new q.object) _ o.1 g.1)),
+      )
+
+  pub known_names_kept : (names : List Id) → list_all (is_known old) names ≡ true → (map (term_of new) names ≡ map (term_of old) names) × (list_all (is_known new) names ≡ true)
+  known_names_kept [] h = (refl, refl)
+  known_names_kept (n ∷ ns) h =
+      let parts = and_parts (is_known old n) _ h in
+      let first = known_kept n parts.0 in
+      let rest = known_names_kept ns parts.1 in
+      ((λ i. first.0 i ∷ rest.0 i), and_from (is_known new n) _ first.1 rest.1)
 
   pub kept_name : (n : Option ℕ) → is_name_within old n ≡ true → (option_map (term_at new) n ≡ option_map (term_at old) n) × (is_name_within new n ≡ true)
   kept_name None h = (refl, refl)
@@ -83,6 +115,23 @@ four_places keep a b c d e ab bc cd de q t ts ws tp wp to wo tg wg =
       and_from (is_within e q.subject) _ ks.1 (and_from (is_within e q.predicate) _ kp.1 (and_from (is_within e q.object) _ ko.1 wg)),
     )
 
+-- the places of a quad's terms, each put in behind those before it
+pub quad_placed : (keep : TermsKeepPlaces) (a b c d e : List Term) → GoesOn a b → GoesOn b c → GoesOn c d → GoesOn d e → (q : Quad ℕ) (quad : Quad Id)
+    → quad_known (is_known a) quad ≡ true
+    → term_at b q.subject ≡ term_of a quad.subject → is_within b q.subject ≡ true
+    → term_at c q.predicate ≡ term_of b quad.predicate → is_within c q.predicate ≡ true
+    → term_at d q.object ≡ term_of c quad.object → is_within d q.object ≡ true
+    → option_map (term_at e) q.graph ≡ option_map (term_of d) quad.graph → is_name_within e q.graph ≡ true
+    → (quad_at e q ≡ renamed_quad (term_of a) quad) × (is_quad_within e q ≡ true)
+quad_placed keep a b c d e ab bc cd de q quad h ts ws tp wp to wo tg wg =
+    let known = known_parts a quad h in
+    let ac = further a b c ab bc in
+    let ad = further a c d ac cd in
+    four_places keep a b c d e ab bc cd de q (renamed_quad (term_of a) quad) ts ws
+    (tp ∙ (known_kept keep a b ab quad.predicate known.1).0) wp
+    (to ∙ (known_kept keep a c ac quad.object known.2).0) wo
+    (tg ∙ (known_name_kept keep a d ad quad.graph known.3).0) wg
+
 -- one more
 pub stand_more : (keep : TermsKeepPlaces) (dict old new : List Term) → GoesOn old new → (placed after : List (Quad ℕ)) (done : List (Quad Id)) (q : Quad ℕ) (quad : Quad Id)
     → after ≡ placed ++ q ∷ [] → quad_at new q ≡ renamed_quad (term_of dict) quad → is_quad_within new q ≡ true
@@ -106,16 +155,6 @@ name_more keep dict old new on placed after done p name made is in_new s =
       within = ap (list_all (is_within new)) made ∙ each_joined (is_within new) placed (p ∷ []) kept.within (and_from (is_within new p) true in_new refl);
     }
 
-pub place_more : (keep : TermsKeepPlaces) (done old new : List Term) → GoesOn old new → (places after : List ℕ) (p : ℕ) (t : Term)
-    → after ≡ places ++ p ∷ [] → term_at new p ≡ t → is_within new p ≡ true
-    → ArePlaces done old places → ArePlaces (done ++ t ∷ []) new after
-place_more keep done old new on places after p t made is in_new s =
-    let kept = places_kept keep old new on done places s in
-    record {
-      each = ap (map (term_at new)) made ∙ map-append (term_at new) places (p ∷ []) ∙ (λ i. kept.each i ++ is i ∷ []);
-      within = ap (list_all (is_within new)) made ∙ each_joined (is_within new) places (p ∷ []) kept.within (and_from (is_within new p) true in_new refl);
-    }
-
 -- ---- loops over a list
 
 pub loop_next : {A : Type 0} (P : List A → Type 0) (xs : List A) (i : ℕ) (d : A) → i < length xs → P (take i xs ++ slice_index_or xs i d ∷ []) → P (take (i + 1) xs)
@@ -123,17 +162,3 @@ loop_next P xs i d lt h = rw add-one (subst P (sym (take-suc xs i d lt)) h)
 
 pub loop_item : {A : Type 0} (P : List A → Type 0) (xs : List A) (i : ℕ) (x : A) → i < length xs → x ≡ slice_index_or xs i x → P (take i xs ++ x ∷ []) → P (take (i + 1) xs)
 loop_item P xs i x lt is h = loop_next P xs i x lt (subst (λ y. P (take i xs ++ y ∷ [])) is h)
-
--- ---- a list that is copied
-
--- one more of a list's terms, at the place behind those before it
-pub copied_more : (keep : TermsKeepPlaces) (terms : List Term) (i : ℕ) (t copy : Term) → i < length terms → t ≡ slice_index_or terms i t → copy ≡ t
-    → (old new : List Term) (places after : List ℕ) (p : ℕ) → p ≡ length old → new ≡ old ++ copy ∷ [] → after ≡ places ++ p ∷ []
-    → old ≡ take i terms → ArePlaces (take i terms) old places → (new ≡ take (i + 1) terms) × ArePlaces (take (i + 1) terms) new after
-copied_more keep terms i t copy lt is same old new places after p behind made put done are =
-    let on : GoesOn old new = (copy ∷ [], made) in
-    let here : term_at new p ≡ t = (λ j. term_at (made j) (behind j)) ∙ get_or-append_seam old copy [] (term.Made 0 0 0 0) ∙ same in
-    let within : is_within new p ≡ true = lt-ltb p (length new) (omega (arith, behind, ap length made, length-append old (copy ∷ []))) in (
-      loop_item (λ (ts : List Term). new ≡ ts) terms i t lt is (made ∙ (λ j. done j ++ same j ∷ [])),
-      loop_item (λ (ts : List Term). ArePlaces ts new after) terms i t lt is (place_more keep (take i terms) old new on places after p t put here within are),
-    )

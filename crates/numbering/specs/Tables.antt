@@ -8,11 +8,6 @@ use Rattle.terms.specs.Placed.{term_at, quad_at, is_within, is_quad_within}
 use Rattle.dict.specs.Dictionary.{term_of}
 use Rattle.meaning_laws.specs.Renaming.{renamed_quad}
 
--- the places that a dictionary's terms have in a table
-pub record ArePlaces (terms table : List Term) (places : List ℕ) : Type 0 where
-  pub each : map (term_at table) places ≡ terms
-  pub within : list_all (is_within table) places ≡ true
-
 -- quads by places of a table stand for these quads of numbers
 pub record StandFor (terms table : List Term) (placed : List (Quad ℕ)) (quads : List (Quad Id)) : Type 0 where
   pub each : map (quad_at table) placed ≡ map (renamed_quad (term_of terms)) quads

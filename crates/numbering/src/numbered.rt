@@ -31,16 +31,16 @@ fn terms_of(alloc: Global, block: &Block) -> Result<Vec<Term>, AllocError>
 }
 
 /// A base and a block at numbers, by the dictionary of the terms of the base and of the block's accepted requests. The base's terms have
-/// their numbers from the sort that makes the dictionary, and the base is kept in the orders that the block can use. A request at terms is
+/// their numbers from the sort that makes the dictionary, into which they go, and the base is kept in the orders that the block can use. A request at terms is
 /// let go as soon as it has its numbers. An error comes only where memory runs out.
 pub fn number<H: Hands>(
     hands: &H,
     alloc: Global,
-    dataset: &DataSet,
+    dataset: DataSet,
     block: Block,
 ) -> Result<Numbered, AllocError>
     requires { H.Ready }
-    ensures { IfOk result (λ n. IsNumbered dataset.now block n.base n.block.items) }
+    ensures { IfOk result (λ n. IsNumbered dataset block n.base n.block.items) }
 {
     let orders = orders_for(alloc, &block)?;
     let terms = terms_of(alloc, &block)?;

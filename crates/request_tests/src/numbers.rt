@@ -57,7 +57,7 @@ fn base(alloc: Global) -> Result<DataSet, BaseFault> {
 /// Whether the base comes to its numbers.
 fn comes_to_numbers(alloc: Global, block: Block) -> Result<bool, BaseFault> {
     let dataset = base(alloc)?;
-    let numbered = number(&Alone, alloc, &dataset, block)?;
+    let numbered = number(&Alone, alloc, dataset, block)?;
     let copy = numbered.base.dataset().copied(alloc)?;
     let so = is_numbered(&numbered, &copy);
     let compact = CompactView::from_view(alloc, copy)?;
@@ -66,14 +66,14 @@ fn comes_to_numbers(alloc: Global, block: Block) -> Result<bool, BaseFault> {
 }
 
 // To numbers and back.
-fn back(alloc: Global, dataset: &DataSet, block: Block) -> Result<DataSet, AllocError> {
+fn back(alloc: Global, dataset: DataSet, block: Block) -> Result<DataSet, AllocError> {
     let _ = dataset.parts();
     let numbered = number(&Alone, alloc, dataset, block)?;
     let dataset = numbered.base.dataset().compact(alloc)?;
-    named(alloc, numbered.base.terms(), &dataset)
+    named(alloc, numbered.base.into_terms(), &dataset)
 }
 
-fn text_back(alloc: Global, dataset: &DataSet, block: Block) -> Result<Vec<u8>, AllocError> {
+fn text_back(alloc: Global, dataset: DataSet, block: Block) -> Result<Vec<u8>, AllocError> {
     let again = back(alloc, dataset, block)?;
     canonical_text(alloc, &again, 1)
 }
@@ -81,7 +81,7 @@ fn text_back(alloc: Global, dataset: &DataSet, block: Block) -> Result<Vec<u8>, 
 /// Whether the base, to numbers and back, has its text again.
 fn comes_back(alloc: Global, block: Block) -> Result<bool, BaseFault> {
     let dataset = base(alloc)?;
-    Ok(text_back(alloc, &dataset, block)?.as_slice() == BASE.as_bytes())
+    Ok(text_back(alloc, dataset, block)?.as_slice() == BASE.as_bytes())
 }
 
 #[test]
@@ -111,7 +111,7 @@ fn inserted(numbered: &Numbered) -> Option<Id> {
 /// Whether the subject has its number, in a dictionary of so many terms.
 fn has_number(alloc: Global, base: &str, count: usize) -> Result<bool, Fail> {
     let dataset = read_bytes(alloc, base.as_bytes())?;
-    let numbered = number(&Alone, alloc, &dataset, split(alloc, INSERTION)?)?;
+    let numbered = number(&Alone, alloc, dataset, split(alloc, INSERTION)?)?;
     let terms = numbered.base.terms().terms();
     let Some(Id::Known(place)) = inserted(&numbered) else {
         return Ok(false);

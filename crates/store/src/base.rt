@@ -39,25 +39,25 @@ impl Model for Base {
 }
 
 impl Base {
-    /// The base of a dataset, with the dictionary of its terms and of more, its quads in these orders beside SPOG. The numbers of its terms
+    /// The base of a dataset, with the dictionary of its terms and of more, none of which is copied, its quads in these orders beside SPOG. The numbers of its terms
     /// come of the sort that puts them in order, and who sorts changes nothing in the answer. An error comes only where memory runs out.
     pub fn new<H: Hands>(
         hands: &H,
         alloc: Global,
-        dataset: &DataSet,
+        dataset: DataSet,
         more: Vec<Term>,
         orders: &[Arrangement],
     ) -> Result<Base, AllocError>
         requires { H.Ready }
-        ensures base { IfOk result (λ base. IsBaseOf dataset.now base) }
+        ensures base { IfOk result (λ base. IsBaseOf dataset base) }
         ensures held { IfOk result (λ base. list_all (is_held base.terms) more.items ≡ true) }
     {
         is_renaming();
-        let tag = tag(alloc, dataset)?;
-        let parts = dataset.parts();
-        let (terms, ids) = hands.numbered(alloc, parts.terms, more.as_slice())?;
-        let quads = quad_numbers(alloc, ids.as_slice(), parts.quads)?;
-        let names = name_numbers(alloc, ids.as_slice(), parts.names)?;
+        let tag = tag(alloc, &dataset)?;
+        let parts = dataset.into_parts(alloc)?;
+        let (terms, ids) = hands.numbered(alloc, parts.terms, more)?;
+        let quads = quad_numbers(alloc, ids.as_slice(), parts.quads.as_slice())?;
+        let names = name_numbers(alloc, ids.as_slice(), parts.names.as_slice())?;
         let indexed = hands.indexed(alloc, quads, names, orders)?;
         Ok(Base {
             alloc,
@@ -72,6 +72,13 @@ impl Base {
         ensures { result.now ≡ self.now.terms }
     {
         &self.terms
+    }
+
+    /// Its dictionary, taken out of it. All else is let go.
+    pub fn into_terms(self) -> Dict
+        ensures { result ≡ self.terms }
+    {
+        self.terms
     }
 
     /// Its dataset.

@@ -32,14 +32,14 @@ pub trait Hands {
     fn numbered(
         &self,
         alloc: Global,
-        terms: &[Term],
-        more: &[Term],
+        terms: Vec<Term>,
+        more: Vec<Term>,
     ) -> Result<(Dict, Vec<Id>), AllocError>
         requires { Ready }
         ensures terms { IfOk result (λ r. r.0 ≡ set_of term_order
-            (filter is_written (terms.now ++ more.now))) }
+            (filter is_written (terms.items ++ more.items))) }
         ensures form { IfOk result (λ r. IsDictionary r.0) }
-        ensures renamed { IfOk result (λ r. map (term_of r.0) r.1.items ≡ terms.now) }
+        ensures renamed { IfOk result (λ r. map (term_of r.0) r.1.items ≡ terms.items) }
         ensures known { IfOk result (λ r. list_all (is_known r.0) r.1.items ≡ true) };
 
     /// The dataset of these quads and graph names, its quads in these orders beside SPOG.
@@ -66,8 +66,8 @@ impl Hands for Alone {
     fn numbered(
         &self,
         alloc: Global,
-        terms: &[Term],
-        more: &[Term],
+        terms: Vec<Term>,
+        more: Vec<Term>,
     ) -> Result<(Dict, Vec<Id>), AllocError> {
         Dict::numbered(alloc, terms, more)
     }
@@ -104,8 +104,8 @@ impl<'r, T: Threads + Sync> Hands for Together<'r, T> {
     fn numbered(
         &self,
         alloc: Global,
-        terms: &[Term],
-        more: &[Term],
+        terms: Vec<Term>,
+        more: Vec<Term>,
     ) -> Result<(Dict, Vec<Id>), AllocError> {
         Dict::numbered_by(self.rt, alloc, terms, more)
     }

@@ -46,6 +46,14 @@ pub struct Parts<'a> {
     pub names: &'a [u32],
 }
 
+/// What a dataset lay in memory as: its terms, and its quads and graph names by places among them, in any order and maybe more than once.
+#[derive(Drop)]
+pub struct OwnedParts {
+    pub terms: Vec<Term>,
+    pub quads: Vec<Quad<u32>>,
+    pub names: Vec<u32>,
+}
+
 /// The place of a graph's name.
 fn placed_name(terms: &mut TermTable, name: Option<Term>) -> Result<Option<u32>, AllocError>
     ensures name { IfOk result (λ n. option_map (term_at terms.new) n ≡ name) }
@@ -290,5 +298,20 @@ impl DataSet {
             quads: self.quads.as_slice(),
             names: self.names.as_slice(),
         }
+    }
+    /// The same, taken out of it, so that no term is copied. An `Err` comes only where memory runs out.
+    pub fn into_parts(self, alloc: Global) -> Result<OwnedParts, AllocError>
+        ensures parts { IfOk result (λ parts. dataset_at parts.terms.items parts.quads.items
+            parts.names.items ≡ self) }
+        ensures within { IfOk result (λ parts. AreWithin parts.terms.items parts.quads.items
+            parts.names.items) }
+        ensures dataset { IsDataset term_order self }
+    {
+        let terms = self.terms.into_list(alloc)?;
+        Ok(OwnedParts {
+            terms,
+            quads: self.quads,
+            names: self.names,
+        })
     }
 }

@@ -16,7 +16,7 @@ mod term_cow;
 mod text;
 pub mod vocabulary;
 
-pub use dataset::{DataSet, Parts, push_both};
+pub use dataset::{DataSet, OwnedParts, Parts, push_both};
 pub use literal::{Blank, Literal};
 pub use table::TermTable;
 pub use term::Term;

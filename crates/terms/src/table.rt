@@ -181,7 +181,7 @@ impl TermTable {
     }
 
     /// The terms in the order in which they came. It fails where memory runs out.
-    fn into_list(self, alloc: Global) -> Result<Vec<Term>, AllocError>
+    pub(crate) fn into_list(self, alloc: Global) -> Result<Vec<Term>, AllocError>
         ensures { IfOk result (λ list. list.items ≡ self) }
     {
         match self.terms {

@@ -1,14 +1,10 @@
-use Rattle.std.proofs.Common.{rules}
-use Rattle.std.proofs.lemmas.List.Sorted.{ranks_by}
-use Rattle.std.proofs.lemmas.Fn.{always_returns_same}
+use Rattle.std.proofs.Common.{sym, ap, ◌∙◌}
+use Rattle.std.specs.List.{list_any}
 use Rattle.std.specs.Ordering.{is_lt}
-use Rattle.terms.specs.Term.{term_order}
-use Rattle.terms.specs.TermLaws.{term_total}
-use Rattle.dict.specs.declared.ranks.Placed.{Placed}
-use Rattle.dict.specs.Ranks.{term_in}
+use Rattle.dict.proofs.StepLaws.{rises_throughout}
 use Rattle.dict.proofs.ranks.by_terms.Goals as goal
 
-pub returns-then-not-rises_by-clause-sorted : goal.returns-then-not-rises_by-clause-sorted
-returns-then-not-rises_by-clause-sorted g c =
-    c.sort_unstable_by.ensures.sorted (λ (x y : Placed). is_lt (term_order (term_in x) (term_in y)))
-    (ranks_by term_total term_in) (search (rules, always_returns_same))
+pub returns-clause-sorted : goal.returns-clause-sorted
+returns-clause-sorted c =
+    rises_throughout c.args.moved.items c.args.steps.items c.requires
+    (ap (list_any is_lt) (sym c.as_slice.ensures.value) ∙ sym c.falls.ensures ∙ c.if-falls.false)

@@ -1,28 +1,22 @@
-use Rattle.std.proofs.Common.{rules, List, map, subst}
-use Rattle.std.proofs.lemmas.List.Sorted.{IsPermutation-map, IsPermutation-trans, ranks_by}
-use Rattle.std.proofs.lemmas.Fn.{always_returns_same}
-use Rattle.std.specs.Ordering.{is_lt}
+use Rattle.std.proofs.Common.{List, ◌++◌, map, subst}
+use Rattle.std.proofs.lemmas.List.Sorted.{IsPermutation-map, IsPermutation-trans}
+use Rattle.std.proofs.lemmas.Result.{IfOk-weaker}
 use Rattle.std.specs.List.Sorted.{IsPermutation}
 use Rattle.terms.specs.declared.term.Term.{Term}
-use Rattle.terms.specs.Term.{term_order}
-use Rattle.terms.specs.TermLaws.{term_total}
-use Rattle.dict.specs.declared.ranks.Placed.{Placed}
 use Rattle.dict.specs.Ranks.{term_in}
 use Rattle.dict.proofs.Gathering.{still_placed}
 use Rattle.dict.proofs.ranks.in_order.Goals as goal
 
-both_moved : (c : goal.After-sort_unstable_by-2) → IsPermutation c.in_ok-placed.placed.items c.sort_unstable_by-2.new.self.items
-both_moved c = IsPermutation-trans _ _ _ c.sort_unstable_by.ensures.permutation c.sort_unstable_by-2.ensures.permutation
-
 pub returns-clause-placed : goal.returns-clause-placed
 returns-clause-placed c =
-    still_placed _ c.in_ok-placed.placed.items c.sort_unstable_by-2.new.self.items (both_moved c) c.in_ok-placed.ensures.placed
+    IfOk-weaker c.by_terms.result _ _
+    (λ r same. still_placed (c.args.terms.items ++ c.args.more.items) c.in_ok-placed.placed.items r.placed.items
+    (IsPermutation-trans _ _ _ c.sort_unstable_by.ensures.permutation same) c.in_ok-placed.ensures.placed)
+    c.by_terms.ensures.same
 
 pub returns-clause-same : goal.returns-clause-same
 returns-clause-same c =
-    subst (λ (ts : List Term). IsPermutation ts (map term_in c.sort_unstable_by-2.new.self.items)) c.in_ok-placed.ensures.terms_are (IsPermutation-map term_in _ _ (both_moved c))
-
-pub returns-clause-sorted : goal.returns-clause-sorted
-returns-clause-sorted c =
-    c.sort_unstable_by-2.ensures.sorted (λ (x y : Placed). is_lt (term_order (term_in x) (term_in y)))
-    (ranks_by term_total term_in) (search (rules, always_returns_same))
+    IfOk-weaker c.by_terms.result _ _
+    (λ r same. subst (λ (ts : List Term). IsPermutation ts (map term_in r.placed.items)) c.in_ok-placed.ensures.terms_are
+    (IsPermutation-map term_in _ _ (IsPermutation-trans _ _ _ c.sort_unstable_by.ensures.permutation same)))
+    c.by_terms.ensures.same

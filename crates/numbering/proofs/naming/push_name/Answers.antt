@@ -1,11 +1,9 @@
-use Rattle.numbering.proofs.Places.{name_more, places_kept}
+use Rattle.std.proofs.Common.{◌∙◌}
+use Rattle.numbering.proofs.Places.{name_more, known_kept}
 use Rattle.numbering.proofs.naming.push_name.Goals as goal
 
-pub returns-clause-places : goal.returns-clause-places
-returns-clause-places c =
-    places_kept c.terms_keep_places.ensures c.args.table.now c.place_of.new.table c.in_ok-placed.ensures.kept c.args.dict.now c.args.places.now c.requires.places
-
 pub returns-clause-stands : goal.returns-clause-stands
-returns-clause-stands c = λ done s.
-    name_more c.terms_keep_places.ensures c.args.dict.now c.args.table.now c.place_of.new.table c.in_ok-placed.ensures.kept c.args.list.now.items c.push.new.self.items done
-    c.in_ok-placed.placed c.args.name c.in_ok-push.ensures.items c.in_ok-placed.ensures.term c.in_ok-placed.ensures.within s
+returns-clause-stands c = λ dict done on known s.
+    name_more c.terms_keep_places.ensures dict c.args.table.now c.place_of.new.table c.in_ok-placed.ensures.kept c.args.list.now.items c.push.new.self.items done
+    c.in_ok-placed.placed c.args.name c.in_ok-push.ensures.items
+    (c.in_ok-placed.ensures.term ∙ (known_kept c.terms_keep_places.ensures dict c.args.table.now on c.args.name known).0) c.in_ok-placed.ensures.within s

@@ -11,16 +11,16 @@ use Rattle.nquads.specs.Canonical.{ended}
 use Rattle.nquads.specs.Placed.{graph_line_at, quad_text_at}
 use Rattle.nquads.proofs.CanonicalLaws.{canonical_is}
 use Rattle.nquads.proofs.PlacedLines.{quads_within, names_within, lines_are}
-use Rattle.nquads.proofs.canonical.canonical_text_by.Goals as goal
+use Rattle.nquads.proofs.canonical.canonical_pieces_by.Goals as goal
 
-pub text_of_lines_by-requires-clause-quads : goal.text_of_lines_by-requires-clause-quads
-text_of_lines_by-requires-clause-quads g c =
+pub pieces_of_lines_by-requires-clause-quads : goal.pieces_of_lines_by-requires-clause-quads
+pieces_of_lines_by-requires-clause-quads g c =
     λ _ _.
     ap (λ ts. list_all (is_quad_within ts) c.parts-parts.result.quads.now) (c.as_slice.ensures.value ∙ c.in_ok-texts.ensures)
     ∙ quads_within c.parts-parts.result.terms.now c.args.tag c.parts-parts.result.quads.now ∙ c.parts-parts.ensures.within.0
 
-pub text_of_lines_by-requires-clause-names : goal.text_of_lines_by-requires-clause-names
-text_of_lines_by-requires-clause-names g c =
+pub pieces_of_lines_by-requires-clause-names : goal.pieces_of_lines_by-requires-clause-names
+pieces_of_lines_by-requires-clause-names g c =
     λ _ _.
     ap (λ ts. list_all (is_within ts) c.parts-parts.result.names.now) (c.as_slice.ensures.value ∙ c.in_ok-texts.ensures)
     ∙ names_within c.parts-parts.result.terms.now c.args.tag c.parts-parts.result.names.now ∙ c.parts-parts.ensures.within.1
@@ -30,7 +30,7 @@ returns g c =
     let texts_are = c.as_slice.ensures.value ∙ c.in_ok-texts.ensures in
     let terms = c.parts-parts.result.terms.now in
     let placed = c.parts-parts.result.quads.now in
-    c.in_ok-text.ensures
+    c.in_ok-pieces.ensures
     ∙ ap (flat_map ended) (ap (set_of text_cmp)
     (ap (λ ts. map (quad_text_at ts) placed ++ map (graph_line_at ts) (filter (λ p. not (contains nat_eq c.in_ok-full.full p)) c.parts-parts.result.names.now)) texts_are
     ∙ lines_are terms c.args.tag c.parts-parts.ensures.once c.quads_name_their_graphs.ensures placed c.parts-parts.ensures.within.0

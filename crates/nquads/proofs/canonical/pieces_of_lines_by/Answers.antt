@@ -9,10 +9,10 @@ use Rattle.terms.specs.Placed.{is_within, is_quad_within}
 use Rattle.nquads.specs.Canonical.{ended}
 use Rattle.nquads.specs.Placed.{graph_line_at, quad_text_at}
 use Rattle.nquads.proofs.RisingLaws.{same_lines, still_all}
-use Rattle.nquads.proofs.canonical.text_of_lines_by.Goals as goal
+use Rattle.nquads.proofs.canonical.pieces_of_lines_by.Goals as goal
 
-pub rising_text_by-requires : goal.rising_text_by-requires
-rising_text_by-requires g c =
+pub rising_pieces_by-requires : goal.rising_pieces_by-requires
+rising_pieces_by-requires g c =
     let texts = c.args.texts.now in (
       c.type_bounds.sync-T,
       (
