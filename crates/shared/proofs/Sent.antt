@@ -36,7 +36,6 @@ use Rattle.datasets.proofs.id.Id.TheSendSync as id
 use Rattle.datasets.specs.contracts.quad.Quad as Quad
 use Rattle.datasets.specs.contracts.read.Read as Read
 use Rattle.datasets.specs.contracts.read.QuadPattern as QuadPattern
-use Rattle.datasets.specs.contracts.read.Answer as Answer
 use Rattle.iris.specs.contracts.iri.Iri as Iri
 use Rattle.terms.specs.contracts.literal.Literal as Literal
 use Rattle.terms.specs.contracts.literal.Blank as Blank
@@ -45,6 +44,7 @@ use Rattle.dict.specs.contracts.dictionary.Dict as Dict
 use Rattle.reads.specs.contracts.view.View as View
 use Rattle.reads.specs.contracts.indexed.IndexedView as IndexedView
 use Rattle.reads.specs.contracts.answered.Answered as Answered
+use Rattle.reads.specs.contracts.answered.KeptAnswer as KeptAnswer
 use Rattle.reads.specs.contracts.shared_items.SharedItems as SharedItems
 use Rattle.delta.specs.contracts.delta.Delta as Delta
 use Rattle.delta.specs.contracts.parts.Parts as Parts
@@ -52,6 +52,7 @@ use Rattle.delta.specs.contracts.finished.Finished as Finished
 use Rattle.reads.specs.contracts.note.Note as Note
 use Rattle.quad_index.specs.contracts.known.KnownQuad as KnownQuad
 use Rattle.quad_index.specs.contracts.quad_list.Entries as Entries
+use Rattle.quad_index.specs.contracts.quad_list.QuadList as QuadList
 use Rattle.quad_index.specs.contracts.order.Order as Order
 use Rattle.quad_index.specs.contracts.index.Index as Index
 use Rattle.quad_sets.specs.contracts.quad_set.QuadSet as QuadSet
@@ -186,15 +187,6 @@ read_sync = let p = scan_pattern_sync in let i = id.the_field_sync in let j = id
 quad : IsSend (Quad.the_row Id.the_row)
 quad = let i = id.the_field_send in search (sendable, crosses) depth 20
 
-pub view : IsSync (View.the_row)
-view = let q = quad_sync in let i = id.the_sync in search (sendable, crosses) depth 20
-
-answer : IsSend (Answer.the_row Id.the_row)
-answer = let q = quad in let i = id.the_send in search (sendable, crosses) depth 20
-
-answer_sync : IsSync (Answer.the_row Id.the_row)
-answer_sync = let q = quad_sync in let i = id.the_sync in search (sendable, crosses) depth 20
-
 known_quad : IsSync (KnownQuad.the_row)
 known_quad = search (sendable, crosses) depth 20
 
@@ -212,6 +204,21 @@ quad_set = let e = entries in search (sendable, crosses) depth 20
 
 quad_set_send : IsSend (QuadSet.the_field).row
 quad_set_send = let e = entries_send in search (sendable, crosses) depth 20
+
+quad_list : IsSync (QuadList.the_field).row
+quad_list = let e = entries in search (sendable, crosses) depth 20
+
+quad_list_send : IsSend (QuadList.the_field).row
+quad_list_send = let e = entries_send in search (sendable, crosses) depth 20
+
+pub view : IsSync (View.the_row)
+view = let q = quad_set in let i = id.the_sync in search (sendable, crosses) depth 20
+
+answer : IsSend (KeptAnswer.the_row)
+answer = let q = quad_list_send in let i = id.the_send in search (sendable, crosses) depth 20
+
+answer_sync : IsSync (KeptAnswer.the_row)
+answer_sync = let q = quad_list in let i = id.the_sync in search (sendable, crosses) depth 20
 
 parts : IsSend (Parts.the_row)
 parts = let q = quad_set_send in let i = id.the_send in search (sendable, crosses) depth 20
