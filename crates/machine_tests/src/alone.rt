@@ -68,8 +68,8 @@ impl<'s, 'a> Asking<'s, 'a> {
     }
 }
 
-// The pass that answered the reads of a run of the request, and the run, if it came to its end.
-fn executed<'a>(
+/// The pass that answered the reads of a run of the request, and the run, if it came to its end.
+pub fn executed<'a>(
     alloc: Global,
     shared: &SharedBlock<'a>,
     topic: &Topic<'a>,

@@ -2,9 +2,9 @@
 ghost use Rattle.reads.specs.Reads.{IsDataset};
 ghost use Rattle.shared.specs.Duty.{IsPassFor};
 
-use crate::alone::publish;
+use crate::alone::{executed, publish};
 use crate::lines::{Step, Told, told_by};
-use crate::numbers::numbered;
+use crate::numbers::{numbered, request_at};
 use crate::sharing::{BLOCK, are_told, last, opened};
 use crate::topic::Topic;
 use block_machine::Reply;
@@ -37,6 +37,32 @@ fn settles<'a, R: Wait>(
         }
         _ => Ok(false),
     }
+}
+
+// Takes the first request, runs it, and publishes and settles its run.
+fn publishes_settled<'a, R: Wait>(
+    rt: &R,
+    alloc: Global,
+    shared: &SharedBlock<'a>,
+    topic: &Topic<'a>,
+    mut pass: Pass<'a>,
+    replies: &mut Vec<Reply>,
+) -> Result<bool, AllocError>
+    requires { IsPassFor (record { table = shared.now; subject = topic.now }) pass }
+{
+    let take = [(Step::Take(0), Told::Taken(0))];
+    if !are_told(alloc, shared, topic, &mut pass, &take) {
+        return Ok(false);
+    }
+    let Some(request) = request_at(topic.block, 0) else {
+        return Ok(false);
+    };
+    let (mut pass, run) = executed(alloc, shared, topic, pass, 0, request);
+    let Some(run) = run else {
+        return Ok(false);
+    };
+    let until = topic.block.len();
+    shared.publish_settled(rt, alloc, &mut pass, 0, 0, run, 1, until, replies)
 }
 
 // Takes the second request and reads all quads and all names for it.
@@ -94,6 +120,21 @@ fn replies_of<R: Wait>(rt: &R, alloc: Global, topic: &Topic<'_>) -> Result<Vec<R
     replies_to_both(rt, alloc, &shared, topic, first, second)
 }
 
+// The replies to one worker that publishes and settles in one hold.
+fn replies_to_publication<R: Wait>(
+    rt: &R,
+    alloc: Global,
+    topic: &Topic<'_>,
+) -> Result<Vec<Reply>, AllocError>
+    requires { IsDataset topic.now.base }
+{
+    let (shared, mut passes) = opened(alloc, topic, 1)?;
+    let pass = last(&shared, topic, &mut passes);
+    let mut replies = Vec::new(alloc);
+    publishes_settled(rt, alloc, &shared, topic, pass, &mut replies)?;
+    Ok(replies)
+}
+
 // What is told, each with how many quads or names were answered.
 fn told(alloc: Global, replies: &[Reply]) -> Result<Vec<(Told, u64)>, AllocError> {
     let mut told = Vec::new(alloc);
@@ -125,6 +166,23 @@ fn are_expected<R: Wait>(rt: &R, alloc: Global, topic: &Topic<'_>) -> Result<boo
     Ok(told.as_slice() == EXPECTED.as_slice())
 }
 
+const PUBLISHED: [(Told, u64); 5] = [
+    (Told::Published, 0),
+    (Told::Begun, 0),
+    (Told::Passed, 0),
+    (Told::Committed, 0),
+    (Told::NotYet, 0),
+];
+
+// Whether the one worker is told so.
+fn is_published<R: Wait>(rt: &R, alloc: Global, topic: &Topic<'_>) -> Result<bool, AllocError>
+    requires { IsDataset topic.now.base }
+{
+    let replies = replies_to_publication(rt, alloc, topic)?;
+    let told = told(alloc, replies.as_slice())?;
+    Ok(told.as_slice() == PUBLISHED.as_slice())
+}
+
 #[test]
 fn many_events_in_one_hold(rt: HostRuntime) -> Result<(), Fail> {
     let alloc = rt.alloc();
@@ -136,5 +194,6 @@ fn many_events_in_one_hold(rt: HostRuntime) -> Result<(), Fail> {
         block: &numbered.block,
     };
     assert!(rt; are_expected(&rt, alloc, &topic)?);
+    assert!(rt; is_published(&rt, alloc, &topic)?);
     Ok(())
 }

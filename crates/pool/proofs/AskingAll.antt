@@ -44,12 +44,12 @@ not_refused o n w reply Row on h = by_status o h
 -- the reply to a read that stops a run doesn't let the worker go on
 stops_here : (base : View) (s : State) (w i n : ℕ) (r : Read) (reply : Reply) (stop : Stop) → IsAllowed base s w (ReadOf i n r) reply → Err stop ≡ told_by reply → lets_go_on reply ≡ false
 stops_here base s w i n r (told.Answered a) stop h is = absurd (cc)
+stops_here base s w i n r told.Published stop h is = absurd (not_refused (status_of s.slots i) n w told.Published _ refl h)
 stops_here base s w i n r told.Begun stop h is = absurd (not_refused (status_of s.slots i) n w told.Begun _ refl h)
 stops_here base s w i n r told.Passed stop h is = absurd (not_refused (status_of s.slots i) n w told.Passed _ refl h)
 stops_here base s w i n r told.Committed stop h is = absurd (not_refused (status_of s.slots i) n w told.Committed _ refl h)
 stops_here base s w i n r (told.Taken m) stop h is = refl
 stops_here base s w i n r (told.Blocked j) stop h is = refl
-stops_here base s w i n r told.Published stop h is = refl
 stops_here base s w i n r told.Aborted stop h is = refl
 stops_here base s w i n r told.Given stop h is = refl
 stops_here base s w i n r told.Stale stop h is = refl
@@ -59,12 +59,12 @@ stops_here base s w i n r told.NotYet stop h is = refl
 -- a reply that gives an answer lets it go on
 goes_on_here : (reply : Reply) (a : Answer) → Ok a ≡ told_by reply → lets_go_on reply ≡ true
 goes_on_here (told.Answered b) a is = refl
+goes_on_here told.Published a is = refl
 goes_on_here told.Begun a is = refl
 goes_on_here told.Passed a is = refl
 goes_on_here told.Committed a is = refl
 goes_on_here (told.Taken m) a is = absurd (cc)
 goes_on_here (told.Blocked j) a is = absurd (cc)
-goes_on_here told.Published a is = absurd (cc)
 goes_on_here told.Aborted a is = absurd (cc)
 goes_on_here told.Given a is = absurd (cc)
 goes_on_here told.Stale a is = absurd (cc)

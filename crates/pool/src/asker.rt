@@ -105,6 +105,7 @@ fn scans_of_all<'a>(
     ensures { IfOk result (λ scans. scans.items ≡ questions base.now reads.now) }
 {
     let mut scans = Vec::new(alloc);
+    scans.reserve(reads.len())?;
     for read in reads {
         let scanned = Scanned::new(alloc, base, read)?;
         scans.push(scanned)?;

@@ -1,7 +1,8 @@
 //! How many notes the runs have that were published.
 //!
-//! A worker that begins a pass of checks of a run that another has published takes from here how many checks it makes before it commits. What
-//! it is told changes which events it makes and nothing else, so no contract speaks of it.
+//! A worker that begins a pass of checks of a run that another has published takes from here how many checks it makes before it commits, and
+//! that it need not try to commit what nobody has published. What it is told changes which events it makes and nothing else, so no contract
+//! speaks of it.
 
 use std::alloc::{AllocError, Global};
 use std::sync::atomic::{AtomicUsize, Ordering};
@@ -9,6 +10,7 @@ use std::sync::atomic::{AtomicUsize, Ordering};
 /// How many notes the last published run of each request has, which all workers share.
 #[derive(Drop)]
 pub(crate) struct Lengths {
+    // One more than the notes, and 0 before any run.
     notes: Vec<AtomicUsize>,
 }
 
@@ -22,18 +24,27 @@ impl Lengths {
         Ok(Lengths { notes })
     }
 
-    /// How many notes the request's run has that was published last.
-    pub(crate) fn at(&self, place: usize) -> usize {
+    fn count_at(&self, place: usize) -> usize {
         match self.notes.get(place) {
-            Some(notes) => notes.load(Ordering::SeqCst),
+            Some(count) => count.load(Ordering::SeqCst),
             None => 0,
         }
+    }
+
+    /// How many notes the request's run has that was published last.
+    pub(crate) fn at(&self, place: usize) -> usize {
+        self.count_at(place).saturating_sub(1)
+    }
+
+    /// Whether a run of the request is published, or is about to be.
+    pub(crate) fn is_published(&self, place: usize) -> bool {
+        self.count_at(place) > 0
     }
 
     /// A run of the request with so many notes is published.
     pub(crate) fn put(&self, place: usize, notes: usize) {
         if let Some(it) = self.notes.get(place) {
-            it.store(notes, Ordering::SeqCst);
+            it.store(notes.saturating_add(1), Ordering::SeqCst);
         }
     }
 }

@@ -1,9 +1,11 @@
 //! How far ahead of the committed requests others are begun.
 //!
 //! Where each request reads what the one before it writes, what runs ahead runs in vain, and takes the lock and the processors from the one
-//! that gets on. So each run that comes to nothing halves how far ahead one may be, and each commit lets it grow by a little. That changes
-//! when a request is begun and nothing else.
+//! that gets on. So each run that comes to nothing halves how far ahead one may be, and each commit lets it grow by a little. Where as many
+//! requests are run as may be ahead, a worker more would find nothing to do: it waits, and leaves the book to the others. That changes when a
+//! request is begun and nothing else.
 
+use crossbeam_utils::Backoff;
 use std::sync::atomic::{AtomicUsize, Ordering};
 
 /// How far ahead a request may be at first, and at most, in eighths of a request: as far as there may be workers.
@@ -12,12 +14,17 @@ const MOST_EIGHTHS: usize = 512;
 /// How far ahead a request may be at least, in eighths: the first that is not committed is always begun.
 const LEAST_EIGHTHS: usize = 8;
 
+/// After how many looks a worker that waits for room asks the book all the same.
+const MOST_LOOKS: usize = 64;
+
 /// How far ahead of the committed requests others are begun, which all workers share.
 #[derive(Drop)]
 pub(crate) struct Pace {
     eighths: AtomicUsize,
     // How many commits were told: no more than there are, and in the end as many.
     committed: AtomicUsize,
+    // How many requests are run now.
+    running: AtomicUsize,
 }
 
 impl Pace {
@@ -26,13 +33,43 @@ impl Pace {
         Pace {
             eighths: AtomicUsize::new(MOST_EIGHTHS),
             committed: AtomicUsize::new(0),
+            running: AtomicUsize::new(0),
         }
+    }
+
+    fn most(&self) -> usize {
+        self.eighths.load(Ordering::SeqCst) / 8
     }
 
     /// Whether the request at a place may be begun now.
     pub(crate) fn allows(&self, place: usize) -> bool {
         let ahead = place.saturating_sub(self.committed.load(Ordering::SeqCst));
-        ahead < self.eighths.load(Ordering::SeqCst) / 8
+        ahead < self.most()
+    }
+
+    /// A request was taken, and is run.
+    pub(crate) fn begin(&self) {
+        self.running.fetch_add(1, Ordering::SeqCst);
+    }
+
+    /// It is run no more.
+    pub(crate) fn end(&self) {
+        self.running.fetch_sub(1, Ordering::SeqCst);
+    }
+
+    /// Waits while as many requests are run as may be ahead, but not for long.
+    pub(crate) fn wait_for_room(&self, backoff: &Backoff) {
+        for _look in 0..MOST_LOOKS {
+            if self.running.load(Ordering::SeqCst) < self.most() {
+                return;
+            }
+            backoff.snooze();
+        }
+    }
+
+    /// Whether so many commits were told.
+    pub(crate) fn are_committed(&self, requests: usize) -> bool {
+        requests <= self.committed.load(Ordering::SeqCst)
     }
 
     /// One more request is committed.

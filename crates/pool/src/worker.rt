@@ -117,32 +117,23 @@ impl<'s, 'a, R: Wait, G: Gate> Workers<'s, 'a, R, G> {
         Ok(())
     }
 
-    // Publishes a finished run, and leaves the request where that is refused. It answers whether it was published.
-    fn publish(&self, pass: &mut Pass<'a>, turn: Turn, run: Finished) -> Result<bool, AllocError>
-        requires pass { IsPassFor self.now pass.old }
-        requires sound { IsSoundAt self.now.subject turn.place run }
-        ensures { IsPassFor self.now pass.new }
-    {
-        let Turn { place, incarnation } = turn;
-        let reply = self
-            .shared
-            .publish_owned(self.rt, self.alloc, pass, place, incarnation, run)?;
-        let event = Event::Publish(place, incarnation, None);
-        if let Reply::Published = self.shown(pass, event, reply) {
-            return Ok(true);
-        }
-        self.give_up(pass, turn)?;
-        Ok(false)
-    }
-
-    // Shows the gate the replies of a settling, in order.
-    fn show_settled(&self, pass: &Pass<'a>, turn: Turn, notes: usize, replies: Vec<Reply>) {
+    // Shows the gate the replies of a settling, in order, before which a publication may stand.
+    fn show_settled(
+        &self,
+        pass: &Pass<'a>,
+        turn: Turn,
+        notes: usize,
+        is_published: bool,
+        replies: Vec<Reply>,
+    ) {
         let Turn { place, incarnation } = turn;
         let mut front = place;
+        let skipped = if is_published { 0 } else { 1 };
         for (k, reply) in replies.into_iter().enumerate() {
-            let event = match k {
-                0 => Event::Begin(place, incarnation),
-                k if k <= notes => Event::Check(place, incarnation),
+            let event = match k.saturating_add(skipped) {
+                0 => Event::Publish(place, incarnation, None),
+                1 => Event::Begin(place, incarnation),
+                k if k <= notes.saturating_add(1) => Event::Check(place, incarnation),
                 _ => Event::Commit(front),
             };
             match self.shown(pass, event, reply) {
@@ -156,6 +147,47 @@ impl<'s, 'a, R: Wait, G: Gate> Workers<'s, 'a, R, G> {
         }
     }
 
+    // Below which place a worker commits while it holds the book once: from a place on those whose runs are published.
+    fn until(&self, place: usize) -> usize {
+        let most = self.block.len().min(place.saturating_add(MOST_COMMITS));
+        for next in place.saturating_add(1)..most {
+            if !self.lengths.is_published(next) {
+                return next;
+            }
+        }
+        most
+    }
+
+    // Publishes a finished run and settles it while the book is held once, and leaves the request where the publication is refused. It answers
+    // whether it was published.
+    fn publish(&self, pass: &mut Pass<'a>, turn: Turn, run: Finished) -> Result<bool, AllocError>
+        requires pass { IsPassFor self.now pass.old }
+        requires sound { IsSoundAt self.now.subject turn.place run }
+        ensures { IsPassFor self.now pass.new }
+    {
+        let Turn { place, incarnation } = turn;
+        let notes = run.transcript.len();
+        let mut replies = Vec::new(self.alloc);
+        let made = self.shared.publish_settled(
+            self.rt,
+            self.alloc,
+            pass,
+            place,
+            incarnation,
+            run,
+            notes,
+            self.until(place),
+            &mut replies,
+        );
+        let is_published = matches!(replies.first(), Some(Reply::Published));
+        self.show_settled(pass, turn, notes, true, replies);
+        made?;
+        if !is_published {
+            self.give_up(pass, turn)?;
+        }
+        Ok(is_published)
+    }
+
     // Settles a published run of so many notes while the book is held once: its checks, as long as they pass, and the commits of the request
     // and of those behind it, as long as each can be committed. It answers whether its pass of checks was begun.
     fn settle(&self, pass: &mut Pass<'a>, turn: Turn, notes: usize) -> Result<bool, AllocError>
@@ -163,7 +195,6 @@ impl<'s, 'a, R: Wait, G: Gate> Workers<'s, 'a, R, G> {
         ensures { IsPassFor self.now pass.new }
     {
         let Turn { place, incarnation } = turn;
-        let until = self.block.len().min(place.saturating_add(MOST_COMMITS));
         let mut replies = Vec::new(self.alloc);
         let settled = self.shared.settle(
             self.rt,
@@ -172,11 +203,11 @@ impl<'s, 'a, R: Wait, G: Gate> Workers<'s, 'a, R, G> {
             place,
             incarnation,
             notes,
-            until,
+            self.until(place),
             &mut replies,
         );
         let is_begun = matches!(replies.first(), Some(Reply::Begun));
-        self.show_settled(pass, turn, notes, replies);
+        self.show_settled(pass, turn, notes, false, replies);
         settled?;
         Ok(is_begun)
     }
@@ -200,12 +231,11 @@ impl<'s, 'a, R: Wait, G: Gate> Workers<'s, 'a, R, G> {
             self.give_up(&mut pass, turn)?;
             return Ok((pass, false));
         };
-        let notes = run.transcript.as_slice().len();
-        self.lengths.put(turn.place, notes);
+        // An owner more, so that its memory is given back here, and not while the book is held.
+        let transcript = run.transcript.copied()?;
+        self.lengths.put(turn.place, transcript.len());
         let is_published = self.publish(&mut pass, turn, run)?;
-        if is_published {
-            self.settle(&mut pass, turn, notes)?;
-        }
+        drop(transcript);
         Ok((pass, is_published))
     }
 
@@ -227,7 +257,10 @@ impl<'s, 'a, R: Wait, G: Gate> Workers<'s, 'a, R, G> {
         let Reply::Taken(incarnation) = self.shown(&pass, Event::Take(place), reply) else {
             return Ok((pass, false));
         };
-        self.run_taken(pass, Turn { place, incarnation }, request)
+        self.pace.begin();
+        let run = self.run_taken(pass, Turn { place, incarnation }, request);
+        self.pace.end();
+        run
     }
 
     // Checks the next note of the pass of checks. It answers whether that passed.
@@ -305,14 +338,17 @@ impl<'s, 'a, R: Wait, G: Gate> Workers<'s, 'a, R, G> {
             if self.stopped.load(Ordering::SeqCst) {
                 return Err(AllocError);
             }
+            self.pace.wait_for_room(&backoff);
             let (next, got_on) = self.advance(pass)?;
             pass = next;
             if got_on {
                 backoff.reset();
                 continue;
             }
-            if self.shared.front(self.rt, &mut pass) >= self.block.len() {
-                return Ok(pass);
+            if self.pace.are_committed(self.block.len()) {
+                if self.shared.front(self.rt, &mut pass) >= self.block.len() {
+                    return Ok(pass);
+                }
             }
             backoff.snooze();
         }

@@ -1,8 +1,7 @@
 -- A pass that answers the reads of a run.
-use Rattle.std.proofs.Common.{◌≡◌, Result, ◌⊎◌, inl, inr, ◌∙◌}
+use Rattle.std.proofs.Common.{◌≡◌, Result, inl, inr}
 use Rattle.reads.specs.Reads.{Read, Answer}
 use Rattle.reads.specs.declared.source.Stop.{Stop}
-use Rattle.shared.specs.Calls.{Viewed}
 use Rattle.shared.specs.Asks.{Asker, Asks}
 
 -- asking changes of the pass only what it has seen

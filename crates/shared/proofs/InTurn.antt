@@ -1,5 +1,5 @@
 -- Events that a worker makes in turn.
-use Rattle.std.proofs.Common.{◌≡◌, ℕ, ◌+◌, ◌-◌, ◌<◌, ◌≤◌, eqb, Bool, true, false, List, [], ◌∷◌, ◌++◌, append_assoc, append-nil, length, get_or, take, drop, add-one, arith, refl, sym, ap, subst, ◌∙◌, Result, Ok, Err, ◌⊎◌, inl, inr}
+use Rattle.std.proofs.Common.{◌≡◌, ℕ, ◌+◌, ◌-◌, ◌<◌, ◌≤◌, eqb, Bool, true, false, List, [], ◌∷◌, ◌++◌, append_assoc, append-nil, length, get_or, take, drop, add-one, arith, refl, sym, ap, subst, ◌∙◌, Result, Ok, Err, inl, inr}
 use Rattle.std.proofs.lemmas.Bool.{eq-eqb}
 use Rattle.std.proofs.lemmas.List.{length-map, length-replicate, take-append-drop, take_all, take_more, drop_more, get_or-replicate, get_or-map}
 use Rattle.std.proofs.lemmas.List.FromFn.{length-map-range_with_len, get_or-map-range_with_len}
@@ -16,7 +16,7 @@ use Rattle.book.specs.Run.{Run, state_of, setting_of}
 use Rattle.blocklock.specs.History.{of_worker, GoesOn}
 use Rattle.blocklock.specs.Passes.{Takes, Watches, given}
 use Rattle.shared.specs.declared.kept.Subject.{Subject}
-use Rattle.shared.specs.Calls.{Viewed, owner, history_of, run_of, entry, Answers, Unmade}
+use Rattle.shared.specs.Calls.{Viewed, owner, history_of, run_of, entry, Answers}
 use Rattle.shared.specs.InTurn.{lets_go_on, InTurn, Adds, questions, reading, checking, committing, Went}
 use Rattle.shared.proofs.Made.{none_between, unmade_so, watches}
 

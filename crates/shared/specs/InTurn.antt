@@ -1,12 +1,13 @@
 -- Many events of a worker in one hold of a shared book.
-use Rattle.std.specs.Prelude.{◌≡◌, ℕ, ◌-◌, Bool, true, false, List, [], ◌∷◌, ◌++◌, map, replicate, Result, Ok, Err, ◌⊎◌}
+use Rattle.std.specs.Prelude.{◌≡◌, ℕ, ◌-◌, Bool, true, false, List, [], ◌∷◌, ◌++◌, map, replicate, Some, Result, Ok, Err, ◌⊎◌}
 use Rattle.std.specs.List.{range_with_len}
 use Rattle.reads.specs.Reads.{View, Read}
 use Rattle.reads.specs.Questions.{Question}
+use Rattle.delta.specs.declared.finished.Finished.{Finished}
 use Rattle.block_machine.specs.declared.state.Event.{Event}
-use Rattle.block_machine.specs.declared.state.Event.TheVariants.{Read as ReadOf, Begin, Check, Commit}
+use Rattle.block_machine.specs.declared.state.Event.TheVariants.{Read as ReadOf, Publish, Begin, Check, Commit}
 use Rattle.block_machine.specs.declared.state.Reply.{Reply}
-use Rattle.block_machine.specs.declared.state.Reply.TheVariants.{Answered, Begun, Passed, Committed}
+use Rattle.block_machine.specs.declared.state.Reply.TheVariants.{Answered, Published, Begun, Passed, Committed}
 use Rattle.book.specs.Run.{Run}
 use Rattle.blocklock.specs.History.{GoesOn}
 use Rattle.blocklock.specs.Passes.{given}
@@ -15,6 +16,7 @@ use Rattle.shared.specs.Calls.{Viewed, owner, history_of, Answers, Unmade}
 -- whether a worker goes on in the same hold after this reply
 abbrev pub lets_go_on : Reply → Bool
 lets_go_on (Answered answer) = true
+lets_go_on Published = true
 lets_go_on Begun = true
 lets_go_on Passed = true
 lets_go_on Committed = true
@@ -53,6 +55,10 @@ checking i n notes = Begin i n ∷ replicate notes (Check i n)
 -- the commits of the requests from one place on and below another
 abbrev pub committing : ℕ → ℕ → List Event
 committing i until = map (λ j. Commit j) (range_with_len i (until - i))
+
+-- a publication, and then what settles it: a pass of checks of the run, which has so many notes, and commits
+abbrev pub publishing : ℕ → ℕ → Finished → ℕ → ℕ → List Event
+publishing i n finished notes until = Publish i n (Some finished) ∷ (checking i n notes ++ committing i until)
 
 -- While a pass holds a book it made these events on it. They go on as calls of its own would, and no one else's entries come between.
 pub record Went {E : Type 0} (p : Viewed) (book book' : Run) (events : List Event) (before after : List Reply) (made : Result Bool E) : Type 0 where

@@ -1,14 +1,15 @@
 //! Many events of a worker in one hold of the lock. Where workers take the book from one another, a hold costs more than an event.
-ghost use Rattle.std.specs.Prelude.{◌≡◌, [], ◌∷◌, ◌++◌};
+ghost use Rattle.std.specs.Prelude.{◌≡◌, [], ◌∷◌, ◌++◌, Some};
 ghost use Rattle.block_machine.specs.Scans.{questions_of};
 ghost use Rattle.book.specs.Run.{IsSoundEvent};
 ghost use Rattle.shared.specs.Calls.{history_of};
-ghost use Rattle.shared.specs.InTurn.{questions, lets_go_on, checking, committing, reading, Went};
+ghost use Rattle.shared.specs.InTurn.{questions, lets_go_on, publishing, checking, committing, reading, Went};
 
 use crate::kept::Pass;
 use block_machine::{Event, Reply};
 use book::Book;
 use datasets::Read;
+use delta::Finished;
 use dict::Id;
 use reads::Scanned;
 use std::alloc::{AllocError, Global};
@@ -18,7 +19,8 @@ fn lets_go_on(reply: &Reply) -> bool
     ensures { result ≡ lets_go_on reply.now }
 {
     match reply {
-        Reply::Answered(_) | Reply::Begun | Reply::Passed | Reply::Committed => true,
+        Reply::Answered(_) | Reply::Published => true,
+        Reply::Begun | Reply::Passed | Reply::Committed => true,
         _ => false,
     }
 }
@@ -112,6 +114,30 @@ pub(crate) fn make_settling<'a>(
         return Ok(false);
     }
     make_commits(alloc, book, pass, i, until, replies)
+}
+
+/// On a book that the pass holds: the publication of a run, and then what settles it. It answers whether all were made and the worker goes on.
+pub(crate) fn make_publishing<'a>(
+    alloc: Global,
+    book: &mut Book<'a>,
+    pass: &Pass<'a>,
+    i: usize,
+    n: u64,
+    finished: Finished,
+    notes: usize,
+    until: usize,
+    replies: &mut Vec<Reply>,
+) -> Result<bool, AllocError>
+    requires subject { (history_of book.old).subject ≡ pass.now.subject }
+    requires sound { IsSoundEvent book.old (Event.Publish i n (Some finished)) }
+    ensures { Went pass.now book.old book.new (publishing i n finished notes until)
+        replies.old.items replies.new.items result }
+{
+    let event = Event::Publish(i, n, Some(finished));
+    if !make_next(alloc, book, pass, event, &[], replies)? {
+        return Ok(false);
+    }
+    make_settling(alloc, book, pass, i, n, notes, until, replies)
 }
 
 /// On a book that the pass holds: reads of an incarnation, each with what it says of the base. It answers whether all were answered.

@@ -2,9 +2,9 @@
 ghost use Rattle.std.specs.Prelude.{◌≡◌, ◌++◌, Some};
 ghost use Rattle.block_machine.specs.Scans.{questions_of};
 ghost use Rattle.shared.specs.Calls.{IsSoundAt, Made};
-ghost use Rattle.shared.specs.InTurn.{questions, reading, checking, committing, Adds};
+ghost use Rattle.shared.specs.InTurn.{questions, reading, publishing, checking, committing, Adds};
 
-use crate::in_turn::{make_reads, make_settling};
+use crate::in_turn::{make_publishing, make_reads, make_settling};
 use crate::kept::Pass;
 use crate::shared_block::SharedBlock;
 use block_machine::{Event, Reply};
@@ -80,23 +80,6 @@ impl<'a> SharedBlock<'a> {
     {
         let copy = finished.copied(alloc)?;
         self.make_waiting(rt, alloc, pass, Event::Publish(i, n, Some(copy)))
-    }
-
-    /// The same of a run that the caller gives away, with no copy.
-    pub fn publish_owned<R: Wait>(
-        &self,
-        rt: &R,
-        alloc: Global,
-        pass: &mut Pass<'a>,
-        i: usize,
-        n: u64,
-        finished: Finished,
-    ) -> Result<Reply, AllocError>
-        requires own { pass.old.table ≡ self.now }
-        requires sound { IsSoundAt pass.old.subject i finished }
-        ensures { Made pass.old pass.new (Event.Publish i n (Some finished)) result }
-    {
-        self.make_waiting(rt, alloc, pass, Event::Publish(i, n, Some(finished)))
     }
 
     /// Begins a pass of checks of incarnation `n` of a request.
@@ -185,6 +168,44 @@ impl<'a> SharedBlock<'a> {
             pass,
             i,
             n,
+            notes,
+            until,
+            replies,
+        );
+        held.give(pass);
+        made
+    }
+
+    /// Publishes a finished run of incarnation `n` of request `i`, which the caller gives away, and settles it, in one hold of the lock. It stops
+    /// behind the first reply that is none of `Published`, `Begun`, `Passed` and `Committed`, and answers whether there was none. The replies
+    /// come to the end of the list, those too after which a growth was refused.
+    pub fn publish_settled<R: Wait>(
+        &self,
+        rt: &R,
+        alloc: Global,
+        pass: &mut Pass<'a>,
+        i: usize,
+        n: u64,
+        finished: Finished,
+        notes: usize,
+        until: usize,
+        replies: &mut Vec<Reply>,
+    ) -> Result<bool, AllocError>
+        requires own { pass.old.table ≡ self.now }
+        requires sound { IsSoundAt pass.old.subject i finished }
+        ensures { Adds pass.old pass.new (publishing i n finished notes until)
+            replies.old.items replies.new.items result }
+    {
+        replies.reserve(notes.saturating_add(2))?;
+        let mut held = self.lock.hold(rt, pass);
+        let _before = held.book.book.journal();
+        let made = make_publishing(
+            alloc,
+            &mut held.book.book,
+            pass,
+            i,
+            n,
+            finished,
             notes,
             until,
             replies,

@@ -1,4 +1,4 @@
-use Rattle.std.proofs.Common.{rules, sym, subst}
+use Rattle.std.proofs.Common.{rules}
 use Rattle.std.proofs.lemmas.Result.{err_from_is_err_and}
 use Rattle.shared.proofs.InTurn.{went_nowhere, went_one}
 use Rattle.shared.proofs.in_turn.make_next.Goals as goal

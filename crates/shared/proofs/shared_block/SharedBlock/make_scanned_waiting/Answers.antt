@@ -1,4 +1,4 @@
-use Rattle.std.proofs.Common.{◌≡◌, ◌∙◌, ap, sym}
+use Rattle.std.proofs.Common.{◌∙◌, ap, sym}
 use Rattle.block_machine.specs.Scans.{questions_of}
 use Rattle.shared.specs.Calls.{Viewed}
 use Rattle.shared.proofs.Made.{sound_there, made}

@@ -1,5 +1,4 @@
-use Rattle.std.proofs.Common.{arith, rules, ap, sym, length, ◌<◌, [], ◌∙◌, append-nil}
-use Rattle.std.proofs.lemmas.List.{length-map}
+use Rattle.std.proofs.Common.{rules, ap, sym, length, ◌<◌, [], ◌∙◌, append-nil}
 use Rattle.std.proofs.lemmas.Result.{err_from_is_err_and}
 use Rattle.shared.specs.declared.kept.Kept.{Kept}
 use Rattle.shared.specs.InTurn.{reading}
