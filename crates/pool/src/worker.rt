@@ -158,9 +158,8 @@ impl<'s, 'a, R: Wait, G: Gate> Workers<'s, 'a, R, G> {
         most
     }
 
-    // Publishes a finished run and settles it while the book is held once, and leaves the request where the publication is refused. It answers
-    // whether it was published.
-    fn publish(&self, pass: &mut Pass<'a>, turn: Turn, run: Finished) -> Result<bool, AllocError>
+    // Publishes the finished run of a request and settles it, in one hold of the book: whether it was published.
+    fn published(&self, pass: &mut Pass<'a>, turn: Turn, run: Finished) -> Result<bool, AllocError>
         requires pass { IsPassFor self.now pass.old }
         requires sound { IsSoundAt self.now.subject turn.place run }
         ensures { IsPassFor self.now pass.new }
@@ -182,6 +181,17 @@ impl<'s, 'a, R: Wait, G: Gate> Workers<'s, 'a, R, G> {
         let is_published = matches!(replies.first(), Some(Reply::Published));
         self.show_settled(pass, turn, notes, true, replies);
         made?;
+        Ok(is_published)
+    }
+
+    // Publishes a finished run and settles it while the book is held once, and leaves the request where the publication is refused. It answers
+    // whether it was published.
+    fn publish(&self, pass: &mut Pass<'a>, turn: Turn, run: Finished) -> Result<bool, AllocError>
+        requires pass { IsPassFor self.now pass.old }
+        requires sound { IsSoundAt self.now.subject turn.place run }
+        ensures { IsPassFor self.now pass.new }
+    {
+        let is_published = self.published(pass, turn, run)?;
         if !is_published {
             self.give_up(pass, turn)?;
         }
