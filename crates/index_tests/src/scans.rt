@@ -16,7 +16,11 @@ fn quads_with(mut quads: Vec<Quad<Id>>) -> Result<Vec<Quad<Id>>, AllocError> {
 }
 
 // The index of a set.
-fn indexed(alloc: Global, set: &[Quad<Id>], orders: &[Arrangement]) -> Result<Index, AllocError> {
+pub fn indexed(
+    alloc: Global,
+    set: &[Quad<Id>],
+    orders: &[Arrangement],
+) -> Result<Index, AllocError> {
     let quads = Vec::from_slice(alloc, set)?;
     Index::new(alloc, &set_of(quads), orders)
 }

@@ -1,7 +1,8 @@
 //! Sets of quads, of known terms and of made nodes, beside plain filters.
 use crate::quads::{fits, pattern_of, quad_of};
+use crate::scans::indexed;
 use datasets::{Id, Quad};
-use quad_index::{BESIDE_SPOG, Index, KnownQuad, QuadList, known_quads, known_set};
+use quad_index::{BESIDE_SPOG, KnownQuad, QuadList, known_quads, known_set};
 use quad_sets::lists::merged;
 use quad_sets::{QuadSet, QuadSlice};
 use radix::set_by_number;
@@ -142,20 +143,32 @@ fn listed(alloc: Global, quads: &[Quad<Id>]) -> Result<QuadList, AllocError> {
     Ok(list)
 }
 
+// Whether a list finds by each pattern of a quad what a filter does.
+fn is_matched(
+    alloc: Global,
+    list: &QuadList,
+    quads: &[Quad<Id>],
+    quad: &Quad<Id>,
+) -> Result<bool, AllocError> {
+    let mut so = true;
+    for places in 0..16 {
+        let pattern = pattern_of(places, quad);
+        let mut wanted = Vec::from_slice(alloc, quads)?;
+        wanted.retain(|quad| fits(&pattern, quad));
+        so = so && is_told(alloc, &list.matching(alloc, &pattern)?, &wanted)?;
+    }
+    Ok(so)
+}
+
 // Whether a list tells what a vector does.
 fn is_listed(alloc: Global, are_made: bool) -> Result<bool, AllocError> {
     let quads = quads_of(alloc, 0, 300, are_made)?;
     let list = listed(alloc, &quads)?;
     let copy = list.copied(alloc)?;
-    let less = listed(alloc, &quads[1..])?;
+    let less = listed(alloc, &quads_of(alloc, 1, 300, are_made)?)?;
     let mut so = is_told(alloc, &list, &quads)? && is_told(alloc, &copy, &quads)?;
     so = so && list.is_same(&copy) && !list.is_same(&less) && !list.is_set();
-    for places in 0..16 {
-        let pattern = pattern_of(places, &quads[11]);
-        let mut wanted = Vec::from_slice(alloc, &quads)?;
-        wanted.retain(|quad| fits(&pattern, quad));
-        so = so && is_told(alloc, &list.matching(alloc, &pattern)?, &wanted)?;
-    }
+    so = so && is_matched(alloc, &list, &quads, &quad_of(11))?;
     let set = list.into_set();
     Ok(so && set.is_set() && is_told(alloc, &set, &set_of(quads))?)
 }
@@ -221,21 +234,28 @@ fn is_parted(alloc: Global, are_made: bool) -> Result<bool, AllocError> {
     let mut behind = Vec::new(alloc);
     behind.push(quad_of(7))?;
     lent.push_all(&mut behind)?;
-    let index = Index::new(alloc, &quads, &BESIDE_SPOG)?;
-    let indexed = QuadSet::of_index(alloc, &index)?;
     let part = lent.part(alloc, 50, 200)?;
     Ok(
         matches!(quads.as_slice().get(50..200), Some(wanted) if part.as_slice() == wanted)
             && matches!(behind.as_slice(), [first, others @ ..]
-                if *first == quad_of(7) && others == quads.as_slice())
-            && is_set_of(alloc, &indexed.as_slice(), &quads)?,
+                if *first == quad_of(7) && others == quads.as_slice()),
     )
+}
+
+// Whether the set of an index has its quads.
+fn is_of_index(alloc: Global, are_made: bool) -> Result<bool, AllocError> {
+    let index = indexed(alloc, &quads_of(alloc, 0, 300, are_made)?, &BESIDE_SPOG)?;
+    let set = QuadSet::of_index(alloc, &index)?;
+    let quads = set_of(quads_of(alloc, 0, 300, are_made)?);
+    is_set_of(alloc, &set.as_slice(), &quads)
 }
 
 #[test]
 fn sets_are_lent_in_parts(rt: HostRuntime) -> Result<(), AllocError> {
     assert!(rt; is_parted(rt.alloc(), false)?);
     assert!(rt; is_parted(rt.alloc(), true)?);
+    assert!(rt; is_of_index(rt.alloc(), false)?);
+    assert!(rt; is_of_index(rt.alloc(), true)?);
     Ok(())
 }
 

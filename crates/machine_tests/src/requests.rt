@@ -346,11 +346,9 @@ fn many_reads_are_noted_in_order(rt: HostRuntime) -> Result<(), Fail> {
     let (asked, notes) = asked_of_liar(rt.alloc(), &[graph, Read::Graphs, graph]);
     assert!(rt; asked == Err(Stop::Blocked(3)));
     assert!(rt;
-        notes
-            .as_slice()
-            .iter()
-            .all(|note| matches!(note.answer.quads(), Some(quads) if quads.is_empty()))
-            && notes.len() == 2
+        notes.as_slice().iter().all(
+            |note| matches!(note.answer.quads(), Some(quads) if quads.is_empty())
+        ) && notes.len() == 2
     );
     Ok(())
 }

@@ -1,8 +1,9 @@
-//! Quads in sorted orders: the six orders of a quad's places, binary search in entries that are sorted by one of them, a set of quads kept
-//! in several of them. Stands on `datasets`, `sets`, `sorting` and `radix`.
+//! Lists of quads in little memory, and quads in sorted orders: the six orders of a quad's places, binary search in entries that are sorted
+//! by one of them, a set of quads kept in several of them. Stands on `datasets`, `sets`, `sorting` and `radix`.
 //!
-//! The contracts used above: `part_for` has all entries of a sorted list whose quad a pattern matches, and `part_of_set` all quads of a
-//! set; `Index::scan` is a filter of the whole set, and `Index::scan_counted` bounds how many entries it looks at.
+//! The contracts used above: a `QuadList` is the list of its quads, however they are kept; `part_for` has all entries of a sorted list whose
+//! quad a pattern matches, and `part_of_set` all quads of a set; `Index::scan` is a filter of the whole set, and `Index::scan_counted` bounds
+//! how many entries it looks at.
 #![tactic(auto)]
 
 mod index;
