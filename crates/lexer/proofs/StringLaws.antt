@@ -132,15 +132,15 @@ escape_found written (escaped_plain {b} {rest} p is) less =
     let past : first_backslash (b ∷ rest) + 1 ≡ suc (first_backslash rest + 1) = omega (arith, place) in
     let below = escape_found rest is (omega (arith, place)) in
     subst (λ n. EscapeFound (b ∷ rest) (take n (b ∷ rest)) (drop (first_backslash (b ∷ rest) + 1) (b ∷ rest))) (sym place)
-      (subst (λ k. EscapeFound (b ∷ rest) (b ∷ take (first_backslash rest) rest) (drop k (b ∷ rest))) (sym past) (record {
-        letter = below.letter;
-        value = below.value;
-        tail = below.tail;
-        is = below.is;
-        stands = below.stands;
-        later = below.later;
-        whole = ap (λ t. cond t (unescaped_after true rest) (b ∷ unescaped rest)) p ∙ ap (λ (x : List ℕ). b ∷ x) below.whole;
-      }))
+    (subst (λ k. EscapeFound (b ∷ rest) (b ∷ take (first_backslash rest) rest) (drop k (b ∷ rest))) (sym past) (record {
+      letter = below.letter;
+      value = below.value;
+      tail = below.tail;
+      is = below.is;
+      stands = below.stands;
+      later = below.later;
+      whole = ap (λ t. cond t (unescaped_after true rest) (b ∷ unescaped rest)) p ∙ ap (λ (x : List ℕ). b ∷ x) below.whole;
+    }))
 escape_found written (escaped_short {b} {c} {rest} e is) less =
     record { letter = b; value = c; tail = rest; is = refl; stands = e; later = is; whole = rw e refl }
 

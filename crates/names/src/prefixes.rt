@@ -319,12 +319,7 @@ impl<'a> Prefixes<'a> {
         ensures { IfOk result (λ found. found ≡ literal_of self.now literal.now) }
     {
         match literal {
-            Written::Plain(text) => self.literal_with(
-                alloc,
-                text.value(alloc)?,
-                XSD_STRING,
-                None,
-            ),
+            Written::Plain(text) => self.literal_with(alloc, text.value(alloc)?, XSD_STRING, None),
             Written::Tagged(text, tag) => self.tagged(alloc, text.value(alloc)?, tag),
             Written::Typed(text, datatype) => self.typed(alloc, text.value(alloc)?, datatype),
             Written::Integer(digits) => {
@@ -336,12 +331,7 @@ impl<'a> Prefixes<'a> {
                 )
             }
             Written::Boolean(truth) => {
-                self.literal_with(
-                    alloc,
-                    truth_text(alloc, *truth)?,
-                    XSD_BOOLEAN,
-                    None,
-                )
+                self.literal_with(alloc, truth_text(alloc, *truth)?, XSD_BOOLEAN, None)
             }
         }
     }

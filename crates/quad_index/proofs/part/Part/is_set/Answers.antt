@@ -11,8 +11,7 @@ use Rattle.quad_index.proofs.part.Part.is_set.Goals as goal
 
 pub returns-in-Narrow : goal.returns-in-Narrow
 returns-in-Narrow c =
-    subst (λ (p : Part). IsTrue c.is_set.result ↔ IsStrictlySortedBy (quad_order id_order) (quads_of_part p)) (sym c.in-Narrow.is)
-    (
+    subst (λ (p : Part). IsTrue c.is_set.result ↔ IsStrictlySortedBy (quad_order id_order) (quads_of_part p)) (sym c.in-Narrow.is) (
       λ h. sorted-map quad_of (quad_order id_order) c.in-Narrow.known.now (c.is_set.ensures.0 h),
       λ s. c.is_set.ensures.1 (sorted-unmap quad_of (quad_order id_order) c.in-Narrow.known.now s),
     )
