@@ -31,8 +31,8 @@ fn terms_of(alloc: Global, block: &Block) -> Result<Vec<Term>, AllocError>
 }
 
 /// A base and a block at numbers, by the dictionary of the terms of the base and of the block's accepted requests. The base's terms have
-/// their numbers from the sort that makes the dictionary, into which they go, and the base is kept in the orders that the block can use. A request at terms is
-/// let go as soon as it has its numbers. An error comes only where memory runs out.
+/// their numbers from the sort that makes the dictionary, into which they go, and the base is kept in the orders that the block can use. A
+/// request at terms is let go as soon as it has its numbers. An error comes only where memory runs out.
 pub fn number<H: Hands>(
     hands: &H,
     alloc: Global,

@@ -39,8 +39,9 @@ impl Model for Base {
 }
 
 impl Base {
-    /// The base of a dataset, with the dictionary of its terms and of more, none of which is copied, its quads in these orders beside SPOG. The numbers of its terms
-    /// come of the sort that puts them in order, and who sorts changes nothing in the answer. An error comes only where memory runs out.
+    /// The base of a dataset, with the dictionary of its terms and of more, none of which is copied, its quads in these orders beside SPOG. The
+    /// numbers of its terms come of the sort that puts them in order, and who sorts changes nothing in the answer. An error comes only where
+    /// memory runs out.
     pub fn new<H: Hands>(
         hands: &H,
         alloc: Global,
