@@ -204,13 +204,14 @@ def is_worth_emptying(crate, edits):
 
 def tried(crate, edits, room, jobs):
     """Tries edits of a crate. Returns for each name whether it is refused and what to say, and the processor seconds that it took."""
-    # each group with whether the other functions are emptied
-    results, groups, number, seconds = {}, [(edits, is_worth_emptying(crate, edits))] if edits else [], 0, 0.0
+    # each group with whether its copy may have the other functions emptied
+    results, groups, number, seconds = {}, [(edits, True)] if edits else [], 0, 0.0
     while groups:
-        (group, empties), number = groups.pop(), number + 1
+        (group, may_empty), number = groups.pop(), number + 1
         copy = Copy(crate, f"{room}/{number}")
         later = [it for it in group if not copy.takes(it)]
-        groups += [(later, empties)] if later else []
+        groups += [(later, True)] if later else []
+        empties = may_empty and is_worth_emptying(crate, copy.edits)
         ran, half = copy.check(f"{room}/kept", jobs, empties), len(copy.edits) // 2
         told, seconds = copy.told(ran), seconds + ran.seconds
         shutil.rmtree(copy.folder)
@@ -222,9 +223,9 @@ def tried(crate, edits, room, jobs):
         elif not half:
             results.update((it.name, (False, UNREACHED if told is None else PROVED)) for it in rest)
         elif len(rest) < len(copy.edits):
-            groups += [(rest, empties)] if rest else []
+            groups += [(rest, may_empty)] if rest else []
         else:
-            groups += [(rest[:half], empties), (rest[half:], empties)]
+            groups += [(rest[:half], may_empty), (rest[half:], may_empty)]
     return results, seconds
 
 
