@@ -8,23 +8,28 @@ use Rattle.datasets.specs.Id.{id_order}
 use Rattle.change_laws.specs.Laws.{IsRising}
 use Rattle.reads.specs.Reads.{View, Delta, Read, says, applied, covers, no_change}
 use Rattle.reads.proofs.Changes.{uncovered, depends, covers_none}
-use Rattle.block_machine.specs.declared.state.Status.{Status}
-use Rattle.block_machine.specs.declared.state.Status.TheVariants.{Ready, Executing, Executed, Committed as HasCommitted}
-use Rattle.block_machine.specs.declared.state.Pass.{Pass}
-use Rattle.delta.specs.declared.finished.Finished.{Finished}
-use Rattle.block_machine.specs.declared.state.Event.{Event}
-use Rattle.block_machine.specs.declared.state.Event.TheVariants.{Take, Read as ReadOf, Publish, Begin, Check, Commit, GiveUp}
-use Rattle.block_machine.specs.declared.state.Reply.{Reply}
-use Rattle.block_machine.specs.declared.state.Reply.TheVariants.{Taken, Answered, Published, Begun, Passed, Aborted, Committed, Given}
-use Rattle.block_machine.specs.declared.validate.Verdict.{Verdict}
-use Rattle.block_machine.specs.declared.validate.Verdict.TheVariants as verdict
-use Rattle.block_machine.specs.declared.state.Entry.{Entry}
-use Rattle.block_machine.specs.Machine.{Noted, Slot, State, fresh_slot, fresh, slot_at, status_of, view_at, touching, is_closed, can_commit, IsAllowed, after, state_after, with_note, published, begun, passed, committed, NamesAnswer, NextNamesAnswer, NoteReply, ListVerdict, verdict_reply}
+use Rattle.incarnations.specs.declared.state.Status.{Status}
+use Rattle.incarnations.specs.declared.state.Status.TheVariants.{Ready, Executing, Executed, Committed as HasCommitted}
+use Rattle.incarnations.specs.declared.state.Pass.{Pass}
+use Rattle.incarnations.specs.declared.state.Event.{Event}
+use Rattle.incarnations.specs.declared.state.Event.TheVariants.{Take, Read as ReadOf, Publish, Begin, Check, Commit, GiveUp}
+use Rattle.incarnations.specs.declared.state.Reply.{Reply}
+use Rattle.incarnations.specs.declared.state.Reply.TheVariants.{Taken, Answered, Published, Begun, Passed, Aborted, Committed, Given}
+use Rattle.incarnations.specs.declared.state.Entry.{Entry}
+use Rattle.incarnations.specs.Slots.{Noted, Slot, fresh_slot, with_note, published, begun, passed, committed}
+use Rattle.incarnations.specs.Statuses.{is_closed}
+use Rattle.validate.specs.declared.checks.Verdict.{Verdict}
+use Rattle.validate.specs.declared.checks.Verdict.TheVariants as verdict
+use Rattle.validate.specs.Below.{slot_at, view_at, touching}
+use Rattle.validate.specs.Verdicts.{ListVerdict}
+use Rattle.validate.proofs.Overlay.{view_rises}
+use Rattle.slots.specs.Slots.{status_of}
+use Rattle.slots.proofs.SlotLaws.{set_same, set_other, status_within}
+use Rattle.block_machine.specs.Machine.{State, fresh, can_commit, IsAllowed, after, state_after, NamesAnswer, NextNamesAnswer, NoteReply, verdict_reply}
 use Rattle.block_machine.specs.Archive.{Archive, along, filed_at, archive_with, nothing_filed, archive_after, archive_of}
 use Rattle.block_machine.specs.Serial.{Setting, IsSetting, LawfulFrom, IsHistory}
-use Rattle.block_machine.proofs.Overlay.{view_rises}
-use Rattle.block_machine.proofs.SlotLaws.{set_same, set_other, status_within}
 use Rattle.block_machine.proofs.Theorem.{unless_execution, unless_executed, take_ready, commit_can, open_is}
+use Rattle.delta.specs.declared.finished.Finished.{Finished}
 
 -- THE INVARIANT
 

@@ -1,11 +1,11 @@
 -- No event takes a commit back.
 use Rattle.std.proofs.Common.{ℕ, ◌+◌, ◌≤◌, List, [], ◌∷◌, ◌++◌, Some, arith}
 use Rattle.std.proofs.Math.Nat.{le_refl, le_trans}
-use Rattle.block_machine.specs.declared.state.Event.{Event}
-use Rattle.block_machine.specs.declared.state.Event.TheVariants.{Take, Read as ReadOf, Publish, Begin, Check, Commit, GiveUp}
-use Rattle.block_machine.specs.declared.state.Reply.{Reply}
-use Rattle.block_machine.specs.declared.state.Reply.TheVariants.{Taken, Answered, Published, Begun, Passed, Aborted, Committed, Given}
-use Rattle.block_machine.specs.declared.state.Entry.{Entry}
+use Rattle.incarnations.specs.declared.state.Event.{Event}
+use Rattle.incarnations.specs.declared.state.Event.TheVariants.{Take, Read as ReadOf, Publish, Begin, Check, Commit, GiveUp}
+use Rattle.incarnations.specs.declared.state.Reply.{Reply}
+use Rattle.incarnations.specs.declared.state.Reply.TheVariants.{Taken, Answered, Published, Begun, Passed, Aborted, Committed, Given}
+use Rattle.incarnations.specs.declared.state.Entry.{Entry}
 use Rattle.block_machine.specs.Machine.{State, after, state_after}
 
 -- one event

@@ -2,13 +2,17 @@
 use Rattle.std.proofs.Common.{◌≡◌, ◌≢◌, ℕ, ◌<◌, ◌≤◌, ◌⊎◌, inl, inr, Bool, true, false, List, length, Some, slice_set, sym, ap, ◌∙◌, subst, arith, length-set}
 use Rattle.std.proofs.lemmas.Bool.{cases_lt, cases_eq}
 use Rattle.reads.specs.Reads.{View}
-use Rattle.block_machine.specs.declared.state.Status.{Status}
-use Rattle.block_machine.specs.declared.state.Status.TheVariants.{Ready, Executing, Executed, Committed as HasCommitted}
-use Rattle.block_machine.specs.declared.state.Pass.{Pass}
-use Rattle.delta.specs.declared.finished.Finished.{Finished}
-use Rattle.block_machine.specs.Machine.{Noted, Slot, State, slot_at, view_at, is_closed, transcript_of}
+use Rattle.incarnations.specs.declared.state.Status.{Status}
+use Rattle.incarnations.specs.declared.state.Status.TheVariants.{Ready, Executing, Executed, Committed as HasCommitted}
+use Rattle.incarnations.specs.declared.state.Pass.{Pass}
+use Rattle.incarnations.specs.Slots.{Noted, Slot, transcript_of}
+use Rattle.incarnations.specs.Statuses.{is_closed}
+use Rattle.validate.specs.Below.{slot_at, view_at}
+use Rattle.slots.proofs.SlotLaws.{set_same, set_other, view_below, view_same, replies_below}
+use Rattle.block_machine.specs.Machine.{State}
 use Rattle.block_machine.specs.Serial.{Setting, IsSound, FrontIsSerial}
-use Rattle.block_machine.proofs.SlotLaws.{set_same, set_other, view_below, view_same, replies_below, Clear, Known}
+use Rattle.block_machine.proofs.Known.{Clear, Known}
+use Rattle.delta.specs.declared.finished.Finished.{Finished}
 
 -- executed or committed
 abbrev pub is_done : Status → Bool

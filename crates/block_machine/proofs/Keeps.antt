@@ -1,18 +1,21 @@
 -- How a changed slot keeps what the machine has beside its state.
-use Rattle.std.proofs.Common.{◌≡◌, ◌≢◌, ℕ, zero, suc, ◌<◌, ◌≤◌, inl, inr, Bool, true, false, ◌&&◌, List, [], ◌∷◌, length, map, Some, slice_set, slice_get, option_map, replicate, Option, None, ◌+◌, max, refl, sym, ap, ◌∙◌, subst, arith, leb-true}
-use Rattle.std.specs.Prelude.{nat_le, ◌==◌, if◌then◌else◌}
+use Rattle.std.proofs.Common.{◌≡◌, ◌≢◌, ℕ, zero, suc, ◌<◌, ◌≤◌, inl, inr, true, false, ◌&&◌, List, length, map, Some, slice_set, slice_get, option_map, replicate, Option, None, ◌+◌, max, refl, sym, ap, ◌∙◌, subst, arith, leb-true}
+use Rattle.std.specs.Prelude.{nat_le, ◌==◌}
 use Rattle.std.specs.Cmp.{both_ways}
 use Rattle.std.proofs.lemmas.List.{get_or_past}
 use Rattle.std.proofs.lemmas.Option.{slice_get_within}
 use Rattle.std.proofs.lemmas.Bool.{cases_lt, cases_eq, false≢true, and_parts, and_from, eqb-true}
 use Rattle.stamp_tree.specs.declared.standing.Standing.{Standing}
-use Rattle.block_machine.specs.declared.state.Status.{Status}
-use Rattle.block_machine.specs.declared.state.Status.TheVariants.{Ready, Executing, Executed, Committed as HasCommitted}
-use Rattle.block_machine.specs.declared.state.Pass.{Pass}
-use Rattle.block_machine.specs.Machine.{Noted, Slot, State, can_commit, fresh_slot, slot_at, status_of, is_closed, is_executed, is_current, is_stamped, begun, passed, committed}
-use Rattle.block_machine.specs.Lower.{KeepsBeside}
-use Rattle.block_machine.specs.Waiting.{standing_of}
-use Rattle.block_machine.proofs.SlotLaws.{set_same, set_other, status_within, status_at}
+use Rattle.incarnations.specs.declared.state.Status.{Status}
+use Rattle.incarnations.specs.declared.state.Status.TheVariants.{Ready, Executing, Executed, Committed as HasCommitted}
+use Rattle.incarnations.specs.Slots.{Slot, fresh_slot, committed}
+use Rattle.incarnations.specs.Statuses.{is_closed, is_executed}
+use Rattle.incarnations.specs.Standings.{standing_of}
+use Rattle.validate.specs.Below.{slot_at}
+use Rattle.slots.specs.Slots.{status_of}
+use Rattle.slots.proofs.SlotLaws.{set_same, set_other, status_within, status_at}
+use Rattle.block_machine.specs.Machine.{State, can_commit, is_current, is_stamped}
+use Rattle.block_machine.specs.Beside.{KeepsBeside}
 
 current_below : (slots : List Slot) (i : ℕ) (x : Slot) (k moment : ℕ) → k ≤ i → is_current (slice_set slots i x) k moment ≡ is_current slots k moment
 unfolding is_current
@@ -91,26 +94,7 @@ module _ (slots : List Slot) (front latest : ℕ) (standings : List Standing) (k
         standings_are = stand;
       }
 
--- ---- what an event leaves of a slot's delta
-
-pub begun-delta : (x : Slot) (ns : List Noted) (clock : ℕ) → (begun x ns clock).delta ≡ x.delta
-begun-delta x [] clock = refl
-begun-delta x (n ∷ ns) clock = refl
-
-if_delta : (b : Bool) (x y z : Slot) → y.delta ≡ x.delta → z.delta ≡ x.delta → (if b then y else z).delta ≡ x.delta
-if_delta true x y z e f = e
-if_delta false x y z e f = f
-
-pub passed-delta : (x : Slot) (p : Option Pass) → (passed x p).delta ≡ x.delta
-passed-delta x None = refl
-passed-delta x (Some p) =
-    if_delta ((p.next + 1) == length x.notes) x (record x { pass = None; stamp = Some p.start }) (record x { pass = Some (record p { next = p.next + 1 }) }) refl refl
-
-pub committed-delta : (x : Slot) (st : Status) → (committed x st).delta ≡ x.delta
-committed-delta x (Ready n) = refl
-committed-delta x (Executing n w) = refl
-committed-delta x (Executed n) = refl
-committed-delta x (HasCommitted n) = refl
+-- ---- a commit
 
 pub committed-changed : (x : Slot) (st : Status) → (committed x st).changed ≡ x.changed
 committed-changed x (Ready n) = refl
@@ -124,7 +108,6 @@ committed-closed x (Ready n) e = absurd (false≢true e)
 committed-closed x (Executing n w) e = absurd (false≢true e)
 committed-closed x (HasCommitted n) e = absurd (false≢true e)
 
--- a commit
 pub keeps_committed : (slots : List Slot) (front latest next : ℕ) (standings stand : List Standing) → KeepsBeside slots front latest standings → (s : State) → s.slots ≡ slots → s.front ≡ front → (i : ℕ) → is_closed (status_of slots i) ≡ false → can_commit s i ≡ true
     → (x : Slot) → x ≡ committed (slot_at slots i) (slot_at slots i).status → next ≡ max latest (slot_at slots i).changed → stand ≡ map standing_of (slice_set slots i x)
     → KeepsBeside (slice_set slots i x) (front + 1) next stand

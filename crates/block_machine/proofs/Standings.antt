@@ -7,11 +7,15 @@ use Rattle.std.proofs.lemmas.List.{map-set}
 use Rattle.std.proofs.Math.Seq.{map-set_same}
 use Rattle.stamp_tree.specs.declared.standing.Standing.{Standing}
 use Rattle.stamp_tree.specs.Standings.{is_due, first_due}
-use Rattle.block_machine.specs.declared.state.Pass.{Pass}
-use Rattle.block_machine.specs.declared.state.Status.{Status}
-use Rattle.block_machine.specs.declared.state.Status.TheVariants.{Ready, Executing, Executed, Committed}
-use Rattle.block_machine.specs.Machine.{Slot, fresh_slot, slot_at, status_of, is_current, is_stamped}
-use Rattle.block_machine.specs.Waiting.{can_go_on, has_work, IsLeastWork, due_of, standing_of}
+use Rattle.incarnations.specs.declared.state.Pass.{Pass}
+use Rattle.incarnations.specs.declared.state.Status.{Status}
+use Rattle.incarnations.specs.declared.state.Status.TheVariants.{Ready, Executing, Executed, Committed}
+use Rattle.incarnations.specs.Slots.{Slot, fresh_slot}
+use Rattle.incarnations.specs.Standings.{due_of, standing_of}
+use Rattle.validate.specs.Below.{slot_at}
+use Rattle.slots.specs.Slots.{status_of}
+use Rattle.block_machine.specs.Machine.{is_current, is_stamped}
+use Rattle.block_machine.specs.Waiting.{can_go_on, has_work, IsLeastWork}
 use Rattle.block_machine.proofs.Keeps.{max_le}
 
 -- ---- after a step

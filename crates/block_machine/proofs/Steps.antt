@@ -6,16 +6,19 @@ use Rattle.std.proofs.lemmas.List.{get_or_default}
 use Rattle.stamp_tree.specs.declared.standing.Standing.{Standing}
 use Rattle.reads.specs.Reads.{View, Read}
 use Rattle.stamp_tree.specs.declared.standing.Due.{Due}
-use Rattle.block_machine.specs.declared.state.Pass.{Pass}
-use Rattle.block_machine.specs.declared.state.Status.TheVariants.{Executed}
-use Rattle.block_machine.specs.declared.found.Asked.{Asked}
-use Rattle.block_machine.specs.declared.found.Asked.TheVariants as asked
-use Rattle.block_machine.specs.Machine.{Slot, State, fresh_slot, slot_at, status_of, is_closed, can_commit, committed, passed}
-use Rattle.block_machine.specs.Kept.{IsAsked}
-use Rattle.block_machine.specs.Lower.{KeepsBeside}
-use Rattle.block_machine.specs.Waiting.{due_of, standing_of}
+use Rattle.incarnations.specs.declared.state.Pass.{Pass}
+use Rattle.incarnations.specs.declared.state.Status.TheVariants.{Executed}
+use Rattle.incarnations.specs.Slots.{Slot, fresh_slot, committed, passed}
+use Rattle.incarnations.specs.Statuses.{is_closed}
+use Rattle.incarnations.specs.Standings.{due_of, standing_of}
+use Rattle.validate.specs.Below.{slot_at}
+use Rattle.slots.specs.declared.asked.Asked.{Asked}
+use Rattle.slots.specs.declared.asked.Asked.TheVariants as asked
+use Rattle.slots.specs.Slots.{status_of, IsAsked}
+use Rattle.slots.proofs.SlotLaws.{set_same, status_within}
+use Rattle.block_machine.specs.Machine.{State, can_commit}
+use Rattle.block_machine.specs.Beside.{KeepsBeside}
 use Rattle.block_machine.proofs.Keeps.{open_within, keeps_open, keeps_committed}
-use Rattle.block_machine.proofs.SlotLaws.{set_same, status_within}
 use Rattle.block_machine.proofs.Standings.{standings_set, standings_same}
 
 module _ (slots : List Slot) (front latest : ℕ) (standings : List Standing) (k : KeepsBeside slots front latest standings) (i : ℕ) (still : is_closed (status_of slots i) ≡ false) (x : Slot) (after : List Slot) (is : after ≡ slice_set slots i x) where

@@ -6,21 +6,26 @@ use Rattle.std.proofs.lemmas.List.{get_or-replicate}
 use Rattle.std.proofs.Math.ListN.{length-replicate}
 use Rattle.reads.specs.Reads.{View, Delta, says, applied, IsDataset}
 use Rattle.delta.specs.Same.{delta_eq}
-use Rattle.block_machine.specs.declared.state.Status.{Status}
-use Rattle.block_machine.specs.declared.state.Status.TheVariants.{Ready, Executing, Executed, Committed as HasCommitted}
-use Rattle.block_machine.specs.declared.state.Pass.{Pass}
+use Rattle.incarnations.specs.declared.state.Status.{Status}
+use Rattle.incarnations.specs.declared.state.Status.TheVariants.{Ready, Executing, Executed, Committed as HasCommitted}
+use Rattle.incarnations.specs.declared.state.Pass.{Pass}
+use Rattle.incarnations.specs.declared.state.Event.{Event}
+use Rattle.incarnations.specs.declared.state.Event.TheVariants.{Take, Read as ReadOf, Publish, Begin, Check, Commit, GiveUp}
+use Rattle.incarnations.specs.declared.state.Reply.{Reply}
+use Rattle.incarnations.specs.declared.state.Reply.TheVariants.{Taken, Answered, Published, Begun, Passed, Aborted, Committed, Given, Stale, NotYours, NotYet}
+use Rattle.incarnations.specs.declared.state.Entry.{Entry}
+use Rattle.incarnations.specs.Slots.{Noted, Slot, fresh_slot, keeps_delta, taken, begun, passed, aborted, committed, transcript_of}
+use Rattle.incarnations.specs.Statuses.{is_closed, is_executed, execution_refusal, executed_refusal}
+use Rattle.validate.specs.Below.{slot_at, view_at}
+use Rattle.slots.specs.Slots.{status_of, replies_to}
+use Rattle.slots.proofs.SlotLaws.{set_same, set_other, status_within, view_below, replies_below}
+use Rattle.block_machine.specs.Machine.{State, fresh, is_current, is_stamped, can_commit, commit_reply, Unless, TakeReply, NoteReply, CheckReply, IsAllowed, after, state_after}
+use Rattle.block_machine.specs.Serial.{Setting, IsSetting, dataset_after, replies_after, IsSound, IsSoundEntry, IsLawful, LawfulFrom, IsHistory, state_of, FrontIsSerial}
+use Rattle.block_machine.proofs.Known.{is_current-Clear, Known, known_more, known_agrees}
+use Rattle.block_machine.proofs.Invariant.{is_done, Holds, Ran, PassHolds, StampHolds, SlotHolds, InOrder, Invariant, Steady, slot_steady, each_replaced, replaced}
 use Rattle.delta.specs.declared.finished.Finished.{Finished}
-use Rattle.block_machine.specs.declared.state.Event.{Event}
-use Rattle.block_machine.specs.declared.state.Event.TheVariants.{Take, Read as ReadOf, Publish, Begin, Check, Commit, GiveUp}
-use Rattle.block_machine.specs.declared.state.Reply.{Reply}
-use Rattle.block_machine.specs.declared.state.Reply.TheVariants.{Taken, Answered, Published, Begun, Passed, Aborted, Committed, Given, Stale, NotYours, NotYet}
-use Rattle.block_machine.specs.declared.state.Entry.{Entry}
-use Rattle.block_machine.specs.Machine.{Noted, Slot, State, fresh_slot, fresh, slot_at, status_of, view_at, is_current, is_closed, is_executed, is_stamped, can_commit, commit_reply, execution_refusal, executed_refusal, Unless, TakeReply, NoteReply, CheckReply, IsAllowed, keeps_delta, taken, begun, passed, aborted, committed, after, state_after, transcript_of}
 use Rattle.reads.specs.Runs.{Agrees}
 use Rattle.delta.specs.Sound.{IsSoundFor}
-use Rattle.block_machine.specs.Serial.{Setting, IsSetting, dataset_after, replies_after, IsSound, IsSoundEntry, IsLawful, LawfulFrom, IsHistory, state_of, replies_to, FrontIsSerial}
-use Rattle.block_machine.proofs.SlotLaws.{set_same, set_other, status_within, view_below, replies_below, is_current-Clear, Known, known_more, known_agrees}
-use Rattle.block_machine.proofs.Invariant.{is_done, Holds, Ran, PassHolds, StampHolds, SlotHolds, InOrder, Invariant, Steady, slot_steady, each_replaced, replaced}
 
 -- WHAT A REPLY SAYS OF THE STATE
 

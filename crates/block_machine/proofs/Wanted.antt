@@ -2,10 +2,12 @@
 use Rattle.std.proofs.Common.{◌≡◌, ℕ, zero, suc, ◌<◌, List, [], ◌∷◌, length, Option, Some, None, slice_get, refl, sym, ◌∙◌, arith}
 use Rattle.std.proofs.lemmas.Option.{none-some}
 use Rattle.reads.specs.Reads.{View}
-use Rattle.block_machine.specs.declared.state.Reply.TheVariants.{Passed, Aborted}
-use Rattle.block_machine.specs.declared.validate.Verdict.{Verdict}
-use Rattle.block_machine.specs.declared.validate.Verdict.TheVariants as verdict
-use Rattle.block_machine.specs.Machine.{Noted, Slot, NamesAnswer, NoteReply, NoteVerdict, ListVerdict, verdict_reply}
+use Rattle.incarnations.specs.declared.state.Reply.TheVariants.{Passed, Aborted}
+use Rattle.incarnations.specs.Slots.{Noted, Slot}
+use Rattle.validate.specs.declared.checks.Verdict.{Verdict}
+use Rattle.validate.specs.declared.checks.Verdict.TheVariants as verdict
+use Rattle.validate.specs.Verdicts.{NoteVerdict, ListVerdict}
+use Rattle.block_machine.specs.Machine.{NamesAnswer, NoteReply, verdict_reply}
 
 pub wanted_by_answers : (base : View) (slots : List Slot) (i : ℕ) (note : Noted) (v : Verdict) → NoteVerdict base slots i note v → NoteReply base slots i (Some note) Passed → verdict_reply v ≡ Passed
 wanted_by_answers base slots i note (verdict.Blocked j) is may = absurd (let both : Some j ≡ None = sym is ∙ may.0 in (cc))

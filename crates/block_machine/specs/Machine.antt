@@ -1,39 +1,22 @@
 -- The machine: what each event may be answered, and what it changes.
-use Rattle.std.specs.Prelude.{◌≡◌, ◌≢◌, ℕ, zero, suc, ◌+◌, ◌^◌, ◌<◌, Bool, true, false, ◌&&◌, ◌==◌, if◌then◌else◌, nat_le, List, [], ◌∷◌, ◌++◌, length, map, replicate, Option, Some, None, option_map, slice_get, slice_set, slice_index_or}
-use Rattle.meaning.specs.declared.reply.Reply as request
-use Rattle.reads.specs.Reads.{View, Read, Answer, Delta, says, applied, covers, no_change}
-use Rattle.delta.specs.Same.{delta_eq}
-use Rattle.reads.specs.declared.note.Note.{Note}
-use Rattle.block_machine.specs.declared.state.Status.{Status}
-use Rattle.block_machine.specs.declared.state.Status.TheVariants.{Ready, Executing, Executed, Committed as HasCommitted}
-use Rattle.block_machine.specs.declared.state.Pass.{Pass}
+use Rattle.std.specs.Prelude.{◌≡◌, ◌≢◌, ℕ, zero, suc, ◌+◌, ◌^◌, ◌<◌, Bool, true, false, ◌&&◌, ◌==◌, if◌then◌else◌, nat_le, List, [], ◌∷◌, length, replicate, Option, Some, None, slice_get, slice_set}
+use Rattle.reads.specs.Reads.{View, Read, says}
 use Rattle.delta.specs.declared.finished.Finished.{Finished}
-use Rattle.block_machine.specs.declared.state.Event.{Event}
-use Rattle.block_machine.specs.declared.state.Event.TheVariants.{Take, Read as ReadOf, Publish, Begin, Check, Commit, GiveUp}
-use Rattle.block_machine.specs.declared.state.Reply.{Reply}
-use Rattle.block_machine.specs.declared.state.Reply.TheVariants.{Taken, Answered, Blocked, Published, Begun, Passed, Aborted, Committed, Given, Stale, NotYours, NotYet}
-use Rattle.block_machine.specs.declared.state.Entry.{Entry}
-use Rattle.block_machine.specs.declared.validate.Verdict.{Verdict}
-use Rattle.block_machine.specs.declared.validate.Verdict.TheVariants as verdict
-
--- A read as it was answered, with the lower requests whose deltas touched it, each by the incarnation of its last publication.
-pub record Noted : Type 0 where
-  pub read : Read
-  pub answer : Answer
-  pub touching : List (ℕ × ℕ)
-
--- One request's part of the machine: its status, the reads of its incarnation, its last publication's delta, incarnation and reply, whether
--- that is an estimate, the clock when the delta last changed, the pass that stands, and the clock when the last finished pass began.
-pub record Slot : Type 0 where
-  pub status : Status
-  pub notes : List Noted
-  pub delta : Delta
-  pub version : ℕ
-  pub reply : Option request.Reply
-  pub estimate : Bool
-  pub changed : ℕ
-  pub pass : Option Pass
-  pub stamp : Option ℕ
+use Rattle.incarnations.specs.declared.state.Status.{Status}
+use Rattle.incarnations.specs.declared.state.Status.TheVariants.{Ready, Executing, Executed, Committed as HasCommitted}
+use Rattle.incarnations.specs.declared.state.Pass.{Pass}
+use Rattle.incarnations.specs.declared.state.Event.{Event}
+use Rattle.incarnations.specs.declared.state.Event.TheVariants.{Take, Read as ReadOf, Publish, Begin, Check, Commit, GiveUp}
+use Rattle.incarnations.specs.declared.state.Reply.{Reply}
+use Rattle.incarnations.specs.declared.state.Reply.TheVariants.{Taken, Answered, Blocked, Published, Begun, Passed, Aborted, Committed, Given, Stale, NotYet}
+use Rattle.incarnations.specs.declared.state.Entry.{Entry}
+use Rattle.incarnations.specs.Slots.{Noted, Slot, fresh_slot, transcript_of, taken, with_note, keeps_delta, published, begun, passed, aborted, given, committed}
+use Rattle.incarnations.specs.Statuses.{is_closed, is_executed, execution_refusal, executed_refusal}
+use Rattle.validate.specs.declared.checks.Verdict.{Verdict}
+use Rattle.validate.specs.declared.checks.Verdict.TheVariants as verdict
+use Rattle.validate.specs.Below.{slot_at, view_at, blocker, touching}
+use Rattle.validate.specs.Verdicts.{NoteVerdict}
+use Rattle.slots.specs.Slots.{status_of}
 
 -- The machine's state: a slot for each request, the clock, and the front, which is the number of commits.
 pub record State : Type 0 where
@@ -41,64 +24,14 @@ pub record State : Type 0 where
   pub clock : ℕ
   pub front : ℕ
 
--- a request before its first event
-abbrev pub fresh_slot : Slot
-fresh_slot =
-    record {
-      status = Ready 0;
-      notes = [];
-      delta = no_change;
-      version = 0;
-      reply = None;
-      estimate = false;
-      changed = 0;
-      pass = None;
-      stamp = None;
-    }
-
 -- a block of this many requests before its first event
 abbrev pub fresh : ℕ → State
 fresh size = record { slots = replicate size fresh_slot; clock = 0; front = 0 }
-
-abbrev pub slot_at : List Slot → ℕ → Slot
-slot_at slots i = slice_index_or slots i fresh_slot
-
--- none where i is no request of the block
-abbrev pub status_of : List Slot → ℕ → Option Status
-status_of slots i = option_map (λ x. x.status) (slice_get slots i)
-
--- view(i): the base with the deltas of requests 0 to i-1 applied in order
-unfoldable pub view_at : View → List Slot → ℕ → View
-view_at base slots zero = base
-view_at base slots (suc i) = applied (slot_at slots i).delta (view_at base slots i)
-
--- the greatest request below i that is an estimate and whose delta covers the read
-unfoldable pub blocker : List Slot → ℕ → Read → Option ℕ
-blocker slots zero read = None
-blocker slots (suc j) read =
-    if (slot_at slots j).estimate && covers (slot_at slots j).delta read then Some j else blocker slots j read
-
--- the requests below i whose delta covers the read, each with the incarnation of its last publication
-unfoldable pub touching : List Slot → ℕ → Read → List (ℕ × ℕ)
-touching slots zero read = []
-touching slots (suc j) read =
-    touching slots j read ++ (if covers (slot_at slots j).delta read then (j, (slot_at slots j).version) ∷ [] else [])
 
 -- whether no request below i has changed after this moment of the clock
 unfoldable pub is_current : List Slot → ℕ → ℕ → Bool
 is_current slots zero moment = true
 is_current slots (suc j) moment = nat_le (slot_at slots j).changed moment && is_current slots j moment
-
--- the noted reads with their answers
-abbrev pub note_of : Noted → Note
-note_of n = record { read = n.read; answer = n.answer }
-
-abbrev pub transcript_of : List Noted → List Note
-transcript_of notes = map note_of notes
-
--- a read as request i notes it now
-abbrev pub note_now : View → List Slot → ℕ → Read → Noted
-note_now base slots i read = record { read = read; answer = says read (view_at base slots i); touching = touching slots i read }
 
 -- the pass that stands, if any, has a next note
 abbrev pub HasNext : State → ℕ → Type 0
@@ -115,11 +48,6 @@ incarnation_of (HasCommitted n) = n
 pub record HasRoom (s : State) : Type 0 where
   pub clock : s.clock + 1 < 2 ^ 64
   pub slots : (i : ℕ) (status : Status) → status_of s.slots i ≡ Some status → incarnation_of status + 1 < 2 ^ 64
-
--- a reply that is no answer to a read
-abbrev pub IsPlain : Reply → Type 0
-IsPlain (Answered answer) = ⊥
-IsPlain _ = Unit {0}
 
 -- A touching list names its answer: if it is now as it was noted, so is the answer.
 abbrev pub NamesAnswer : View → List Slot → ℕ → Noted → Type 0
@@ -138,23 +66,6 @@ pub record IsReady (base : View) (s : State) : Type 0 where
   pub names : (i : ℕ) → NextNamesAnswer base s i
 
 -- WHERE AN EVENT IS LAWFUL, AND ITS REPLY
-
--- an event of this incarnation of a request that this worker executes: the refusal, if there is one
-abbrev pub execution_refusal : Option Status → ℕ → ℕ → Option Reply
-execution_refusal (Some (Executing n by)) incarnation worker =
-    if n == incarnation then (if by == worker then None else Some NotYours) else Some Stale
-execution_refusal (Some (Ready n)) incarnation worker = Some Stale
-execution_refusal (Some (Executed n)) incarnation worker = Some Stale
-execution_refusal (Some (HasCommitted n)) incarnation worker = Some Stale
-execution_refusal None incarnation worker = Some Stale
-
--- an event of this incarnation of a request that is executed and not committed: the refusal, if there is one
-abbrev pub executed_refusal : Option Status → ℕ → Option Reply
-executed_refusal (Some (Executed n)) incarnation = if n == incarnation then None else Some Stale
-executed_refusal (Some (Executing n by)) incarnation = Some Stale
-executed_refusal (Some (Ready n)) incarnation = Some Stale
-executed_refusal (Some (HasCommitted n)) incarnation = Some Stale
-executed_refusal None incarnation = Some Stale
 
 -- the refusal if there is one, and else a reply of the row
 abbrev pub Unless : Option Reply → Reply → Type 0 → Type 0
@@ -200,18 +111,6 @@ abbrev pub wanted_reply : Bool → Reply
 wanted_reply true = Passed
 wanted_reply false = Aborted
 
--- by answers: blocked as for a read; else the same where the answer is the same now
-abbrev pub NoteVerdict : View → List Slot → ℕ → Noted → Verdict → Type 0
-NoteVerdict base slots i note (verdict.Blocked j) = blocker slots i note.read ≡ Some j
-NoteVerdict base slots i note verdict.Same = (blocker slots i note.read ≡ None) × (note.answer ≡ says note.read (view_at base slots i))
-NoteVerdict base slots i note verdict.Changed = (blocker slots i note.read ≡ None) × (note.answer ≢ says note.read (view_at base slots i))
-
--- by touching lists alone, with no answer
-abbrev pub ListVerdict : List Slot → ℕ → Read → List (ℕ × ℕ) → Verdict → Type 0
-ListVerdict slots i read list (verdict.Blocked j) = blocker slots i read ≡ Some j
-ListVerdict slots i read list verdict.Same = (blocker slots i read ≡ None) × (list ≡ touching slots i read)
-ListVerdict slots i read list verdict.Changed = (blocker slots i read ≡ None) × (list ≢ touching slots i read)
-
 -- the verdict by answers that a reply tells
 abbrev pub TellsVerdict : View → List Slot → ℕ → Noted → Reply → Type 0
 TellsVerdict base slots i note (Blocked j) = NoteVerdict base slots i note (verdict.Blocked j)
@@ -229,20 +128,6 @@ CheckVerdict base s i n reply =
 abbrev pub CheckReply : View → List Slot → ℕ → List Noted → Option Pass → Reply → Type 0
 CheckReply base slots i notes None reply = reply ≡ NotYet
 CheckReply base slots i notes (Some pass) reply = NoteReply base slots i (slice_get notes pass.next) reply
-
--- whether a request is committed, or is none of the block
-abbrev pub is_closed : Option Status → Bool
-is_closed (Some (HasCommitted n)) = true
-is_closed (Some (Ready n)) = false
-is_closed (Some (Executing n by)) = false
-is_closed (Some (Executed n)) = false
-is_closed None = true
-
-abbrev pub is_executed : Status → Bool
-is_executed (Executed n) = true
-is_executed (Ready n) = false
-is_executed (Executing n by) = false
-is_executed (HasCommitted n) = false
 
 -- whether a stamp stands, and no lower request has changed since
 abbrev pub is_stamped : List Slot → ℕ → Option ℕ → Bool
@@ -275,55 +160,6 @@ IsAllowed base s worker (GiveUp i n) reply =
     Unless (execution_refusal (status_of s.slots i) n worker) reply (reply ≡ Given)
 
 -- WHAT AN ANSWERED EVENT CHANGES
-
-abbrev pub taken : Slot → ℕ → ℕ → Slot
-taken x n worker = record x { status = Executing n worker; notes = [] }
-
-abbrev pub with_note : Slot → Noted → Slot
-with_note x note = record x { notes = x.notes ++ note ∷ [] }
-
--- whether a publication changes the request's delta
-abbrev pub keeps_delta : Slot → Finished → Bool
-keeps_delta x finished = delta_eq x.delta finished.delta
-
-abbrev pub published : Slot → ℕ → Finished → ℕ → Slot
-published x n finished clock =
-    record x {
-      status = Executed n;
-      delta = finished.delta;
-      version = n;
-      reply = Some finished.reply;
-      estimate = false;
-      changed = if keeps_delta x finished then x.changed else clock + 1;
-      pass = None;
-      stamp = None;
-    }
-
--- with no notes there is nothing to check
-abbrev pub begun : Slot → List Noted → ℕ → Slot
-begun x [] clock = record x { pass = None; stamp = Some clock }
-begun x (n ∷ ns) clock = record x { pass = Some (record { start = clock; next = 0 }); stamp = None }
-
--- the next read comes; after the last one the stamp is the pass's start
-abbrev pub passed : Slot → Option Pass → Slot
-passed x None = x
-passed x (Some pass) =
-    if (pass.next + 1) == length x.notes
-    then record x { pass = None; stamp = Some pass.start }
-    else record x { pass = Some (record pass { next = pass.next + 1 }) }
-
--- the delta and its mark stay
-abbrev pub aborted : Slot → ℕ → Slot
-aborted x n = record x { status = Ready (n + 1); notes = []; estimate = true; pass = None; stamp = None }
-
-abbrev pub given : Slot → ℕ → Slot
-given x n = record x { status = Ready (n + 1); notes = [] }
-
-abbrev pub committed : Slot → Status → Slot
-committed x (Executed n) = record x { status = HasCommitted n }
-committed x (Ready n) = x
-committed x (Executing n by) = x
-committed x (HasCommitted n) = x
 
 abbrev pub with_slot : State → ℕ → Slot → State
 with_slot s i x = record s { slots = slice_set s.slots i x }

@@ -2,8 +2,8 @@
 use Rattle.std.specs.Prelude.{List, [], ◌∷◌}
 use Rattle.reads.specs.Reads.{View}
 use Rattle.reads.specs.Questions.{Question}
-use Rattle.block_machine.specs.declared.state.Event.{Event}
-use Rattle.block_machine.specs.declared.state.Event.TheVariants.{Read}
+use Rattle.incarnations.specs.declared.state.Event.{Event}
+use Rattle.incarnations.specs.declared.state.Event.TheVariants.{Read}
 
 -- a read puts its read to the base, and no other event puts any
 abbrev pub questions_of : View → Event → List Question

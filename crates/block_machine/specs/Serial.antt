@@ -1,15 +1,17 @@
 -- One request after another, and the histories of the machine that are held to it.
-use Rattle.std.specs.Prelude.{◌≡◌, ℕ, zero, suc, List, [], ◌∷◌, ◌++◌, Some, option_to_list}
+use Rattle.std.specs.Prelude.{◌≡◌, ℕ, zero, suc, List, [], ◌∷◌, ◌++◌, Some}
 use Rattle.reads.specs.Reads.{View, IsDataset}
 use Rattle.delta.specs.Sound.{IsSoundFor}
 use Rattle.meaning.specs.declared.reply.Reply as request
 use Rattle.delta.specs.declared.finished.Finished.{Finished}
-use Rattle.block_machine.specs.declared.state.Event.{Event}
-use Rattle.block_machine.specs.declared.state.Event.TheVariants.{Publish}
-use Rattle.block_machine.specs.declared.state.Reply.{Reply}
-use Rattle.block_machine.specs.declared.state.Reply.TheVariants.{Published}
-use Rattle.block_machine.specs.declared.state.Entry.{Entry}
-use Rattle.block_machine.specs.Machine.{Slot, State, IsAllowed, after, fresh, slot_at, view_at, state_after}
+use Rattle.incarnations.specs.declared.state.Event.{Event}
+use Rattle.incarnations.specs.declared.state.Event.TheVariants.{Publish}
+use Rattle.incarnations.specs.declared.state.Reply.{Reply}
+use Rattle.incarnations.specs.declared.state.Reply.TheVariants.{Published}
+use Rattle.incarnations.specs.declared.state.Entry.{Entry}
+use Rattle.validate.specs.Below.{view_at}
+use Rattle.slots.specs.Slots.{replies_to}
+use Rattle.block_machine.specs.Machine.{State, IsAllowed, after, fresh, state_after}
 
 -- What is run: a base, how many requests there are, and what each makes of a dataset and replies.
 pub record Setting : Type 0 where
@@ -56,11 +58,6 @@ IsHistory m history = LawfulFrom m (fresh m.size) history
 -- where a history leaves the machine
 abbrev pub state_of : Setting → List Entry → State
 state_of m history = state_after (fresh m.size) history
-
--- the replies of the first n requests' last publications
-unfoldable pub replies_to : List Slot → ℕ → List request.Reply
-replies_to slots zero = []
-replies_to slots (suc n) = replies_to slots n ++ option_to_list (slot_at slots n).reply
 
 -- the front's view and replies are those of that many first requests, one after another
 pub record FrontIsSerial (m : Setting) (s : State) : Type 0 where

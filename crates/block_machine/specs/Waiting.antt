@@ -1,12 +1,11 @@
 -- What is still to be done for requests.
 use Rattle.std.specs.Prelude.{◌≡◌, ℕ, ◌<◌, Bool, true, false, not, ◌||◌, List, length, Option, Some, None, is_some}
-use Rattle.stamp_tree.specs.declared.standing.Due.{Due}
-use Rattle.stamp_tree.specs.declared.standing.Due.TheVariants.{Now, After, Never}
-use Rattle.stamp_tree.specs.declared.standing.Standing.{Standing}
-use Rattle.block_machine.specs.declared.state.Pass.{Pass}
-use Rattle.block_machine.specs.declared.state.Status.{Status}
-use Rattle.block_machine.specs.declared.state.Status.TheVariants.{Ready, Executing, Executed, Committed}
-use Rattle.block_machine.specs.Machine.{Slot, slot_at, status_of, is_stamped}
+use Rattle.incarnations.specs.declared.state.Status.{Status}
+use Rattle.incarnations.specs.declared.state.Status.TheVariants.{Ready, Executing, Executed, Committed}
+use Rattle.incarnations.specs.Slots.{Slot}
+use Rattle.validate.specs.Below.{slot_at}
+use Rattle.slots.specs.Slots.{status_of}
+use Rattle.block_machine.specs.Machine.{is_stamped}
 
 abbrev pub can_go_on : Option Status → (has_pass stamped : Bool) → Bool
 can_go_on (Some (Ready n)) has_pass stamped = true
@@ -24,15 +23,3 @@ pub record IsLeastWork (slots : List Slot) (i : ℕ) : Type 0 where
   pub within : i < length slots
   pub has : has_work slots i ≡ true
   pub none : (j : ℕ) → j < i → has_work slots j ≡ false
-
--- when something is to be done for a request but to commit it, by its status, its pass and its stamp
-abbrev pub due_of : Status → Option Pass → Option ℕ → Due
-due_of (Ready n) pass stamp = Now
-due_of (Executing n by) pass stamp = Never
-due_of (Committed n) pass stamp = Never
-due_of (Executed n) (Some p) stamp = Now
-due_of (Executed n) None None = Now
-due_of (Executed n) None (Some moment) = After moment
-
-abbrev pub standing_of : Slot → Standing
-standing_of x = record { due = due_of x.status x.pass x.stamp; changed = x.changed }

@@ -1,9 +1,11 @@
 //! Laws of the machine, over every history.
 ghost use Rattle.std.specs.Prelude.{◌≡◌, ◌<◌, ◌≤◌, ◌+◌, ◌^◌, ◌∷◌, ◌++◌, [], ℕ, List, Some, length};
-ghost use Rattle.block_machine.specs.Machine.{Noted, Slot, State, after, state_after, IsReady, NamesAnswer, NextNamesAnswer, NoteReply, ListVerdict, verdict_reply};
+ghost use Rattle.incarnations.specs.Slots.{Noted, Slot};
+ghost use Rattle.incarnations.specs.declared.state.Entry.{Entry};
+ghost use Rattle.validate.specs.Verdicts.{ListVerdict};
+ghost use Rattle.validate.specs.declared.checks.Verdict.{Verdict};
+ghost use Rattle.block_machine.specs.Machine.{State, after, state_after, IsReady, NamesAnswer, NextNamesAnswer, NoteReply, verdict_reply};
 ghost use Rattle.block_machine.specs.Serial.{Setting, IsSetting, IsHistory, IsLawful, state_of, FrontIsSerial};
-ghost use Rattle.block_machine.specs.declared.state.Entry.{Entry};
-ghost use Rattle.block_machine.specs.declared.validate.Verdict.{Verdict};
 ghost use Rattle.reads.specs.Reads.{View};
 
 use delta::laws::equal_deltas_are_one;

@@ -1,25 +1,26 @@
 //! The machine: one method for each event.
 ghost use Rattle.std.specs.Prelude.{◌≡◌, ◌<◌, ◌≤◌, ◌+◌, ◌^◌, ℕ, length, map, nat_le, slice_get, Some, None, IfSome, true, false, IsTrue, IfOk, OnOk, OnErr, option_copied};
 ghost use Rattle.reads.specs.Reads.{View as Base};
-ghost use Rattle.block_machine.specs.Serial.{replies_to};
-ghost use Rattle.block_machine.specs.Kept.{kept_note_of};
-ghost use Rattle.block_machine.specs.Lower.{stands_after};
+ghost use Rattle.incarnations.specs.Kept.{kept_note_of};
+ghost use Rattle.incarnations.specs.Statuses.{stands_after, is_closed as closed, IsPlain};
+ghost use Rattle.incarnations.specs.Slots.{Noted as Described, transcript_of};
+ghost use Rattle.validate.specs.Below.{view_at, slot_at};
+ghost use Rattle.validate.specs.Verdicts.{NoteVerdict};
+ghost use Rattle.slots.specs.Slots.{replies_to, status_of};
 ghost use Rattle.block_machine.specs.Scans.{questions_of};
 ghost use Rattle.block_machine.specs.Waiting.{has_work, IsLeastWork};
-ghost use Rattle.block_machine.specs.Machine.{Noted as Described, fresh, view_at, slot_at, is_current, transcript_of, can_commit, CheckVerdict, NextNamesAnswer, NoteVerdict, NoteReply, verdict_reply, wanted_reply, status_of, is_closed as closed, HasNext, IsReady, IsPlain, IsAllowed, after};
+ghost use Rattle.block_machine.specs.Machine.{fresh, is_current, can_commit, CheckVerdict, NextNamesAnswer, NoteReply, verdict_reply, wanted_reply, HasNext, IsReady, IsAllowed, after};
 
-use crate::found::Asked;
-use crate::incarnations;
 use crate::laws::lists_are_enough;
-use crate::slots::Slots;
-use crate::state::{Event, Noted, Pass, Reply, Status};
-use crate::validate::Verdict;
 use delta::Finished;
+use incarnations::{Event, Noted, Pass, Reply, Status};
 use quad_index::Arrangement;
 use reads::{CompactView, IndexedView, Scanned, View};
+use slots::{Asked, Slots};
 use stamp_tree::{Due, StampTree, Standing};
 use std::alloc::{AllocError, Global};
 use std::marker::Model;
+use validate::Verdict;
 
 /// The machine of a block.
 #[derive(Drop)]
@@ -38,7 +39,7 @@ impl<'a> Model for Machine<'a> {
 
     ghost Value = { State };
 
-    ghost use Rattle.block_machine.specs.Lower.{KeepsBeside};
+    ghost use Rattle.block_machine.specs.Beside.{KeepsBeside};
 
     ghost view = { λ m. record { slots = m.slots; clock = m.clock; front = m.front } };
 
@@ -472,17 +473,7 @@ impl<'a> Machine<'a> {
     {
         i == self.front
             && incarnations::is_executed(self.slots.status(i))
-            && is_after(self.slots.stamp(i), self.latest)
-    }
-}
-
-// Whether a stamp stands, and no change is later.
-fn is_after(stamp: Option<u64>, latest: u64) -> bool
-    ensures { result ≡ stands_after stamp latest }
-{
-    match stamp {
-        None => false,
-        Some(moment) => latest <= moment,
+            && incarnations::is_after(self.slots.stamp(i), self.latest)
     }
 }
 

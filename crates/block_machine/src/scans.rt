@@ -2,7 +2,7 @@
 ghost use Rattle.std.specs.Prelude.{◌≡◌, IfOk};
 ghost use Rattle.block_machine.specs.Scans.{questions_of};
 
-use crate::state::Event;
+use incarnations::Event;
 use reads::{IndexedView, Scanned};
 use std::alloc::{AllocError, Global};
 

@@ -10,15 +10,19 @@ use Rattle.meaning.specs.Run.{Request, answer_of, run_of_first}
 use Rattle.reads.specs.Reads.{View, IsDataset}
 use Rattle.delta.specs.Sound.{IsSoundFor}
 use Rattle.delta.specs.declared.finished.Finished.{Finished}
-use Rattle.block_machine.specs.declared.state.Event.{Event}
-use Rattle.block_machine.specs.declared.state.Event.TheVariants.{Read, Publish}
-use Rattle.block_machine.specs.declared.state.Reply.{Reply}
-use Rattle.block_machine.specs.declared.state.Reply.TheVariants.{Answered, Published, Stale, NotYours, NotYet}
-use Rattle.block_machine.specs.declared.state.Status.{Status}
-use Rattle.block_machine.specs.declared.state.Status.TheVariants.{Ready, Executing, Executed, Committed}
-use Rattle.block_machine.specs.declared.state.Entry.{Entry}
-use Rattle.block_machine.specs.Machine.{Slot, State, fresh, status_of, slot_at, execution_refusal, Unless, PublishReply, IsAllowed, after, state_after, view_at}
-use Rattle.block_machine.specs.Serial.{Setting, IsSetting, IsSound, IsSoundEntry, IsLawful, IsHistory, replies_to, FrontIsSerial}
+use Rattle.incarnations.specs.declared.state.Event.{Event}
+use Rattle.incarnations.specs.declared.state.Event.TheVariants.{Read, Publish}
+use Rattle.incarnations.specs.declared.state.Reply.{Reply}
+use Rattle.incarnations.specs.declared.state.Reply.TheVariants.{Answered, Published, Stale, NotYours, NotYet}
+use Rattle.incarnations.specs.declared.state.Status.{Status}
+use Rattle.incarnations.specs.declared.state.Status.TheVariants.{Ready, Executing, Executed, Committed}
+use Rattle.incarnations.specs.declared.state.Entry.{Entry}
+use Rattle.incarnations.specs.Slots.{Slot}
+use Rattle.incarnations.specs.Statuses.{execution_refusal}
+use Rattle.validate.specs.Below.{slot_at, view_at}
+use Rattle.slots.specs.Slots.{status_of, replies_to}
+use Rattle.block_machine.specs.Machine.{State, fresh, Unless, PublishReply, IsAllowed, after, state_after}
+use Rattle.block_machine.specs.Serial.{Setting, IsSetting, IsSound, IsSoundEntry, IsLawful, IsHistory, FrontIsSerial}
 use Rattle.book.specs.declared.journal_entry.JournalEntry.{JournalEntry}
 use Rattle.book.specs.JournalEntry.{journal_entry_of, entry_in, history_from}
 use Rattle.book.specs.Run.{Run, run_of_journal, answer_at, setting, setting_of, front_run, IsReplayed, kept, IsSoundEvent}

@@ -3,12 +3,14 @@
 use Rattle.std.specs.Prelude.{ℕ, true, false, List, [], ◌∷◌, length, Some}
 use Rattle.datasets.specs.Dataset.{Quads, Is, Names}
 use Rattle.reads.specs.Reads.{View, Answer, says}
-use Rattle.block_machine.specs.declared.state.Event.{Event}
-use Rattle.block_machine.specs.declared.state.Event.TheVariants.{Read, Publish}
-use Rattle.block_machine.specs.declared.state.Reply.{Reply}
-use Rattle.block_machine.specs.declared.state.Reply.TheVariants as told
-use Rattle.block_machine.specs.declared.state.Entry.{Entry}
-use Rattle.block_machine.specs.Machine.{State, slot_at, view_at, transcript_of, after}
+use Rattle.incarnations.specs.declared.state.Event.{Event}
+use Rattle.incarnations.specs.declared.state.Event.TheVariants.{Read, Publish}
+use Rattle.incarnations.specs.declared.state.Reply.{Reply}
+use Rattle.incarnations.specs.declared.state.Reply.TheVariants as told
+use Rattle.incarnations.specs.declared.state.Entry.{Entry}
+use Rattle.incarnations.specs.Slots.{transcript_of}
+use Rattle.validate.specs.Below.{slot_at, view_at}
+use Rattle.block_machine.specs.Machine.{State, after}
 use Rattle.book.specs.declared.journal_entry.Kept.{Kept}
 use Rattle.book.specs.declared.journal_entry.Kept.TheVariants.{Answered, Published, Other}
 use Rattle.book.specs.declared.journal_entry.JournalEntry.{JournalEntry}

@@ -2,8 +2,8 @@
 use Rattle.std.specs.Prelude.{ℕ, Bool, true, false}
 use Rattle.quad_index.specs.Known.{quad_of}
 use Rattle.reads.specs.Presence.{scan_for}
-use Rattle.block_machine.specs.declared.state.Event.TheVariants.{Take, Begin, Check, Commit}
-use Rattle.block_machine.specs.declared.state.Reply.TheVariants as told
+use Rattle.incarnations.specs.declared.state.Event.TheVariants.{Take, Begin, Check, Commit}
+use Rattle.incarnations.specs.declared.state.Reply.TheVariants as told
 use Rattle.book.specs.declared.journal_entry.Kept.{Kept}
 use Rattle.book.specs.declared.journal_entry.Kept.TheVariants.{Answered, Other}
 use Rattle.book.specs.declared.journal_entry.JournalEntry.{JournalEntry}

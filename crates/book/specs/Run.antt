@@ -9,11 +9,11 @@ use Rattle.meaning.specs.declared.reply.Reply as request
 use Rattle.meaning.specs.declared.reply.Reply.TheVariants.{Done}
 use Rattle.reads.specs.Reads.{View, IsDataset}
 use Rattle.delta.specs.Sound.{IsSoundFor}
-use Rattle.block_machine.specs.declared.state.Event.{Event}
-use Rattle.block_machine.specs.declared.state.Event.TheVariants.{Publish}
-use Rattle.block_machine.specs.declared.state.Reply.{Reply}
-use Rattle.block_machine.specs.declared.state.Reply.TheVariants.{Published}
-use Rattle.block_machine.specs.declared.state.Entry.{Entry}
+use Rattle.incarnations.specs.declared.state.Event.{Event}
+use Rattle.incarnations.specs.declared.state.Event.TheVariants.{Publish}
+use Rattle.incarnations.specs.declared.state.Reply.{Reply}
+use Rattle.incarnations.specs.declared.state.Reply.TheVariants.{Published}
+use Rattle.incarnations.specs.declared.state.Entry.{Entry}
 use Rattle.block_machine.specs.Machine.{State, fresh, state_after}
 use Rattle.block_machine.specs.Serial.{Setting, IsHistory}
 use Rattle.book.specs.declared.journal_entry.JournalEntry.{JournalEntry}

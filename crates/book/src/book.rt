@@ -1,8 +1,12 @@
 //! A block's machine with its journal.
 ghost use Rattle.std.specs.Prelude.{◌≡◌, ◌<◌, [], ◌∷◌, ◌++◌, map, ℕ, Some, None, true, false, nat_le, IfSome, IfOk, OnErr};
 ghost use Rattle.reads.specs.Reads.{IsDataset};
-ghost use Rattle.block_machine.specs.Kept.{kept_note_of};
-ghost use Rattle.block_machine.specs.Machine.{IsAllowed, wanted_reply, is_closed, is_current, slot_at, status_of, transcript_of};
+ghost use Rattle.incarnations.specs.Kept.{kept_note_of};
+ghost use Rattle.incarnations.specs.Statuses.{is_closed};
+ghost use Rattle.incarnations.specs.Slots.{transcript_of};
+ghost use Rattle.validate.specs.Below.{slot_at};
+ghost use Rattle.slots.specs.Slots.{status_of};
+ghost use Rattle.block_machine.specs.Machine.{IsAllowed, wanted_reply, is_current};
 ghost use Rattle.block_machine.specs.Scans.{questions_of};
 ghost use Rattle.block_machine.specs.Serial.{IsHistory};
 ghost use Rattle.block_machine.specs.Waiting.{has_work, IsLeastWork};

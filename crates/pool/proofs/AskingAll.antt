@@ -8,13 +8,15 @@ use Rattle.reads.specs.declared.note.Note.{Note}
 use Rattle.reads.specs.declared.source.Stop.{Stop}
 use Rattle.reads.specs.declared.source.Stop.TheVariants.{Memory}
 use Rattle.reads.proofs.Asking.{Went, went_on, went_through, went_until}
-use Rattle.block_machine.specs.declared.state.Event.{Event}
-use Rattle.block_machine.specs.declared.state.Event.TheVariants.{Read as ReadOf}
-use Rattle.block_machine.specs.declared.state.Status.{Status}
-use Rattle.block_machine.specs.declared.state.Status.TheVariants as status
-use Rattle.block_machine.specs.declared.state.Reply.{Reply}
-use Rattle.block_machine.specs.declared.state.Reply.TheVariants as told
-use Rattle.block_machine.specs.Machine.{State, IsAllowed, Unless, execution_refusal, status_of}
+use Rattle.incarnations.specs.declared.state.Event.{Event}
+use Rattle.incarnations.specs.declared.state.Event.TheVariants.{Read as ReadOf}
+use Rattle.incarnations.specs.declared.state.Status.{Status}
+use Rattle.incarnations.specs.declared.state.Status.TheVariants as status
+use Rattle.incarnations.specs.declared.state.Reply.{Reply}
+use Rattle.incarnations.specs.declared.state.Reply.TheVariants as told
+use Rattle.incarnations.specs.Statuses.{execution_refusal}
+use Rattle.slots.specs.Slots.{status_of}
+use Rattle.block_machine.specs.Machine.{State, IsAllowed, Unless}
 use Rattle.book.specs.Run.{state_of}
 use Rattle.shared.specs.Calls.{Viewed, Answers, run_of}
 use Rattle.shared.specs.Asks.{Asker, Asks, told_by}

@@ -8,8 +8,8 @@ use Rattle.dict.specs.Dictionary.{numbers}
 use Rattle.meaning.specs.Run.{Request, run, run_of_first}
 use Rattle.meaning.specs.declared.reply.Reply.{Reply}
 use Rattle.reads.specs.Reads.{View, Read, Answer}
-use Rattle.block_machine.specs.declared.state.Event.{Event}
-use Rattle.block_machine.specs.declared.state.Reply.{Reply as Told}
+use Rattle.incarnations.specs.declared.state.Event.{Event}
+use Rattle.incarnations.specs.declared.state.Reply.{Reply as Told}
 use Rattle.blocklock.specs.Passes.{Includes}
 use Rattle.book.specs.Run.{Run, front_run, state_of}
 use Rattle.shared.specs.Calls.{Viewed, Made, owner, history_of, run_of}

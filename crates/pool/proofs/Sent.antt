@@ -16,7 +16,7 @@ use Rattle.std.proofs.alloc.AllocError.TheSendSync as refused
 use Rattle.std.specs.contracts.impls.GlobalAllocator.TheImpl.{ghosts}
 use Rattle.std.specs.contracts.result.Result as Result
 use Rattle.std.specs.contracts.vec.Vec as Vec
-use Rattle.block_machine.specs.contracts.state.Entry as Entry
+use Rattle.incarnations.specs.contracts.state.Entry as Entry
 use Rattle.blocklock.specs.contracts.pass.Pass as Pass
 use Rattle.shared.specs.contracts.kept.Kept as Kept
 use Rattle.shared.specs.contracts.kept.KeptJournaled.TheImpl as journaled

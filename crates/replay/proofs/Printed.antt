@@ -1,11 +1,11 @@
 -- The lines of what a journal keeps are those of its history.
 use Rattle.std.proofs.Common.{◌≡◌, ℕ, List, [], ◌∷◌, map, Some, refl}
 use Rattle.terms.specs.declared.term.Term.{Term}
-use Rattle.block_machine.specs.declared.state.Event.{Event}
-use Rattle.block_machine.specs.declared.state.Event.TheVariants.{Read, Publish}
-use Rattle.block_machine.specs.declared.state.Reply.{Reply}
-use Rattle.block_machine.specs.declared.state.Reply.TheVariants.{Answered, Published}
-use Rattle.block_machine.specs.declared.state.Entry.{Entry}
+use Rattle.incarnations.specs.declared.state.Event.{Event}
+use Rattle.incarnations.specs.declared.state.Event.TheVariants.{Read, Publish}
+use Rattle.incarnations.specs.declared.state.Reply.{Reply}
+use Rattle.incarnations.specs.declared.state.Reply.TheVariants.{Answered, Published}
+use Rattle.incarnations.specs.declared.state.Entry.{Entry}
 use Rattle.book.specs.JournalEntry.{kept_of, journal_entry_of}
 use Rattle.replay.specs.Lines.{line_event, line_reply, line_of}
 use Rattle.replay.specs.Kept.{line_of_kept}

@@ -4,14 +4,18 @@ use Rattle.std.specs.Prelude.{◌≢◌}
 use Rattle.std.proofs.lemmas.Option.{same_Some}
 use Rattle.reads.specs.Reads.{View, Read, Answer, says}
 use Rattle.delta.specs.declared.finished.Finished.{Finished}
-use Rattle.block_machine.specs.declared.state.Status.{Status}
-use Rattle.block_machine.specs.declared.state.Status.TheVariants.{Ready, Executing, Executed, Committed as HasCommitted}
-use Rattle.block_machine.specs.declared.state.Pass.{Pass}
-use Rattle.block_machine.specs.declared.state.Event.{Event}
-use Rattle.block_machine.specs.declared.state.Event.TheVariants as event
-use Rattle.block_machine.specs.declared.state.Reply.{Reply}
-use Rattle.block_machine.specs.declared.state.Reply.TheVariants.{Answered, Blocked, Published, Passed, Aborted, NotYet}
-use Rattle.block_machine.specs.Machine.{Noted, Slot, State, slot_at, status_of, blocker, view_at, execution_refusal, executed_refusal, Unless, TakeReply, ReadReply, PublishReply, NoteReply, CheckReply, IsAllowed, wanted_reply}
+use Rattle.incarnations.specs.declared.state.Status.{Status}
+use Rattle.incarnations.specs.declared.state.Status.TheVariants.{Ready, Executing, Executed, Committed as HasCommitted}
+use Rattle.incarnations.specs.declared.state.Pass.{Pass}
+use Rattle.incarnations.specs.declared.state.Event.{Event}
+use Rattle.incarnations.specs.declared.state.Event.TheVariants as event
+use Rattle.incarnations.specs.declared.state.Reply.{Reply}
+use Rattle.incarnations.specs.declared.state.Reply.TheVariants.{Answered, Blocked, Published, Passed, Aborted, NotYet}
+use Rattle.incarnations.specs.Slots.{Noted, Slot}
+use Rattle.incarnations.specs.Statuses.{execution_refusal, executed_refusal}
+use Rattle.validate.specs.Below.{slot_at, blocker, view_at}
+use Rattle.slots.specs.Slots.{status_of}
+use Rattle.block_machine.specs.Machine.{State, Unless, TakeReply, ReadReply, PublishReply, NoteReply, CheckReply, IsAllowed, wanted_reply}
 use Rattle.journal.specs.declared.lines.Event as told_event
 use Rattle.journal.specs.declared.lines.Event.TheVariants.{Take, Read as ReadOf, Publish, Begin, Check, Commit, GiveUp}
 use Rattle.replay.specs.Lines.{line_reply}

@@ -7,11 +7,11 @@ use Rattle.datasets.specs.declared.read.Read as reading
 use Rattle.dict.specs.Dictionary.{term_of, is_known}
 use Rattle.reads.specs.Reads.{Read}
 use Rattle.delta.specs.declared.finished.Finished.{Finished}
-use Rattle.block_machine.specs.declared.state.Event.{Event}
-use Rattle.block_machine.specs.declared.state.Event.TheVariants as event
-use Rattle.block_machine.specs.declared.state.Reply.{Reply}
-use Rattle.block_machine.specs.declared.state.Reply.TheVariants.{Published}
-use Rattle.block_machine.specs.declared.state.Entry.{Entry}
+use Rattle.incarnations.specs.declared.state.Event.{Event}
+use Rattle.incarnations.specs.declared.state.Event.TheVariants as event
+use Rattle.incarnations.specs.declared.state.Reply.{Reply}
+use Rattle.incarnations.specs.declared.state.Reply.TheVariants.{Published}
+use Rattle.incarnations.specs.declared.state.Entry.{Entry}
 use Rattle.block_machine.specs.Machine.{IsAllowed, wanted_reply}
 use Rattle.block_machine.specs.Serial.{IsLawful}
 use Rattle.book.specs.Run.{Run, setting, setting_of, state_of, kept}

@@ -10,11 +10,11 @@ use Rattle.datasets.specs.declared.read.Read as reading
 use Rattle.datasets.specs.declared.read.Read.TheVariants.{Scan, GraphIs, Graphs}
 use Rattle.dict.specs.Dictionary.{term_of, is_known}
 use Rattle.meaning_laws.specs.Renaming.{option_known}
-use Rattle.block_machine.specs.declared.state.Event.{Event}
-use Rattle.block_machine.specs.declared.state.Event.TheVariants as event
-use Rattle.block_machine.specs.declared.state.Reply.{Reply}
-use Rattle.block_machine.specs.declared.state.Reply.TheVariants as reply
-use Rattle.block_machine.specs.declared.state.Entry.{Entry}
+use Rattle.incarnations.specs.declared.state.Event.{Event}
+use Rattle.incarnations.specs.declared.state.Event.TheVariants as event
+use Rattle.incarnations.specs.declared.state.Reply.{Reply}
+use Rattle.incarnations.specs.declared.state.Reply.TheVariants as reply
+use Rattle.incarnations.specs.declared.state.Entry.{Entry}
 use Rattle.book.specs.JournalEntry.{count_of}
 use Rattle.journal.specs.declared.lines.Line.{Line}
 use Rattle.journal.specs.declared.lines.Event as told_event

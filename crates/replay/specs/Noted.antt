@@ -3,7 +3,7 @@ use Rattle.std.specs.Prelude.{◌≡◌, ℕ, ◌+◌, List, Some, Result, Ok, E
 use Rattle.reads.specs.Reads.{Read, Answer}
 use Rattle.reads.specs.declared.source.Stop.{Stop}
 use Rattle.reads.specs.declared.source.Stop.TheVariants.{Blocked, Memory, Stale}
-use Rattle.block_machine.specs.declared.state.Noted.{Noted}
+use Rattle.incarnations.specs.declared.state.Noted.{Noted}
 
 -- the answer of the note at this place, which is of this read, and then the next one is due; nothing waits, and after a stop none is gone
 abbrev pub IsNext : List Noted → ℕ → Read → Result Answer Stop → ℕ → Type 0

@@ -4,7 +4,7 @@ use Rattle.terms.specs.declared.term.Term.{Term}
 use Rattle.datasets.specs.declared.id.Id.{Id}
 use Rattle.meaning.specs.Run.{Request}
 use Rattle.reads.specs.Reads.{View}
-use Rattle.block_machine.specs.declared.state.Entry.{Entry}
+use Rattle.incarnations.specs.declared.state.Entry.{Entry}
 use Rattle.block_machine.specs.Serial.{IsHistory, IsLawful}
 use Rattle.book.specs.Run.{Run, setting_of, state_of}
 use Rattle.journal.specs.declared.lines.Line.{Line}

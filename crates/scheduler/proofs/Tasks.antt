@@ -3,9 +3,13 @@ use Rattle.std.proofs.Common.{◌≡◌, ℕ, zero, suc, ◌<◌, ◌≤◌, ◌
 use Rattle.std.specs.Prelude.{◌==◌, ◌||◌, not, IfSome}
 use Rattle.std.proofs.lemmas.Bool.{cases_lt, false≢true, and_parts, and_from}
 use Rattle.std.proofs.lemmas.Option.{none-some, same_Some}
-use Rattle.block_machine.specs.declared.state.Status.{Status}
-use Rattle.block_machine.specs.declared.state.Status.TheVariants.{Ready, Executing, Executed, Committed}
-use Rattle.block_machine.specs.Machine.{Slot, State, can_commit, is_closed, is_executed, is_stamped, slot_at, status_of}
+use Rattle.incarnations.specs.declared.state.Status.{Status}
+use Rattle.incarnations.specs.declared.state.Status.TheVariants.{Ready, Executing, Executed, Committed}
+use Rattle.incarnations.specs.Slots.{Slot}
+use Rattle.incarnations.specs.Statuses.{is_closed, is_executed}
+use Rattle.validate.specs.Below.{slot_at}
+use Rattle.slots.specs.Slots.{status_of}
+use Rattle.block_machine.specs.Machine.{State, can_commit, is_stamped}
 use Rattle.block_machine.specs.Waiting.{can_go_on, has_work, IsLeastWork}
 use Rattle.scheduler.specs.declared.task.Task.{Task}
 use Rattle.scheduler.specs.declared.task.Task.TheVariants as task

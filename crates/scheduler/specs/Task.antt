@@ -1,8 +1,11 @@
 -- What a worker can do where the machine is.
 use Rattle.std.specs.Prelude.{◌≡◌, ◌≤◌, ◌<◌, ℕ, Bool, true, false, List, Option, Some, None, IfSome, is_some}
-use Rattle.block_machine.specs.declared.state.Status.{Status}
-use Rattle.block_machine.specs.declared.state.Status.TheVariants.{Ready, Executing, Executed, Committed}
-use Rattle.block_machine.specs.Machine.{Slot, State, can_commit, is_stamped, slot_at, status_of}
+use Rattle.incarnations.specs.declared.state.Status.{Status}
+use Rattle.incarnations.specs.declared.state.Status.TheVariants.{Ready, Executing, Executed, Committed}
+use Rattle.incarnations.specs.Slots.{Slot}
+use Rattle.validate.specs.Below.{slot_at}
+use Rattle.slots.specs.Slots.{status_of}
+use Rattle.block_machine.specs.Machine.{State, can_commit, is_stamped}
 use Rattle.scheduler.specs.declared.task.Task.{Task}
 use Rattle.scheduler.specs.declared.task.Task.TheVariants as task
 

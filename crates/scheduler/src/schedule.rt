@@ -1,7 +1,9 @@
 //! The next task of a book.
 ghost use Rattle.std.specs.Prelude.{◌≡◌, ◌&&◌, ◌||◌, ℕ, Bool, true, not, nat_le, Some};
 ghost use Rattle.book.specs.Run.{state_of};
-ghost use Rattle.block_machine.specs.Machine.{is_current, is_executed, is_stamped, slot_at};
+ghost use Rattle.incarnations.specs.Statuses.{is_executed};
+ghost use Rattle.validate.specs.Below.{slot_at};
+ghost use Rattle.block_machine.specs.Machine.{is_current, is_stamped};
 ghost use Rattle.block_machine.specs.Waiting.{has_work};
 ghost use Rattle.scheduler.specs.Task.{settling, task_at, IsNext};
 

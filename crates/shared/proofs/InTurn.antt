@@ -4,14 +4,14 @@ use Rattle.std.proofs.lemmas.Bool.{eq-eqb}
 use Rattle.std.proofs.lemmas.List.{length-map, length-replicate, take-append-drop, take_all, take_more, drop_more, get_or-replicate, get_or-map}
 use Rattle.std.proofs.lemmas.List.FromFn.{length-map-range_with_len, get_or-map-range_with_len}
 use Rattle.std.proofs.lemmas.List.Elements.{filter-append}
-use Rattle.block_machine.specs.declared.state.Entry.{Entry}
-use Rattle.reads.specs.Reads.{View, Read}
-use Rattle.reads.specs.Questions.{Question}
-use Rattle.block_machine.specs.declared.state.Event.{Event}
-use Rattle.block_machine.specs.declared.state.Event.TheVariants.{Read as ReadOf, Check, Commit}
-use Rattle.block_machine.specs.declared.state.Reply.{Reply}
+use Rattle.incarnations.specs.declared.state.Entry.{Entry}
+use Rattle.incarnations.specs.declared.state.Event.{Event}
+use Rattle.incarnations.specs.declared.state.Event.TheVariants.{Read as ReadOf, Check, Commit}
+use Rattle.incarnations.specs.declared.state.Reply.{Reply}
 use Rattle.block_machine.specs.Machine.{IsAllowed}
 use Rattle.block_machine.specs.Serial.{IsHistory}
+use Rattle.reads.specs.Reads.{View, Read}
+use Rattle.reads.specs.Questions.{Question}
 use Rattle.book.specs.Run.{Run, state_of, setting_of}
 use Rattle.blocklock.specs.History.{of_worker, GoesOn}
 use Rattle.blocklock.specs.Passes.{Takes, Watches, given}

@@ -2,10 +2,10 @@
 use Rattle.std.proofs.Common.{◌≡◌, ℕ, eqb, false, List, [], ◌∷◌, ◌++◌, length, length-append, refl, sym, ap, subst, ◌∙◌, arith, append-nil, Some, Result, Ok, Err, IfOk, OnErr}
 use Rattle.std.proofs.lemmas.List.Elements.{filter-append}
 use Rattle.std.proofs.lemmas.List.{nil_from_length}
-use Rattle.block_machine.specs.declared.state.Entry.{Entry}
-use Rattle.block_machine.specs.declared.state.Event.{Event}
-use Rattle.block_machine.specs.declared.state.Event.TheVariants.{Publish}
-use Rattle.block_machine.specs.declared.state.Reply.{Reply}
+use Rattle.incarnations.specs.declared.state.Entry.{Entry}
+use Rattle.incarnations.specs.declared.state.Event.{Event}
+use Rattle.incarnations.specs.declared.state.Event.TheVariants.{Publish}
+use Rattle.incarnations.specs.declared.state.Reply.{Reply}
 use Rattle.block_machine.specs.Machine.{IsAllowed}
 use Rattle.block_machine.specs.Serial.{IsHistory}
 use Rattle.book.specs.Run.{Run, state_of, setting_of, IsSoundEvent}

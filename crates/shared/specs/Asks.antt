@@ -3,9 +3,9 @@ use Rattle.std.specs.Prelude.{◌≡◌, ℕ, Result, Ok, Err, ◌⊎◌}
 use Rattle.reads.specs.Reads.{Read, Answer}
 use Rattle.reads.specs.declared.source.Stop.{Stop}
 use Rattle.reads.specs.declared.source.Stop.TheVariants as stop
-use Rattle.block_machine.specs.declared.state.Event.TheVariants.{Read as ReadOf}
-use Rattle.block_machine.specs.declared.state.Reply.{Reply}
-use Rattle.block_machine.specs.declared.state.Reply.TheVariants.{Answered, Blocked}
+use Rattle.incarnations.specs.declared.state.Event.TheVariants.{Read as ReadOf}
+use Rattle.incarnations.specs.declared.state.Reply.{Reply}
+use Rattle.incarnations.specs.declared.state.Reply.TheVariants.{Answered, Blocked}
 use Rattle.shared.specs.Calls.{Viewed, Answers, Unmade}
 
 -- a pass, and the place of a request in its block and the incarnation whose reads it answers

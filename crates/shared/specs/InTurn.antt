@@ -4,10 +4,10 @@ use Rattle.std.specs.List.{range_with_len}
 use Rattle.reads.specs.Reads.{View, Read}
 use Rattle.reads.specs.Questions.{Question}
 use Rattle.delta.specs.declared.finished.Finished.{Finished}
-use Rattle.block_machine.specs.declared.state.Event.{Event}
-use Rattle.block_machine.specs.declared.state.Event.TheVariants.{Read as ReadOf, Publish, Begin, Check, Commit}
-use Rattle.block_machine.specs.declared.state.Reply.{Reply}
-use Rattle.block_machine.specs.declared.state.Reply.TheVariants.{Answered, Published, Begun, Passed, Committed}
+use Rattle.incarnations.specs.declared.state.Event.{Event}
+use Rattle.incarnations.specs.declared.state.Event.TheVariants.{Read as ReadOf, Publish, Begin, Check, Commit}
+use Rattle.incarnations.specs.declared.state.Reply.{Reply}
+use Rattle.incarnations.specs.declared.state.Reply.TheVariants.{Answered, Published, Begun, Passed, Committed}
 use Rattle.book.specs.Run.{Run}
 use Rattle.blocklock.specs.History.{GoesOn}
 use Rattle.blocklock.specs.Passes.{given}

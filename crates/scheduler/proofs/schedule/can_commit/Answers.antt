@@ -1,6 +1,7 @@
 use Rattle.std.proofs.Common.{◌&&◌, ◌∙◌, sym, ap}
 use Rattle.book.specs.Run.{state_of}
-use Rattle.block_machine.specs.Machine.{is_stamped, slot_at}
+use Rattle.validate.specs.Below.{slot_at}
+use Rattle.block_machine.specs.Machine.{is_stamped}
 use Rattle.scheduler.proofs.Tasks.{none_executed}
 use Rattle.scheduler.proofs.schedule.can_commit.Goals as goal
 

@@ -1,6 +1,6 @@
 use Rattle.std.proofs.Common.{arith, Ok, false, ◌+◌, ◌∷◌, [], replicate}
 use Rattle.std.proofs.lemmas.Result.{err_from_is_err_and}
-use Rattle.block_machine.specs.declared.state.Event.TheVariants.{Begin, Check}
+use Rattle.incarnations.specs.declared.state.Event.TheVariants.{Begin, Check}
 use Rattle.shared.specs.InTurn.{checking}
 use Rattle.shared.proofs.InTurn.{went_short, went_as, went_told, went_stop, went_next, check_below, check_at}
 use Rattle.shared.proofs.in_turn.make_checks.Goals as goal

@@ -1,6 +1,6 @@
 use Rattle.std.proofs.Common.{arith, Ok, false, ◌+◌, ◌-◌}
 use Rattle.std.proofs.lemmas.Result.{err_from_is_err_and}
-use Rattle.block_machine.specs.declared.state.Event.TheVariants.{Commit}
+use Rattle.incarnations.specs.declared.state.Event.TheVariants.{Commit}
 use Rattle.shared.specs.InTurn.{committing}
 use Rattle.shared.proofs.InTurn.{went_as, went_told, went_stop, went_next, went_all, commit_below, commit_at, commit_all}
 use Rattle.shared.proofs.in_turn.make_commits.Goals as goal

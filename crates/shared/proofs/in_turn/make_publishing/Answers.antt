@@ -1,6 +1,6 @@
 use Rattle.std.proofs.Common.{◌∷◌, [], ◌++◌, Ok, false, Some}
 use Rattle.std.proofs.lemmas.Result.{err_from_is_err_and}
-use Rattle.block_machine.specs.declared.state.Event.TheVariants.{Publish}
+use Rattle.incarnations.specs.declared.state.Event.TheVariants.{Publish}
 use Rattle.shared.specs.InTurn.{checking, committing}
 use Rattle.shared.proofs.InTurn.{went_more, went_short, went_as, went_told}
 use Rattle.shared.proofs.in_turn.make_publishing.Goals as goal

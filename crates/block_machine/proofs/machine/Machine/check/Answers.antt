@@ -1,5 +1,5 @@
 use Rattle.std.proofs.Common.{ap, sym, ◌∙◌}
-use Rattle.block_machine.specs.Machine.{is_closed}
+use Rattle.incarnations.specs.Statuses.{is_closed}
 use Rattle.block_machine.proofs.Steps.{keeps_step}
 use Rattle.block_machine.proofs.machine.Machine.check.Goals as goal
 

@@ -1,5 +1,6 @@
 use Rattle.std.proofs.Common.{ap, sym, ◌∙◌, max, arith}
-use Rattle.block_machine.specs.Machine.{State, is_closed}
+use Rattle.incarnations.specs.Statuses.{is_closed}
+use Rattle.block_machine.specs.Machine.{State}
 use Rattle.block_machine.proofs.Keeps.{front_in}
 use Rattle.block_machine.proofs.Steps.{keeps_front}
 use Rattle.block_machine.proofs.machine.Machine.commit.Goals as goal

@@ -1,6 +1,6 @@
 use Rattle.std.proofs.Common.{ap, map, ◌∙◌}
+use Rattle.incarnations.specs.Standings.{standing_of}
 use Rattle.block_machine.specs.Machine.{State}
-use Rattle.block_machine.specs.Waiting.{standing_of}
 use Rattle.block_machine.proofs.Standings.{least_some, least_none}
 use Rattle.block_machine.proofs.machine.Machine.least_work.Goals as goal
 

@@ -1,8 +1,8 @@
 use Rattle.std.proofs.Common.{refl}
+use Rattle.incarnations.specs.Slots.{fresh_slot}
+use Rattle.incarnations.specs.Standings.{standing_of}
 use Rattle.block_machine.proofs.Keeps.{keeps_new}
 use Rattle.block_machine.proofs.Standings.{standings_new}
-use Rattle.block_machine.specs.Machine.{fresh_slot}
-use Rattle.block_machine.specs.Waiting.{standing_of}
 use Rattle.block_machine.proofs.machine.Machine.new.Goals as goal
 
 pub invariant_of-result : goal.invariant_of-result

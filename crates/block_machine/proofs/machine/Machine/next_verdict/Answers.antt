@@ -1,6 +1,9 @@
 use Rattle.std.proofs.Common.{◌≡◌, ap, sym, ◌∙◌, subst, slice_get, Some}
 use Rattle.std.proofs.lemmas.Result.{IfOk-weaker}
-use Rattle.block_machine.specs.Machine.{State, Noted, slot_at, NoteReply, NoteVerdict, ListVerdict, wanted_reply}
+use Rattle.incarnations.specs.Slots.{Noted}
+use Rattle.validate.specs.Below.{slot_at}
+use Rattle.validate.specs.Verdicts.{NoteVerdict, ListVerdict}
+use Rattle.block_machine.specs.Machine.{State, NoteReply, wanted_reply}
 use Rattle.block_machine.proofs.Wanted.{wanted_answers, wanted_lists, reply_answers, reply_lists, is_there}
 use Rattle.block_machine.proofs.machine.Machine.next_verdict.Goals as goal
 

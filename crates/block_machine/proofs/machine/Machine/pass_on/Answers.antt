@@ -1,6 +1,9 @@
 use Rattle.std.proofs.Common.{◌≡◌, false, rules, ap, ◌∙◌}
 use Rattle.std.specs.Prelude.{is_none}
-use Rattle.block_machine.specs.Machine.{State, is_closed, slot_at, status_of}
+use Rattle.incarnations.specs.Statuses.{is_closed}
+use Rattle.validate.specs.Below.{slot_at}
+use Rattle.slots.specs.Slots.{status_of}
+use Rattle.block_machine.specs.Machine.{State}
 use Rattle.block_machine.proofs.Steps.{keeps_step, keeps_passing}
 use Rattle.block_machine.proofs.machine.Machine.pass_on.Goals as goal
 

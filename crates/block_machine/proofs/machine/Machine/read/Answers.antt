@@ -1,6 +1,7 @@
 use Rattle.std.proofs.Common.{ap, sym, ◌∙◌, subst}
-use Rattle.block_machine.specs.Lower.{KeepsBeside}
-use Rattle.block_machine.specs.Machine.{is_closed, status_of}
+use Rattle.incarnations.specs.Statuses.{is_closed}
+use Rattle.slots.specs.Slots.{status_of}
+use Rattle.block_machine.specs.Beside.{KeepsBeside}
 use Rattle.block_machine.proofs.Steps.{asked_keeps}
 use Rattle.block_machine.proofs.machine.Machine.read.Goals as goal
 

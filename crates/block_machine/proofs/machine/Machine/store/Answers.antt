@@ -1,6 +1,8 @@
 use Rattle.std.proofs.Common.{ap, sym, ◌∙◌, subst}
-use Rattle.block_machine.specs.Lower.{KeepsBeside}
-use Rattle.block_machine.specs.Machine.{State, is_closed, status_of}
+use Rattle.incarnations.specs.Statuses.{is_closed}
+use Rattle.slots.specs.Slots.{status_of}
+use Rattle.block_machine.specs.Beside.{KeepsBeside}
+use Rattle.block_machine.specs.Machine.{State}
 use Rattle.block_machine.proofs.Steps.{keeps_step}
 use Rattle.block_machine.proofs.machine.Machine.store.Goals as goal
 

@@ -1,6 +1,6 @@
 use Rattle.std.proofs.Common.{◌≡◌, ◌+◌, ◌^◌, ◌<◌, [], ◌∷◌, ◌++◌, length, arith, sym, ◌∙◌}
-use Rattle.block_machine.specs.declared.state.Event.{Event}
-use Rattle.block_machine.specs.declared.state.Event.TheVariants.{Check}
+use Rattle.incarnations.specs.declared.state.Event.{Event}
+use Rattle.incarnations.specs.declared.state.Event.TheVariants.{Check}
 use Rattle.block_machine.specs.Machine.{IsReady}
 use Rattle.book.specs.JournalEntry.{journal_entry_of}
 use Rattle.book.specs.Run.{Run, run_of_journal, setting, setting_of}

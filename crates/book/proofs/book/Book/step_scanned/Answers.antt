@@ -1,5 +1,5 @@
 use Rattle.std.proofs.Common.{◌≡◌, ◌+◌, ◌^◌, ◌<◌, [], ◌∷◌, ◌++◌, length, arith, sym, ◌∙◌, subst}
-use Rattle.block_machine.specs.declared.state.Reply.{Reply}
+use Rattle.incarnations.specs.declared.state.Reply.{Reply}
 use Rattle.block_machine.specs.Machine.{State, IsReady, IsAllowed}
 use Rattle.book.specs.JournalEntry.{journal_entry_of}
 use Rattle.book.specs.Run.{Run, run_of_journal, setting, setting_of, state_of, IsSoundEvent, kept}

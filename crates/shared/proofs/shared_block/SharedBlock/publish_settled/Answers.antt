@@ -1,6 +1,6 @@
 use Rattle.std.proofs.Common.{[], Some, arith, ap, subst, sym, ◌∙◌, append-nil}
 use Rattle.std.proofs.lemmas.Result.{err_from_is_err_and}
-use Rattle.block_machine.specs.declared.state.Event.TheVariants.{Publish}
+use Rattle.incarnations.specs.declared.state.Event.TheVariants.{Publish}
 use Rattle.book.specs.Run.{Run, IsSoundEvent}
 use Rattle.shared.specs.declared.kept.Kept.{Kept}
 use Rattle.shared.specs.InTurn.{publishing}

@@ -1,5 +1,0 @@
-use Rattle.std.proofs.Common.{◌-◌}
-use Rattle.block_machine.proofs.below.+changes.Given as goal
-
-abbrev pub decreases-changes : goal.decreases-changes
-decreases-changes l = l.high - l.low

@@ -1,5 +1,0 @@
-use Rattle.block_machine.proofs.Leading.{AreCovering}
-use Rattle.block_machine.proofs.candidates.covering_between.Given as goal
-
-abbrev pub invariant-loop-request : goal.invariant-loop-request
-invariant-loop-request l = AreCovering l.slots l.read l.from l.request l.found.items

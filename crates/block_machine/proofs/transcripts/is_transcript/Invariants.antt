@@ -1,6 +1,0 @@
-use Rattle.std.proofs.Common.{◌≡◌, take, map}
-use Rattle.block_machine.specs.Kept.{kept_note_of}
-use Rattle.block_machine.proofs.transcripts.is_transcript.Given as goal
-
-abbrev pub invariant-loop-at : goal.invariant-loop-at
-invariant-loop-at l = take l.at l.fn.transcript ≡ map kept_note_of (take l.at l.fn.notes)

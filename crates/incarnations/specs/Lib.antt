@@ -1,0 +1,4 @@
+pub mod Statuses
+pub mod Slots
+pub mod Standings
+pub mod Kept

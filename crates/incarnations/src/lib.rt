@@ -1,0 +1,13 @@
+//! How far a request of a block has come, which of its incarnations a worker may speak for, and what an event makes of its part of the machine.
+//! Stands on `version_overlay`, `delta` and `stamp_tree`, and of `meaning` on the reply to a request.
+//!
+//! The contracts used above: a refusal is the one of specs/Statuses.antt, and a changed slot is the one of specs/Slots.antt, however the
+//! notes in it are read.
+#![tactic(auto)]
+
+pub mod slot;
+mod state;
+mod statuses;
+
+pub use state::{Entry, Event, Noted, Pass, Reply, Slot, Status};
+pub use statuses::{is_after, is_closed, is_executed, refused_executed, refused_execution};

@@ -1,0 +1,5 @@
+pub mod Along
+pub mod Leading
+pub mod Overlay
+pub mod Settled
+pub mod Shown

@@ -1,0 +1,22 @@
+use Rattle.std.proofs.Common.{◌≡◌, ◌++◌, ◌∙◌, ap, sym, subst}
+use Rattle.std.proofs.lemmas.Bool.{false≢true}
+use Rattle.std.proofs.lemmas.List.{append_cancel_left}
+use Rattle.validate.specs.Kept.{shown}
+use Rattle.validate.specs.Below.{blocker, touching}
+use Rattle.validate.proofs.checks.check_list.Goals as goal
+
+pub returns : goal.returns
+returns c = (
+  ap (blocker (shown c.args.kept.now.slots.items) c.args.i) (sym c.read.ensures) ∙ sym c.blocker.ensures ∙ c.in_default.is,
+  λ e.
+      absurd
+      (false≢true
+      (c.if-is_same_list.ensures.1
+      (c.as_slice.ensures
+      ∙ append_cancel_left (touching (shown c.args.kept.now.slots.items) c.args.note.now.low c.args.note.now.note.read) c.args.note.now.touching c.in_ok-now.now
+      (e
+      ∙ sym
+      (subst (λ xs. touching (shown xs) c.args.note.now.low c.args.note.now.note.read ++ c.in_ok-now.now ≡ touching (shown xs) c.args.i c.args.note.now.note.read) c.as_slice-slots.ensures.value
+      (subst (λ r. touching (shown c.as_slice-slots.result.now) c.args.note.now.low r ++ c.in_ok-now.now ≡ touching (shown c.as_slice-slots.result.now) c.args.i r) c.read.ensures c.in_ok-now.ensures)))
+      ∙ sym c.as_slice-2.ensures))),
+)

@@ -1,0 +1,4 @@
+pub mod Below
+pub mod Lower
+pub mod Kept
+pub mod Verdicts
