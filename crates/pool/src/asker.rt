@@ -12,6 +12,7 @@ use datasets::{Id, Read};
 use reads::{Answered, IndexedView, Note, Scanned, Source, Stop};
 use shared::{Pass, told};
 use std::alloc::{AllocError, Global};
+use std::collections::VecDeque;
 use std::marker::Model;
 use std::sync::Wait;
 
@@ -70,7 +71,7 @@ impl<'w, 's, 'a, R: Wait, G: Gate> Asking<'w, 's, 'a, R, G> {
     fn note_replies(
         &self,
         reads: &[Read<Id>],
-        mut replies: Vec<Reply>,
+        replies: Vec<Reply>,
         made: Result<bool, AllocError>,
         notes: &mut Vec<Note>,
     ) -> Result<(), Stop>
@@ -81,13 +82,14 @@ impl<'w, 's, 'a, R: Wait, G: Gate> Asking<'w, 's, 'a, R, G> {
             notes.new.items result self.now }
     {
         let Turn { place, incarnation } = self.turn;
+        let mut replies = VecDeque::from(replies);
         let mut left = reads;
         while !left.is_empty() && !replies.is_empty() {
             let (_, others) = left.split_at(1);
             let read = left[0];
             let event = Event::Read(place, incarnation, read);
-            let reply = self.workers.shown(&self.pass, event, replies.remove(0));
-            let answer = told(reply)?;
+            let reply = replies.pop_front().unwrap();
+            let answer = told(self.workers.shown(&self.pass, event, reply))?;
             notes.push_reserved(Note { read, answer });
             left = others;
         }

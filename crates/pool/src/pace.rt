@@ -41,10 +41,10 @@ impl Pace {
         self.eighths.load(Ordering::SeqCst) / 8
     }
 
-    /// Whether the request at a place may be begun now.
-    pub(crate) fn allows(&self, place: usize) -> bool {
-        let ahead = place.saturating_sub(self.committed.load(Ordering::SeqCst));
-        ahead < self.most()
+    /// Below which place a request may be begun now.
+    pub(crate) fn until(&self) -> usize {
+        let committed = self.committed.load(Ordering::SeqCst);
+        committed.saturating_add(self.most())
     }
 
     /// A request was taken, and is run.

@@ -249,8 +249,13 @@ impl<'s, 'a, R: Wait, G: Gate> Workers<'s, 'a, R, G> {
         Ok((pass, is_published))
     }
 
-    // Takes the request at a place and runs it, if it is not too far ahead. It answers whether a run was published.
-    fn take(&self, pass: Pass<'a>, place: usize) -> Result<(Pass<'a>, bool), AllocError>
+    // Runs the request at a place, which was taken with this reply. It answers whether a run was published.
+    fn run_next(
+        &self,
+        pass: Pass<'a>,
+        place: usize,
+        reply: Reply,
+    ) -> Result<(Pass<'a>, bool), AllocError>
         requires pass { IsPassFor self.now pass }
         requires size { length self.now.subject.block < 2 ^ 32 }
         requires short { AreShort self.now.subject.block }
@@ -259,11 +264,6 @@ impl<'s, 'a, R: Wait, G: Gate> Workers<'s, 'a, R, G> {
         let Some(request) = self.block.get(place) else {
             return Ok((pass, false));
         };
-        if !self.pace.allows(place) {
-            return Ok((pass, false));
-        }
-        let mut pass = pass;
-        let reply = self.shared.take(self.rt, self.alloc, &mut pass, place)?;
         let Reply::Taken(incarnation) = self.shown(&pass, Event::Take(place), reply) else {
             return Ok((pass, false));
         };
@@ -301,16 +301,14 @@ impl<'s, 'a, R: Wait, G: Gate> Workers<'s, 'a, R, G> {
         Ok(is_committed)
     }
 
-    // Does a task. It answers whether the block got on by it.
+    // Does a task that is not to take a request. It answers whether the block got on by it.
     fn act(&self, pass: Pass<'a>, task: Task) -> Result<(Pass<'a>, bool), AllocError>
         requires pass { IsPassFor self.now pass }
-        requires size { length self.now.subject.block < 2 ^ 32 }
-        requires short { AreShort self.now.subject.block }
         ensures { IfOk result (λ r. IsPassFor self.now r.0) }
     {
         let mut pass = pass;
         let got_on = match task {
-            Task::Take(place) => return self.take(pass, place),
+            Task::Take(_) => false,
             Task::Commit(place) => self.commit(&mut pass, place)?,
             Task::Begin(place, incarnation) => {
                 let turn = Turn { place, incarnation };
@@ -321,7 +319,7 @@ impl<'s, 'a, R: Wait, G: Gate> Workers<'s, 'a, R, G> {
         Ok((pass, got_on))
     }
 
-    // Does the next task, if there is one. It answers whether the block got on by it.
+    // Does the next task, if there is one. A request that is too far ahead is not taken. It answers whether the block got on by it.
     fn advance(&self, pass: Pass<'a>) -> Result<(Pass<'a>, bool), AllocError>
         requires pass { IsPassFor self.now pass }
         requires size { length self.now.subject.block < 2 ^ 32 }
@@ -329,9 +327,14 @@ impl<'s, 'a, R: Wait, G: Gate> Workers<'s, 'a, R, G> {
         ensures { IfOk result (λ r. IsPassFor self.now r.0) }
     {
         let mut pass = pass;
-        match self.shared.task(self.rt, &mut pass) {
-            Some(task) => self.act(pass, task),
-            None => Ok((pass, false)),
+        let until = self.pace.until();
+        let next = self
+            .shared
+            .take_next(self.rt, self.alloc, &mut pass, until)?;
+        match (next.task, next.taken) {
+            (Some(Task::Take(place)), Some(reply)) => self.run_next(pass, place, reply),
+            (Some(task), _) => self.act(pass, task),
+            (None, _) => Ok((pass, false)),
         }
     }
 

@@ -10,6 +10,7 @@ mod kept;
 mod reader;
 mod refused;
 mod shared_block;
+mod taking;
 mod trying;
 mod waiting;
 
@@ -17,3 +18,4 @@ pub use kept::{Kept, Pass, Subject};
 pub use reader::{Reader, told};
 pub use refused::Refused;
 pub use shared_block::SharedBlock;
+pub use taking::Next;

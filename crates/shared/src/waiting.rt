@@ -3,10 +3,12 @@ ghost use Rattle.std.specs.Prelude.{◌≡◌, ◌++◌, Some};
 ghost use Rattle.block_machine.specs.Scans.{questions_of};
 ghost use Rattle.shared.specs.Calls.{IsSoundAt, Made};
 ghost use Rattle.shared.specs.InTurn.{questions, reading, publishing, checking, committing, Adds};
+ghost use Rattle.shared.specs.Taking.{Took};
 
 use crate::in_turn::{make_publishing, make_reads, make_settling};
 use crate::kept::Pass;
 use crate::shared_block::SharedBlock;
+use crate::taking::{Next, make_taking};
 use block_machine::{Event, Reply};
 use datasets::Read;
 use delta::Finished;
@@ -28,6 +30,26 @@ impl<'a> SharedBlock<'a> {
         ensures { Made pass.old pass.new (Event.Take i) result }
     {
         self.make_waiting(rt, alloc, pass, Event::Take(i))
+    }
+
+    /// What a worker can do next where all stands that the pass has then seen. Where that is to take a request below `most`, it is taken in the
+    /// same hold of the lock.
+    pub fn take_next<R: Wait>(
+        &self,
+        rt: &R,
+        alloc: Global,
+        pass: &mut Pass<'a>,
+        most: usize,
+    ) -> Result<Next, AllocError>
+        requires { pass.old.table ≡ self.now }
+        ensures { Took pass.old pass.new most result }
+    {
+        let worker = pass.worker();
+        let mut held = self.lock.hold(rt, pass);
+        let _before = held.book.book.journal();
+        let made = make_taking(alloc, &mut held.book.book, worker, most);
+        held.give(pass);
+        made
     }
 
     /// Asks what a read says where incarnation `n` of the request runs.
