@@ -1,8 +1,8 @@
 -- Quads of known terms in the order of the quads that they are.
-use Rattle.std.specs.Prelude.{ℕ, ◌<◌, ◌-◌, List, length, Option, Some, None}
-use Rattle.std.proofs.Common.{◌≡◌, get_or, refl, sym, ap, ◌∙◌}
+use Rattle.std.specs.Prelude.{ℕ, Option, Some, None}
+use Rattle.std.proofs.Common.{◌≡◌, refl, sym, ap, ◌∙◌}
 use Rattle.std.specs.declared.cmp.Ordering.{Ordering}
-use Rattle.std.specs.declared.cmp.Ordering.TheVariants.{Less, Equal}
+use Rattle.std.specs.declared.cmp.Ordering.TheVariants.{Equal}
 use Rattle.std.specs.Cmp.{IsTotalOrder}
 use Rattle.datasets.specs.Id.{id_order, id_total, id_exact, quad_total, quad_exact}
 use Rattle.datasets.specs.Dataset.{quad_order}
@@ -46,7 +46,3 @@ pub known_exact : (a b : KnownQuad) → known_order a b ≡ Equal → a ≡ b
 known_exact a b e =
     let same = quad_exact id_order id_exact (quad_of a) (quad_of b) e in
     sym (there a) ∙ ap back same ∙ there b
-
--- the quad at a place is above the one in front of it
-abbrev pub RisesAt : List KnownQuad → ℕ → Type 0
-RisesAt known place = (d : KnownQuad) → 0 < place → place < length known → known_order (get_or known (place - 1) d) (get_or known place d) ≡ Less
