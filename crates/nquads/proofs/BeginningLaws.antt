@@ -1,6 +1,6 @@
 -- A label begins as a made node's does exactly where its beginning is that mark.
 use Rattle.std.specs.Prelude.{Bool, ◌||◌, not, nat_eq, take, cond, ◌^◌}
-use Rattle.std.proofs.Common.{◌≡◌, ℕ, suc, ◌+◌, ◌<◌, true, false, List, [], ◌∷◌, ◌++◌, map, refl, sym, ap, ◌∙◌, arith}
+use Rattle.std.proofs.Common.{◌≡◌, ℕ, zero, suc, ◌+◌, ◌<◌, true, false, List, [], ◌∷◌, ◌++◌, map, refl, sym, ap, ◌∙◌, arith}
 use Rattle.std.specs.List.{list_any, list_all, prefix_len, starts_with}
 use Rattle.std.specs.Fmt.{decimal}
 use Rattle.std.specs.Str.Parse.{AllDigits}
@@ -16,8 +16,8 @@ use Rattle.terms.specs.Term.{text_cmp}
 use Rattle.terms.specs.TermLaws.{text_total, text_exact}
 use Rattle.terms.specs.declared.term.Term.{Term}
 use Rattle.terms.specs.declared.term.Term.TheVariants as term
-use Rattle.terms.specs.Placed.{quad_at}
-use Rattle.nquads.specs.Tag.{mark_of, has_mark, is_taken}
+use Rattle.terms.specs.Placed.{term_at, quad_at}
+use Rattle.nquads.specs.Tag.{mark_of, has_mark, is_marked, is_taken}
 use Rattle.nquads.specs.Beginning.{is_not_r, beginning, begins_as, is_begun_in}
 
 head_or : ℕ → List ℕ → ℕ
@@ -118,3 +118,19 @@ put_by Greater old = refl
 
 pub put_in : (key text : List ℕ) (old : Bool) → cond (eq_by_cmp text_cmp key text) true old ≡ (eq_by_cmp text_cmp text key || old)
 put_in key text old = put_by (text_cmp key text) old ∙ ap (λ r. is_eq r || old) (sym (text_total.antisymm text key))
+
+-- ---- terms of which none has a mark
+
+or_false : (a b : Bool) → (a || b) ≡ false → (a ≡ false) × (b ≡ false)
+or_false true b e = absurd (false≢true (sym e))
+or_false false b e = (refl, e)
+
+no_mark_at : (mark : List ℕ) (terms : List Term) (place : ℕ) → list_any (has_mark mark) terms ≡ false → has_mark mark (term_at terms place) ≡ false
+no_mark_at mark [] zero h = refl
+no_mark_at mark [] (suc place) h = refl
+no_mark_at mark (t ∷ ts) zero h = (or_false (has_mark mark t) (list_any (has_mark mark) ts) h).0
+no_mark_at mark (t ∷ ts) (suc place) h = no_mark_at mark ts place (or_false (has_mark mark t) (list_any (has_mark mark) ts) h).1
+
+pub none_marked : (mark : List ℕ) (terms : List Term) (quads : List (Quad ℕ)) → list_any (has_mark mark) terms ≡ false → list_any (is_marked mark) (map (quad_at terms) quads) ≡ false
+none_marked mark terms [] h = refl
+none_marked mark terms (q ∷ qs) h = λ i. (no_mark_at mark terms q.subject h i || no_mark_at mark terms q.object h i) || none_marked mark terms qs h i

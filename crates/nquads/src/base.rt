@@ -15,7 +15,7 @@ use nquads_lines::first_line;
 use nquads_lines::laws::lines_are_read;
 use std::alloc::Global;
 use std::io::Read;
-use std::thread::Threads;
+use std::thread::{Threads, spawn};
 use terms::DataSet;
 use terms::laws::lists_grow_as_datasets;
 
@@ -153,7 +153,10 @@ fn read_within_by<T: Threads + Sync, R: Read>(
         else reader.old.failures) }
 {
     let bytes = front_of(alloc, reader, limit)?;
-    answer_by(rt, alloc, bytes.as_slice(), limit, threads)
+    let answer = answer_by(rt, alloc, bytes.as_slice(), limit, threads);
+    // Nobody waits until they are let go.
+    let _ = spawn(rt, move || drop(bytes));
+    answer
 }
 
 /// The same as `read`, by so many threads: the text is read in as many pieces, each by a thread of its own where one can be had.

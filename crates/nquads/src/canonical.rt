@@ -18,7 +18,7 @@ use rayon::prelude::*;
 use sets::set_of;
 use std::alloc::{AllocError, Global};
 use std::collections::HashSet;
-use std::thread::Threads;
+use std::thread::{Threads, spawn};
 use terms::laws::{quads_name_their_graphs, sets_pass_alike};
 use terms::{DataSet, Term, term_text};
 
@@ -349,5 +349,7 @@ pub fn canonical_pieces_by<T: Threads + Sync>(
         &full,
         threads,
     )?;
+    // Nobody waits until they are let go.
+    let _ = spawn(rt, move || drop(texts));
     Ok(pieces)
 }

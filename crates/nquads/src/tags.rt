@@ -1,11 +1,11 @@
 //! The tag of a dataset.
-ghost use Rattle.std.specs.Prelude.{◌≡◌, ◌≤◌, ◌<◌, ◌||◌, ◌^◌, ℕ, List, length, IfOk, OnOk};
+ghost use Rattle.std.specs.Prelude.{◌≡◌, ◌≤◌, ◌<◌, ◌||◌, ◌^◌, ℕ, List, length, IsTrue, false, IfOk, OnOk};
 ghost use Rattle.std.specs.List.{list_any, prefix_len};
 ghost use Rattle.std.specs.HashSet.{contains};
 ghost use Rattle.std.specs.Ordering.{eq_by_cmp};
 ghost use Rattle.terms.specs.Term.{text_cmp};
 ghost use Rattle.terms.specs.Placed.{term_at, quad_at};
-ghost use Rattle.nquads.specs.Tag.{mark_of, is_taken, IsTagOf};
+ghost use Rattle.nquads.specs.Tag.{mark_of, has_mark, is_taken, IsTagOf};
 ghost use Rattle.nquads.specs.Beginning.{is_not_r, beginning, begins_as, is_begun_in};
 
 use crate::text_line::TextLine;
@@ -150,11 +150,42 @@ fn taken_marks(alloc: Global, dataset: &DataSet) -> Result<HashSet<TextLine>, Al
     Ok(taken)
 }
 
+/// Whether a term is a blank node whose label begins so.
+fn has_mark(term: &Term, mark: &[u8]) -> bool
+    ensures { result ≡ has_mark mark.now term.now }
+{
+    match term {
+        Term::Blank(blank) => blank.as_str().as_bytes().starts_with(mark),
+        _ => false,
+    }
+}
+
+/// Whether one of these terms is such a blank node.
+fn is_marked(terms: &[Term], mark: &[u8]) -> bool
+    ensures { result ≡ list_any (has_mark mark.now) terms.now }
+{
+    terms.iter().any(|term| has_mark(term, mark))
+}
+
+/// Whether none of the dataset's terms is a blank node whose label begins as that of a made node where the tag is 1.
+fn is_unmarked(alloc: Global, dataset: &DataSet) -> Result<bool, AllocError>
+    ensures { IfOk result (λ free. IsTrue free → is_taken dataset.now.quads 1 ≡ false) }
+{
+    sets_pass_alike();
+    let mark = mark_of(alloc, 1)?;
+    let parts = dataset.parts();
+    Ok(!is_marked(parts.terms, mark.as_slice()))
+}
+
 /// The least number from 1 with which no blank label of the dataset begins as a made node's does. It fails where memory runs out, or where
 /// 2^32 - 2 numbers are taken.
 pub fn tag(alloc: Global, dataset: &DataSet) -> Result<u32, AllocError>
     ensures { IfOk result (λ tag. IsTagOf dataset.now tag) }
 {
+    // Most bases have no such label, and then no quad is looked at.
+    if is_unmarked(alloc, dataset)? {
+        return Ok(1);
+    }
     let taken = taken_marks(alloc, dataset)?;
     for tag in 1..u32::MAX {
         let mark = mark_line(alloc, tag)?;

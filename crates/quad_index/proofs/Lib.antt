@@ -3,5 +3,6 @@ pub mod Looking
 pub mod Mapped
 pub mod Moved
 pub mod Orders
+pub mod Rising
 pub mod Searching
 pub mod Sought

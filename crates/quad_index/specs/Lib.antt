@@ -4,6 +4,7 @@ pub mod Looks
 pub mod Known
 pub mod KnownOrder
 pub mod KnownKey
+pub mod Rising
 pub mod Sorted
 pub mod Indexed
 pub mod Index

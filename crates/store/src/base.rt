@@ -6,7 +6,7 @@ ghost use Rattle.store.specs.Base.{IsBaseOf};
 ghost use Rattle.store.specs.Held.{is_held};
 
 use crate::hands::Hands;
-use crate::numbers::{name_numbers, quad_numbers};
+use crate::numbers::name_numbers;
 use datasets::{Id, Quad, Read};
 use dict::Dict;
 use dict::laws::is_renaming;
@@ -57,7 +57,7 @@ impl Base {
         let tag = tag(alloc, &dataset)?;
         let parts = dataset.into_parts(alloc)?;
         let (terms, ids) = hands.numbered(alloc, parts.terms, more)?;
-        let quads = quad_numbers(alloc, ids.as_slice(), parts.quads.as_slice())?;
+        let quads = hands.placed(alloc, ids.as_slice(), parts.quads.as_slice())?;
         let names = name_numbers(alloc, ids.as_slice(), parts.names.as_slice())?;
         let indexed = hands.indexed(alloc, quads, names, orders)?;
         Ok(Base {

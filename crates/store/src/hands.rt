@@ -7,7 +7,8 @@ ghost use Rattle.datasets.specs.Dataset.{quad_order};
 ghost use Rattle.terms.specs.Term.{term_order};
 ghost use Rattle.dict.specs.Dictionary.{IsDictionary, is_written, is_known, term_of};
 
-use datasets::Id;
+use crate::numbers::{quad_numbers, quad_numbers_by};
+use datasets::{Id, Quad};
 use dict::Dict;
 use quad_index::{Arrangement, QuadList};
 use reads::IndexedView;
@@ -24,6 +25,8 @@ pub trait Hands {
     ghost use Rattle.datasets.specs.Dataset.{quad_order};
     ghost use Rattle.terms.specs.Term.{term_order};
     ghost use Rattle.dict.specs.Dictionary.{IsDictionary, is_written, is_known, term_of};
+    ghost use Rattle.terms.specs.Placed.{is_quad_within};
+    ghost use Rattle.store.specs.Tables.{numbers_at};
 
     // What it takes of its types.
     ghost Ready: { Type 0 };
@@ -41,6 +44,17 @@ pub trait Hands {
         ensures form { IfOk result (λ r. IsDictionary r.0) }
         ensures renamed { IfOk result (λ r. map (term_of r.0) r.1.items ≡ terms.items) }
         ensures known { IfOk result (λ r. list_all (is_known r.0) r.1.items ≡ true) };
+
+    /// Quads by places, at the numbers that stand there.
+    fn placed(
+        &self,
+        alloc: Global,
+        ids: &[Id],
+        quads: &[Quad<u32>],
+    ) -> Result<QuadList, AllocError>
+        requires ready { Ready }
+        requires within { list_all (is_quad_within ids.now) quads.now ≡ true }
+        ensures { IfOk result (λ list. list ≡ map (numbers_at ids.now) quads.now) };
 
     /// The dataset of these quads and graph names, its quads in these orders beside SPOG.
     fn indexed(
@@ -70,6 +84,15 @@ impl Hands for Alone {
         more: Vec<Term>,
     ) -> Result<(Dict, Vec<Id>), AllocError> {
         Dict::numbered(alloc, terms, more)
+    }
+
+    fn placed(
+        &self,
+        alloc: Global,
+        ids: &[Id],
+        quads: &[Quad<u32>],
+    ) -> Result<QuadList, AllocError> {
+        quad_numbers(alloc, ids, quads)
     }
 
     fn indexed(
@@ -108,6 +131,15 @@ impl<'r, T: Threads + Sync> Hands for Together<'r, T> {
         more: Vec<Term>,
     ) -> Result<(Dict, Vec<Id>), AllocError> {
         Dict::numbered_by(self.rt, alloc, terms, more)
+    }
+
+    fn placed(
+        &self,
+        alloc: Global,
+        ids: &[Id],
+        quads: &[Quad<u32>],
+    ) -> Result<QuadList, AllocError> {
+        quad_numbers_by(self.rt, alloc, ids, quads)
     }
 
     fn indexed(

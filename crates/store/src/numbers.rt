@@ -2,6 +2,8 @@
 ghost use Rattle.std.specs.Prelude.{◌≡◌, true, map, IfOk};
 ghost use Rattle.std.specs.List.{list_all};
 ghost use Rattle.std.specs.Option.{option_map};
+ghost use Rattle.datasets.specs.declared.id.Id.TheVariants.{Known};
+ghost use Rattle.quad_index.specs.Known.{quad_of, known_graph};
 ghost use Rattle.terms.specs.Placed.{is_within, is_name_within, is_quad_within};
 ghost use Rattle.dict.specs.Dictionary.{term_of, is_known};
 ghost use Rattle.store.specs.Held.{is_held};
@@ -9,9 +11,15 @@ ghost use Rattle.store.specs.Tables.{number_at, numbers_at};
 
 use datasets::Quad;
 use dict::{Dict, Id};
-use quad_index::QuadList;
+use quad_index::{KnownQuad, QuadList};
+use rayon::prelude::*;
 use std::alloc::{AllocError, Global};
+use std::thread::Threads;
 use terms::Term;
+
+/// What stands at a place is not the number of a known term.
+#[derive(Clone, Copy)]
+struct NotKnown;
 
 /// The number of a term that the dictionary holds.
 pub fn number_term(dict: &Dict, term: &Term) -> Id
@@ -61,6 +69,60 @@ pub(crate) fn quad_numbers(
         list.push(alloc, &quad_number(ids, quad))?;
     }
     Ok(list)
+}
+
+/// The number of a known term, if it stands at a place.
+fn known_number(ids: &[Id], place: u32) -> Result<u32, NotKnown>
+    ensures { IfOk result (λ number. Known number ≡ number_at ids.now place) }
+{
+    match ids.get(place as usize) {
+        Some(Id::Known(number)) => Ok(*number),
+        _ => Err(NotKnown),
+    }
+}
+
+fn known_name(ids: &[Id], name: Option<u32>) -> Result<Option<u32>, NotKnown>
+    ensures { IfOk result (λ number. known_graph number ≡ option_map (number_at ids.now) name) }
+{
+    match name {
+        Some(place) => Ok(Some(known_number(ids, place)?)),
+        None => Ok(None),
+    }
+}
+
+fn known_quad(ids: &[Id], quad: &Quad<u32>) -> Result<KnownQuad, NotKnown>
+    ensures { IfOk result (λ known. quad_of known ≡ numbers_at ids.now quad.now) }
+{
+    Ok(KnownQuad {
+        subject: known_number(ids, quad.subject)?,
+        predicate: known_number(ids, quad.predicate)?,
+        object: known_number(ids, quad.object)?,
+        graph: known_name(ids, quad.graph)?,
+    })
+}
+
+/// The same as `quad_numbers`, where several threads look for the numbers of known terms.
+pub(crate) fn quad_numbers_by<T: Threads + Sync>(
+    rt: &T,
+    alloc: Global,
+    ids: &[Id],
+    quads: &[Quad<u32>],
+) -> Result<QuadList, AllocError>
+    requires { list_all (is_quad_within ids.now) quads.now ≡ true }
+    ensures { IfOk result (λ list. list ≡ map (numbers_at ids.now) quads.now) }
+{
+    let known: Result<Vec<KnownQuad>, NotKnown> = quads
+        .par_iter()
+        .map(
+            |quad: &Quad<u32>| -> Result<KnownQuad, NotKnown>
+                ensures { IfOk result (λ known. quad_of known ≡ numbers_at ids.entry.now quad.now) }
+            { known_quad(ids, quad) },
+        )
+        .collect(rt, alloc)?;
+    match known {
+        Ok(known) => Ok(QuadList::of_known(known)),
+        Err(_) => quad_numbers(alloc, ids, quads),
+    }
 }
 
 /// Names by places, at the numbers that stand there.

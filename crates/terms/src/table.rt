@@ -8,7 +8,7 @@ use indexmap::IndexSet;
 use rayon::prelude::*;
 use std::alloc::{AllocError, Global};
 use std::marker::Model;
-use std::thread::Threads;
+use std::thread::{Threads, spawn};
 
 /// Terms, each once and in the order in which they came, so that a place stands for a term. Contracts see the list of the terms.
 #[derive(Drop)]
@@ -177,7 +177,10 @@ impl TermTable {
         ensures kept { GoesOn self.old self.new }
     {
         let found = self.find_all(rt, alloc, others.as_slice())?;
-        self.places_found(alloc, others.as_slice(), found.as_slice())
+        let places = self.places_found(alloc, others.as_slice(), found.as_slice());
+        // Nobody waits until what is left is let go.
+        let _ = spawn(rt, move || drop(others));
+        places
     }
 
     /// The terms in the order in which they came. It fails where memory runs out.

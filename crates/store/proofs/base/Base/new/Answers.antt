@@ -13,8 +13,8 @@ use Rattle.store.proofs.Standing.{base_of}
 use Rattle.store.proofs.Places.{quads_within, names_within, quads_are, names_are}
 use Rattle.store.proofs.base.Base.new.Goals as goal
 
-pub quad_numbers-requires : goal.quad_numbers-requires
-quad_numbers-requires g c =
+pub placed-requires-clause-within : goal.placed-requires-clause-within
+placed-requires-clause-within g c =
     ap (λ (xs : List Id). list_all (is_quad_within xs) c.as_slice-2.result.now) c.as_slice.ensures.value
     ∙ ap (list_all (is_quad_within c.in_ok-terms.ids.items)) c.as_slice-2.ensures.value
     ∙ quads_within c.in_ok-terms.terms c.in_ok-parts.parts.terms.items c.in_ok-terms.ids.items c.in_ok-terms.ensures.renamed c.in_ok-terms.ensures.known c.in_ok-parts.parts.quads.items
