@@ -1,6 +1,6 @@
 -- Many reads that a pass answers in one hold of the book.
 use Rattle.std.proofs.Common.{◌≡◌, ℕ, ◌<◌, ◌+◌, arith, length, get_or, slice_index_or, take, drop, Bool, true, false, ◌==◌, List, [], ◌∷◌, ◌++◌, Option, Some, None, Result, Ok, Err, ◌⊎◌, inl, inr, refl, sym, ap, subst, ◌∙◌}
-use Rattle.std.specs.Prelude.{if◌then◌else◌}
+use Rattle.std.specs.Prelude.{if◌then◌else◌, option_to_list}
 use Rattle.std.specs.Result.{IsErrAnd}
 use Rattle.reads.specs.Reads.{View, Read, Answer}
 use Rattle.reads.specs.Asking.{AsksAll}
@@ -90,9 +90,8 @@ pub one_less : {A : Type 0} (xs ys : List A) → 0 < length xs → ys ≡ drop 1
 one_less [] ys some rest = absurd (omega (arith, some))
 one_less (x ∷ xs) ys some rest = omega (arith, ap length rest)
 
-pub taken_first : {A : Type 0} (xs ys : List A) (x : A) → 0 < length xs → x ≡ slice_index_or xs 0 x → ys ≡ take 0 xs ++ drop (0 + 1) xs → xs ≡ x ∷ ys
-taken_first [] ys x some is rest = absurd (omega (arith, some))
-taken_first (z ∷ zs) ys x some is rest = sym (λ t. is t ∷ rest t)
+pub popped_first : {A : Type 0} (xs ys : List A) (o : Option A) (x : A) → xs ≡ option_to_list o ++ ys → o ≡ Some x → xs ≡ x ∷ ys
+popped_first xs ys o x e is = e ∙ ap (λ z. option_to_list z ++ ys) is
 
 -- ---- going along the replies
 

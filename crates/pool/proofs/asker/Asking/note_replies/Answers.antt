@@ -1,7 +1,7 @@
 use Rattle.std.proofs.Common.{rules, arith, ◌≡◌, ◌<◌, length, drop, [], ◌⊎◌, inl, inr, sym, ap, ◌∙◌}
 use Rattle.std.proofs.lemmas.List.{nil_from_length}
 use Rattle.shared.specs.Asks.{told_by}
-use Rattle.pool.proofs.AskingAll.{some_first, first_is, one_less, taken_first, along_next, along_stops, along_whole, along_short}
+use Rattle.pool.proofs.AskingAll.{some_first, first_is, one_less, popped_first, along_next, along_stops, along_whole, along_short}
 use Rattle.pool.proofs.asker.Asking.note_replies.Goals.{then-loop-replies-test+else-not-is_empty, else-loop-replies-test}
 use Rattle.pool.proofs.asker.Asking.note_replies.Goals as goal
 
@@ -10,9 +10,9 @@ returns-in_err-answer g c =
     let some : 0 < length c.loop-replies.left.now = search rules in
     let more : 0 < length c.loop-replies.replies.items = search rules in
     let first = some_first c.loop-replies.left.now some in
-    λ old h. along_stops c.args.self.now c.args.made old c.args.reads.now c.loop-replies.left.now _ first.0 first.1 c.loop-replies.replies.items c.remove.new.self.items c.remove.result
-    (taken_first _ _ _ more c.remove.ensures.value c.remove.ensures.by_index.2) c.args.notes.now.items c.loop-replies.notes.items (c.loop-replies.invariant.along old h) _ c.from_residual.result
-    (sym c.in_err-answer.was ∙ (c.told.ensures ∙ ap told_by c.shown-reply.ensures)) c.from_residual.ensures.1
+    λ old h. along_stops c.args.self.now c.args.made old c.args.reads.now c.loop-replies.left.now _ first.0 first.1 c.loop-replies.replies.items c.pop_front.new.self.items c.unwrap-reply.result
+    (popped_first _ _ _ _ c.pop_front.ensures.items c.unwrap-reply.ensures) c.args.notes.now.items c.loop-replies.notes.items (c.loop-replies.invariant.along old h) _ c.from_residual.result
+    (sym c.in_err-answer.was ∙ (c.told.ensures ∙ ap told_by c.shown.ensures)) c.from_residual.ensures.1
 
 pub loop-replies-preserved : goal.loop-replies-preserved
 loop-replies-preserved g c =
@@ -20,9 +20,9 @@ loop-replies-preserved g c =
     let more : 0 < length c.loop-replies.replies.items = search rules in
     let rest : c.split_at.result.1.now ≡ drop 1 c.loop-replies.left.now = search rules in
     record {
-      along = λ old h. along_next c.args.self.now c.args.made old c.args.reads.now c.loop-replies.left.now c.split_at.result.1.now _ (first_is _ _ _ some rest) c.loop-replies.replies.items c.remove.new.self.items c.remove.result
-          (taken_first _ _ _ more c.remove.ensures.value c.remove.ensures.by_index.2) c.args.notes.now.items c.loop-replies.notes.items (c.loop-replies.invariant.along old h) c.in_ok-answer.answer c.push_reserved.new.self.items
-          (sym c.in_ok-answer.was ∙ (c.told.ensures ∙ ap told_by c.shown-reply.ensures)) c.push_reserved.ensures.items;
+      along = λ old h. along_next c.args.self.now c.args.made old c.args.reads.now c.loop-replies.left.now c.split_at.result.1.now _ (first_is _ _ _ some rest) c.loop-replies.replies.items c.pop_front.new.self.items c.unwrap-reply.result
+          (popped_first _ _ _ _ c.pop_front.ensures.items c.unwrap-reply.ensures) c.args.notes.now.items c.loop-replies.notes.items (c.loop-replies.invariant.along old h) c.in_ok-answer.answer c.push_reserved.new.self.items
+          (sym c.in_ok-answer.was ∙ (c.told.ensures ∙ ap told_by c.shown.ensures)) c.push_reserved.ensures.items;
       room = omega (arith, c.loop-replies.invariant.room, c.push_reserved.ensures.len, c.push_reserved.ensures.capacity, one_less _ _ some rest);
     }
 
