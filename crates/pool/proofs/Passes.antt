@@ -1,5 +1,5 @@
 -- A pass that made a call is still for its duty.
-use Rattle.std.proofs.Common.{◌≡◌, ◌<◌, ◌≤◌, ℕ, List, [], ◌∷◌, ◌++◌, ◌+◌, length, length-append, take, drop, All, Bool, Option, Some, ◌⊎◌, inl, inr, Result, Ok, Err, refl, sym, ap, ◌∙◌, subst, arith}
+use Rattle.std.proofs.Common.{◌≡◌, ◌<◌, ◌≤◌, ℕ, List, [], ◌∷◌, ◌++◌, ◌+◌, length, length-append, take, drop, All, Bool, Option, Some, None, ◌⊎◌, inl, inr, Result, Ok, Err, refl, sym, ap, ◌∙◌, subst, arith}
 use Rattle.std.proofs.lemmas.List.{take_all}
 use Rattle.std.proofs.lemmas.List.Elements.{All-append, All-take, All-drop}
 use Rattle.datasets.specs.declared.id.Id.{Id}
@@ -13,7 +13,10 @@ use Rattle.incarnations.specs.declared.state.Reply.{Reply as Told}
 use Rattle.blocklock.specs.Passes.{Includes}
 use Rattle.book.specs.Run.{Run, front_run, state_of}
 use Rattle.shared.specs.Calls.{Viewed, Made, owner, history_of, run_of}
+use Rattle.scheduler.specs.declared.task.Task.{Task}
 use Rattle.shared.specs.InTurn.{Adds}
+use Rattle.shared.specs.declared.taking.Next.{Next}
+use Rattle.shared.specs.Taking.{TookBy, Took, AddsAndTakes}
 use Rattle.shared.specs.Duty.{Duty, IsPassFor}
 use Rattle.shared.specs.Asks.{Asker, Asks}
 use Rattle.shared.proofs.Asking.{asks_sees}
@@ -42,6 +45,24 @@ still_for d old new event (Err e) h made = seen_for d old new h made.watches.see
 pub still_adds : {E : Type 0} (d : Duty) (old new : Viewed) (events : List Event) (before after : List Told) (made : Result Bool E) → IsPassFor d old
     → Adds old new events before after made → IsPassFor d new
 still_adds d old new events before after made h adds = seen_for d old new h (sees_in_turn old new events adds.replies made adds.in_turn)
+
+-- one that looked for what can be done next
+still_takes : {E : Type 0} (d : Duty) (old new : Viewed) (most : ℕ) (r : Result Next E) → IsPassFor d old → Took old new most r → IsPassFor d new
+still_takes d old new most (Ok t) h took = by_taken t.task t.taken took
+  where
+    by_taken : (task : Option Task) (taken : Option Told) → TookBy old new most task taken → IsPassFor d new
+    by_taken task None took = seen_for d old new h took.watches.sees
+    by_taken task (Some reply) took = seen_for d old new h took.answers.sees
+still_takes d old new most (Err e) h took = seen_for d old new h took.watches.sees
+
+-- one that did both in one hold
+pub still_adds_and_takes : {E : Type 0} (d : Duty) (old new : Viewed) (events : List Event) (before after : List Told) (most : ℕ) (made : Result (Bool × Next) E) → IsPassFor d old
+    → AddsAndTakes old new events before after most made → IsPassFor d new
+still_adds_and_takes {E} d old new events before after most (Ok (whole, next)) h (mid, adds, took) =
+    still_takes {E = E} d mid new most (Ok next) (still_adds {E = E} d old mid events before after (Ok whole) h adds) took
+still_adds_and_takes d old new events before after most (Err e) h (inl adds) = still_adds d old new events before after (Err e) h adds
+still_adds_and_takes {E} d old new events before after most (Err e) h (inr (mid, whole, adds, unmade)) =
+    seen_for d mid new (still_adds {E = E} d old mid events before after (Ok whole) h adds) unmade.watches.sees
 
 -- ---- a run whose reads a pass answers
 

@@ -47,6 +47,17 @@ impl Pace {
         committed.saturating_add(self.most())
     }
 
+    /// The same once the request at a place is published: where all before it are committed, it will be too.
+    pub(crate) fn until_behind(&self, place: usize) -> usize {
+        let committed = self.committed.load(Ordering::SeqCst);
+        let first = if place == committed {
+            committed.saturating_add(1)
+        } else {
+            committed
+        };
+        first.saturating_add(self.most())
+    }
+
     /// A request was taken, and is run.
     pub(crate) fn begin(&self) {
         self.running.fetch_add(1, Ordering::SeqCst);

@@ -17,7 +17,7 @@ use dict::Dict;
 use meaning::Request;
 use reads::{IndexedView, Stop};
 use scheduler::Task;
-use shared::{Pass, SharedBlock};
+use shared::{Next, Pass, SharedBlock};
 use std::alloc::{AllocError, Global};
 use std::marker::Model;
 use std::sync::Wait;
@@ -158,8 +158,14 @@ impl<'s, 'a, R: Wait, G: Gate> Workers<'s, 'a, R, G> {
         most
     }
 
-    // Publishes the finished run of a request and settles it, in one hold of the book: whether it was published.
-    fn published(&self, pass: &mut Pass<'a>, turn: Turn, run: Finished) -> Result<bool, AllocError>
+    // Publishes the finished run of a request and settles it, and finds what can be done next, in one hold of the book. It answers whether it was
+    // published, and that.
+    fn published(
+        &self,
+        pass: &mut Pass<'a>,
+        turn: Turn,
+        run: Finished,
+    ) -> Result<(bool, Next), AllocError>
         requires pass { IsPassFor self.now pass.old }
         requires sound { IsSoundAt self.now.subject turn.place run }
         ensures { IsPassFor self.now pass.new }
@@ -176,26 +182,32 @@ impl<'s, 'a, R: Wait, G: Gate> Workers<'s, 'a, R, G> {
             run,
             notes,
             self.until(place),
+            self.pace.until_behind(place),
             &mut replies,
         );
         let is_published = matches!(replies.first(), Some(Reply::Published));
         self.show_settled(pass, turn, notes, true, replies);
-        made?;
-        Ok(is_published)
+        let (_, next) = made?;
+        Ok((is_published, next))
     }
 
     // Publishes a finished run and settles it while the book is held once, and leaves the request where the publication is refused. It answers
-    // whether it was published.
-    fn publish(&self, pass: &mut Pass<'a>, turn: Turn, run: Finished) -> Result<bool, AllocError>
+    // whether it was published, and what can be done next.
+    fn publish(
+        &self,
+        pass: &mut Pass<'a>,
+        turn: Turn,
+        run: Finished,
+    ) -> Result<(bool, Next), AllocError>
         requires pass { IsPassFor self.now pass.old }
         requires sound { IsSoundAt self.now.subject turn.place run }
         ensures { IsPassFor self.now pass.new }
     {
-        let is_published = self.published(pass, turn, run)?;
+        let (is_published, next) = self.published(pass, turn, run)?;
         if !is_published {
             self.give_up(pass, turn)?;
         }
-        Ok(is_published)
+        Ok((is_published, next))
     }
 
     // Settles a published run of so many notes while the book is held once: its checks, as long as they pass, and the commits of the request
@@ -222,13 +234,13 @@ impl<'s, 'a, R: Wait, G: Gate> Workers<'s, 'a, R, G> {
         Ok(is_begun)
     }
 
-    // Runs an incarnation that was taken, publishes its run and settles it. It answers whether one was published.
+    // Runs an incarnation that was taken, publishes its run and settles it. It answers whether one was published, and what can be done next.
     fn run_taken(
         &self,
         pass: Pass<'a>,
         turn: Turn,
         request: &Request<Id>,
-    ) -> Result<(Pass<'a>, bool), AllocError>
+    ) -> Result<(Pass<'a>, bool, Next), AllocError>
         requires pass { IsPassFor self.now pass }
         requires place { turn.place < 2 ^ 32 }
         requires is { slice_get self.now.subject.block turn.place ≡ Some request.now }
@@ -239,33 +251,33 @@ impl<'s, 'a, R: Wait, G: Gate> Workers<'s, 'a, R, G> {
         let Some(run) = found else {
             self.pace.slow_down();
             self.give_up(&mut pass, turn)?;
-            return Ok((pass, false));
+            return Ok((pass, false, Next::nothing()));
         };
         // An owner more, so that its memory is given back here, and not while the book is held.
         let transcript = run.transcript.copied()?;
         self.lengths.put(turn.place, transcript.len());
-        let is_published = self.publish(&mut pass, turn, run)?;
+        let (is_published, next) = self.publish(&mut pass, turn, run)?;
         drop(transcript);
-        Ok((pass, is_published))
+        Ok((pass, is_published, next))
     }
 
-    // Runs the request at a place, which was taken with this reply. It answers whether a run was published.
+    // Runs the request at a place, which was taken with this reply. It answers whether a run was published, and what can be done next.
     fn run_next(
         &self,
         pass: Pass<'a>,
         place: usize,
         reply: Reply,
-    ) -> Result<(Pass<'a>, bool), AllocError>
+    ) -> Result<(Pass<'a>, bool, Next), AllocError>
         requires pass { IsPassFor self.now pass }
         requires size { length self.now.subject.block < 2 ^ 32 }
         requires short { AreShort self.now.subject.block }
         ensures { IfOk result (λ r. IsPassFor self.now r.0) }
     {
         let Some(request) = self.block.get(place) else {
-            return Ok((pass, false));
+            return Ok((pass, false, Next::nothing()));
         };
         let Reply::Taken(incarnation) = self.shown(&pass, Event::Take(place), reply) else {
-            return Ok((pass, false));
+            return Ok((pass, false, Next::nothing()));
         };
         self.pace.begin();
         let run = self.run_taken(pass, Turn { place, incarnation }, request);
@@ -319,8 +331,25 @@ impl<'s, 'a, R: Wait, G: Gate> Workers<'s, 'a, R, G> {
         Ok((pass, got_on))
     }
 
-    // Does the next task, if there is one. A request that is too far ahead is not taken. It answers whether the block got on by it.
-    fn advance(&self, pass: Pass<'a>) -> Result<(Pass<'a>, bool), AllocError>
+    // Does what can be done next: a request that was taken with it is run. It answers whether the block got on by it, and what can be done then.
+    fn follow(&self, pass: Pass<'a>, next: Next) -> Result<(Pass<'a>, bool, Next), AllocError>
+        requires pass { IsPassFor self.now pass }
+        requires size { length self.now.subject.block < 2 ^ 32 }
+        requires short { AreShort self.now.subject.block }
+        ensures { IfOk result (λ r. IsPassFor self.now r.0) }
+    {
+        match (next.task, next.taken) {
+            (Some(Task::Take(place)), Some(reply)) => self.run_next(pass, place, reply),
+            (Some(task), _) => {
+                let (pass, got_on) = self.act(pass, task)?;
+                Ok((pass, got_on, Next::nothing()))
+            }
+            (None, _) => Ok((pass, false, Next::nothing())),
+        }
+    }
+
+    // Looks for the next task, if there is one, and does it. A request that is too far ahead is not taken. It answers as `follow` does.
+    fn advance(&self, pass: Pass<'a>) -> Result<(Pass<'a>, bool, Next), AllocError>
         requires pass { IsPassFor self.now pass }
         requires size { length self.now.subject.block < 2 ^ 32 }
         requires short { AreShort self.now.subject.block }
@@ -331,11 +360,26 @@ impl<'s, 'a, R: Wait, G: Gate> Workers<'s, 'a, R, G> {
         let next = self
             .shared
             .take_next(self.rt, self.alloc, &mut pass, until)?;
-        match (next.task, next.taken) {
-            (Some(Task::Take(place)), Some(reply)) => self.run_next(pass, place, reply),
-            (Some(task), _) => self.act(pass, task),
-            (None, _) => Ok((pass, false)),
+        self.follow(pass, next)
+    }
+
+    // Runs the request that was taken last, or looks for the next task. It answers as `follow` does.
+    fn go_on(
+        &self,
+        pass: Pass<'a>,
+        next: Next,
+        backoff: &Backoff,
+    ) -> Result<(Pass<'a>, bool, Next), AllocError>
+        requires pass { IsPassFor self.now pass }
+        requires size { length self.now.subject.block < 2 ^ 32 }
+        requires short { AreShort self.now.subject.block }
+        ensures { IfOk result (λ r. IsPassFor self.now r.0) }
+    {
+        if next.taken.is_some() {
+            return self.follow(pass, next);
         }
+        self.pace.wait_for_room(backoff);
+        self.advance(pass)
     }
 
     // Does tasks until all requests are committed, or one of the workers was refused memory.
@@ -346,14 +390,15 @@ impl<'s, 'a, R: Wait, G: Gate> Workers<'s, 'a, R, G> {
         ensures { IfOk result (IsDone self.now) }
     {
         let mut pass = pass;
+        let mut next = Next::nothing();
         let backoff = Backoff::new();
         for _ in self.rt.forever() {
             if self.stopped.load(Ordering::SeqCst) {
                 return Err(AllocError);
             }
-            self.pace.wait_for_room(&backoff);
-            let (next, got_on) = self.advance(pass)?;
-            pass = next;
+            let (later, got_on, found) = self.go_on(pass, next, &backoff)?;
+            pass = later;
+            next = found;
             if got_on {
                 backoff.reset();
                 continue;

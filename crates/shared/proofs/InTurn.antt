@@ -102,7 +102,7 @@ in_turn_one {E} a b e r answers = by_reply (lets_go_on r) refl
 
 -- ---- while a pass holds the book
 
-goes_on_more : (w : ℕ) (xs ys zs : List Entry) → GoesOn owner w xs ys → GoesOn owner w ys zs → GoesOn owner w xs zs
+pub goes_on_more : (w : ℕ) (xs ys zs : List Entry) → GoesOn owner w xs ys → GoesOn owner w ys zs → GoesOn owner w xs zs
 goes_on_more w xs ys zs (m, is, own) (n, is_then, own_then) =
     (m ++ n, is_then ∙ ap (λ es. es ++ n) is ∙ append_assoc xs m n, filter-append (λ e. eqb (owner e) w) m n ∙ (λ t. own t ++ own_then t))
 

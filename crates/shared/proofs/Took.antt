@@ -1,5 +1,5 @@
 -- A pass that took the book, looked for what can be done next, and gave the book back, with the take of a request or without.
-use Rattle.std.proofs.Common.{◌≡◌, ℕ, false, List, [], ◌∷◌, ◌++◌, Option, Some, None, Result, Ok, Err, IfOk, OnErr, refl, sym, ap, subst, ◌∙◌}
+use Rattle.std.proofs.Common.{◌≡◌, ◌<◌, ℕ, Bool, true, false, length, append-nil, inl, inr, List, [], ◌∷◌, ◌++◌, Option, Some, None, Result, Ok, Err, IfOk, OnErr, refl, sym, ap, subst, ◌∙◌}
 use Rattle.std.specs.Prelude.{IfSome}
 use Rattle.incarnations.specs.declared.state.Event.{Event}
 use Rattle.incarnations.specs.declared.state.Reply.{Reply}
@@ -10,9 +10,11 @@ use Rattle.book.specs.Run.{Run, state_of, setting_of}
 use Rattle.blocklock.specs.Passes.{Takes, given}
 use Rattle.scheduler.specs.Task.{IsNext}
 use Rattle.scheduler.specs.declared.task.Task.{Task}
-use Rattle.shared.specs.Calls.{Viewed, owner, history_of, run_of, entry}
+use Rattle.shared.specs.Calls.{Viewed, owner, history_of, run_of, entry, Unmade}
 use Rattle.shared.specs.declared.taking.Next.{Next}
-use Rattle.shared.specs.Taking.{taking, TookFrom, TookIt, TookNone, TookBy, Took}
+use Rattle.shared.specs.InTurn.{Adds, Went}
+use Rattle.shared.specs.Taking.{taking, TookFrom, TookIt, TookNone, TookBy, Took, AddsAndTakes, WentAndTook}
+use Rattle.shared.proofs.InTurn.{in_turn_refused, adds, went_as}
 use Rattle.shared.proofs.Made.{answers, watches, unmade}
 
 module _ (old mid new : Viewed) (book book' : Run) (takes : Takes owner old (history_of book) mid) (gave : new ≡ given mid (history_of book')) where
@@ -82,3 +84,60 @@ pub took_next : {X : Type 0} (old mid new : Viewed) (before held read after : Ru
 took_next old mid new before held read after worker most r takes is_held is_read own lawful can is_none is_some err gave =
     took old mid new held after (subst (λ (b : Run). Takes owner old (history_of b) mid) (sym is_held) takes) gave worker most (own ∙ sym (ap (λ (p : Viewed). p.worker) takes.sees)) r
     (subst (λ (b : Run). IsHistory (setting_of b) b.history) (is_read ∙ sym is_held) lawful) can is_none is_some err
+
+-- ---- while a pass holds the book
+
+-- what a pass knows that holds a book of which it has seen all
+holds_it : (p : Viewed) (book : Run) → (history_of book).subject ≡ p.subject → Takes owner (given p (history_of book)) (history_of book) (record p { seen = book.history; holds = true })
+holds_it p book about =
+    record { was_free = refl; includes = record { subject = about; begins = ([], sym (append-nil book.history)); mine = refl }; sees = refl }
+
+pub took_while : {X : Type 0} (p : Viewed) (book book' : Run) (worker most : ℕ) (r : Result Next X) → (history_of book).subject ≡ p.subject → worker ≡ p.worker → IsHistory (setting_of book) book.history
+    → IfOk r (λ t. IsNext (state_of book) t.task) → IfOk r (λ t. t.taken ≡ None → (taking most t.task ≡ None) × (book' ≡ book))
+    → IfOk r (λ t. IfSome t.taken (λ reply. TookFrom book book' worker most t.task reply)) → OnErr r (book' ≡ book) → Took (given p (history_of book)) (given p (history_of book')) most r
+took_while p book book' worker most r about own lawful can is_none is_some err =
+    took (given p (history_of book)) (record p { seen = book.history; holds = true }) (given p (history_of book')) book book' (holds_it p book about) refl worker most own r lawful can is_none is_some err
+
+-- Events in turn, and then the next task. Either may come to want of memory.
+module _ {E : Type 0} (p : Viewed) (book mid book' : Run) (es : List Event) (rs ps : List Reply) (most : ℕ) (told : Result Bool E) where
+  pub took_all : (whole : Bool) (took : Result Next E) (next : Next) → told ≡ Ok whole → took ≡ Ok next → Went p book mid es rs ps told
+      → Took (given p (history_of mid)) (given p (history_of book')) most took → WentAndTook {E = E} p book book' es rs ps most (Ok (whole, next))
+  took_all whole took next is then went h =
+      (mid, subst (λ (r : Result Bool E). Went p book mid es rs ps r) is went, subst (λ (r : Result Next E). Took (given p (history_of mid)) (given p (history_of book')) most r) then h)
+
+  pub took_short : (whole : Bool) (took : Result Next E) (made : Result (Bool × Next) E) (x y : E) → told ≡ Ok whole → took ≡ Err x → made ≡ Err y → Went p book mid es rs ps told
+      → Took (given p (history_of mid)) (given p (history_of book')) most took → WentAndTook p book book' es rs ps most made
+  took_short whole took made x y is then failed went h =
+      subst (λ (r : Result (Bool × Next) E). WentAndTook p book book' es rs ps most r) (sym failed)
+      (inr (mid, whole, subst (λ (r : Result Bool E). Went p book mid es rs ps r) is went, subst (λ (r : Result Next E). Took (given p (history_of mid)) (given p (history_of book')) most r) then h))
+
+  pub took_not : (made : Result (Bool × Next) E) (x y : E) → told ≡ Err x → made ≡ Err y → Went p book book' es rs ps told → WentAndTook p book book' es rs ps most made
+  took_not made x y is failed went =
+      subst (λ (r : Result (Bool × Next) E). WentAndTook p book book' es rs ps most r) (sym failed) (inl (went_as p book book' es rs ps told (Err y) x y is refl went))
+
+-- ---- the pass that took the book and gave it back
+
+-- a growth was refused before anything was made
+pub refused_first : {E : Type 0} (a : Viewed) (es : List Event) (rs qs : List Reply) (most : ℕ) (made : Result (Bool × Next) E) (x : E) → 0 < length es → made ≡ Err x → qs ≡ rs
+    → AddsAndTakes a a es rs qs most made
+refused_first {E} a es rs qs most made x some is still =
+    subst (λ (r : Result (Bool × Next) E). AddsAndTakes a a es rs qs most r) (sym is)
+    (inl (record { replies = []; added = still ∙ sym (append-nil rs); in_turn = in_turn_refused a es (Err x) x some refl }))
+
+pub adds_and_takes : {E : Type 0} (old mid new : Viewed) (before held read after : Run) (es : List Event) (rs ps qs : List Reply) (most : ℕ) (made : Result (Bool × Next) E)
+    → Takes owner old (history_of before) mid → 0 < length es → held ≡ before → read ≡ before → ps ≡ rs → IsHistory (setting_of read) read.history
+    → WentAndTook mid held after es ps qs most made → new ≡ given mid (history_of after) → AddsAndTakes old new es rs qs most made
+adds_and_takes {E} old mid new before held read after es rs ps qs most (Ok (whole, next)) takes some is_held is_read still lawful (between, went, then) gave = (
+  given mid (history_of between),
+  adds old mid (given mid (history_of between)) before held read between es rs ps qs (Ok whole) takes some is_held is_read still lawful went refl,
+  subst (λ (v : Viewed). Took {E = E} (given mid (history_of between)) v most (Ok next)) (sym gave) then,
+)
+adds_and_takes {E} old mid new before held read after es rs ps qs most (Err e) takes some is_held is_read still lawful (inl went) gave =
+    inl (adds old mid new before held read after es rs ps qs (Err e) takes some is_held is_read still lawful went gave)
+adds_and_takes {E} old mid new before held read after es rs ps qs most (Err e) takes some is_held is_read still lawful (inr (between, whole, went, then)) gave =
+    inr (
+      given mid (history_of between),
+      whole,
+      adds old mid (given mid (history_of between)) before held read between es rs ps qs (Ok whole) takes some is_held is_read still lawful went refl,
+      subst (Unmade (given mid (history_of between))) (sym gave) then,
+    )

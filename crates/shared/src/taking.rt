@@ -1,14 +1,18 @@
 //! What a worker can do next, and the take of a request where it is that, in one hold of the lock.
 ghost use Rattle.std.specs.Prelude.{◌≡◌, Some, None, IfOk, IfSome, OnErr};
 ghost use Rattle.std.specs.Option.{option_map};
-ghost use Rattle.book.specs.Run.{state_of};
+ghost use Rattle.book.specs.Run.{state_of, IsSoundEvent};
 ghost use Rattle.blocklock.specs.History.{GoesOn};
 ghost use Rattle.scheduler.specs.Task.{IsNext};
 ghost use Rattle.shared.specs.Calls.{owner, history_of};
-ghost use Rattle.shared.specs.Taking.{taking, TookFrom};
+ghost use Rattle.shared.specs.InTurn.{publishing};
+ghost use Rattle.shared.specs.Taking.{taking, TookFrom, WentAndTook};
 
+use crate::in_turn::make_publishing;
+use crate::kept::Pass;
 use block_machine::{Event, Reply};
 use book::Book;
+use delta::Finished;
 use scheduler::{Task, next};
 use std::alloc::{AllocError, Global};
 
@@ -17,6 +21,18 @@ use std::alloc::{AllocError, Global};
 pub struct Next {
     pub task: Option<Task>,
     pub taken: Option<Reply>,
+}
+
+impl Next {
+    /// Nothing.
+    pub fn nothing() -> Next
+        ensures { result ≡ record { task = None; taken = None } }
+    {
+        Next {
+            task: None,
+            taken: None,
+        }
+    }
 }
 
 // The request that is taken at once, where this is what can be done next.
@@ -55,4 +71,31 @@ pub(crate) fn make_taking<'a>(
         task,
         taken: Some(reply),
     })
+}
+
+/// On a book that the pass holds: the publication of a run, what settles it, and then what can be done next. It answers whether all of the
+/// settling was made and lets the worker go on, too.
+pub(crate) fn make_publishing_and_taking<'a>(
+    alloc: Global,
+    book: &mut Book<'a>,
+    pass: &Pass<'a>,
+    i: usize,
+    n: u64,
+    finished: Finished,
+    notes: usize,
+    until: usize,
+    most: usize,
+    replies: &mut Vec<Reply>,
+) -> Result<(bool, Next), AllocError>
+    requires subject { (history_of book.old).subject ≡ pass.now.subject }
+    requires sound { IsSoundEvent book.old (Event.Publish i n (Some finished)) }
+    ensures subject { (history_of book.new).subject ≡ pass.now.subject }
+    ensures goes_on { GoesOn owner pass.now.worker book.old.history book.new.history }
+    ensures took { WentAndTook pass.now book.old book.new (publishing i n finished notes until)
+        replies.old.items replies.new.items most result }
+{
+    let whole = make_publishing(alloc, book, pass, i, n, finished, notes, until, replies)?;
+    let _between = book.journal();
+    let next = make_taking(alloc, book, pass.worker(), most)?;
+    Ok((whole, next))
 }

@@ -3,12 +3,12 @@ ghost use Rattle.std.specs.Prelude.{◌≡◌, ◌++◌, Some};
 ghost use Rattle.block_machine.specs.Scans.{questions_of};
 ghost use Rattle.shared.specs.Calls.{IsSoundAt, Made};
 ghost use Rattle.shared.specs.InTurn.{questions, reading, publishing, checking, committing, Adds};
-ghost use Rattle.shared.specs.Taking.{Took};
+ghost use Rattle.shared.specs.Taking.{AddsAndTakes, Took};
 
-use crate::in_turn::{make_publishing, make_reads, make_settling};
+use crate::in_turn::{make_reads, make_settling};
 use crate::kept::Pass;
 use crate::shared_block::SharedBlock;
-use crate::taking::{Next, make_taking};
+use crate::taking::{Next, make_publishing_and_taking, make_taking};
 use block_machine::{Event, Reply};
 use datasets::Read;
 use delta::Finished;
@@ -200,7 +200,7 @@ impl<'a> SharedBlock<'a> {
 
     /// Publishes a finished run of incarnation `n` of request `i`, which the caller gives away, and settles it, in one hold of the lock. It stops
     /// behind the first reply that is none of `Published`, `Begun`, `Passed` and `Committed`, and answers whether there was none. The replies
-    /// come to the end of the list, those too after which a growth was refused.
+    /// come to the end of the list, those too after which a growth was refused. Then, in the same hold, it is as `take_next`.
     pub fn publish_settled<R: Wait>(
         &self,
         rt: &R,
@@ -211,17 +211,18 @@ impl<'a> SharedBlock<'a> {
         finished: Finished,
         notes: usize,
         until: usize,
+        most: usize,
         replies: &mut Vec<Reply>,
-    ) -> Result<bool, AllocError>
+    ) -> Result<(bool, Next), AllocError>
         requires own { pass.old.table ≡ self.now }
         requires sound { IsSoundAt pass.old.subject i finished }
-        ensures { Adds pass.old pass.new (publishing i n finished notes until)
-            replies.old.items replies.new.items result }
+        ensures { AddsAndTakes pass.old pass.new (publishing i n finished notes until)
+            replies.old.items replies.new.items most result }
     {
         replies.reserve(notes.saturating_add(2))?;
         let mut held = self.lock.hold(rt, pass);
         let _before = held.book.book.journal();
-        let made = make_publishing(
+        let made = make_publishing_and_taking(
             alloc,
             &mut held.book.book,
             pass,
@@ -230,6 +231,7 @@ impl<'a> SharedBlock<'a> {
             finished,
             notes,
             until,
+            most,
             replies,
         );
         held.give(pass);
