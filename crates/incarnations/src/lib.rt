@@ -1,4 +1,4 @@
-//! How far a request of a block has come, which of its incarnations a worker may speak for, and what an event makes of its part of the machine.
+//! How far a request of a block has come, what an event of one incarnation is refused for, and what it makes of the request's part.
 //! Stands on `version_overlay`, `delta` and `stamp_tree`, and of `meaning` on the reply to a request.
 //!
 //! The contracts used above: a refusal is the one of specs/Statuses.antt, and a changed slot is the one of specs/Slots.antt, however the
