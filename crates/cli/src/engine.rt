@@ -11,7 +11,7 @@ ghost use Rattle.cli.specs.Inputs.{IsFaultOf};
 ghost use Rattle.update.specs.Asked.{AreShort};
 ghost use Rattle.cli.specs.Outputs.{IfBoth, IsAnswerTo, Wrote, WroteInPart, taken};
 
-use crate::inputs::{read_base_by, read_block};
+use crate::inputs::{read_base_by, read_block_by};
 use crate::outputs::{Texts, write_texts};
 use command_line::{Fault, File, replies_text};
 use delta::Outcome;
@@ -31,10 +31,10 @@ use terms::DataSet;
 
 /// A way to read a base, and to run a block at numbers of terms.
 pub(crate) trait Runs {
-    ghost use Rattle.std.specs.Prelude.{◌<◌, ◌-◌, ◌^◌, length, IfOk, IfSome};
+    ghost use Rattle.std.specs.Prelude.{◌<◌, ◌≤◌, ◌-◌, ◌^◌, length, IfOk, IfSome};
     ghost use Rattle.update.specs.Asked.{AreShort};
     ghost use Rattle.cli.specs.Failures.{is_unread, FailedIf, TellsNoOther};
-    ghost use Rattle.cli.specs.Inputs.{IsBaseAnswer};
+    ghost use Rattle.cli.specs.Inputs.{IsBaseAnswer, IsBlockAnswer};
     ghost use Rattle.cli.specs.Outputs.{IsWhole};
     ghost use Rattle.nquads.specs.Canonical.{canonical, text_of_pieces};
     ghost use Rattle.numbering.specs.Numbered.{IsNumbered};
@@ -50,6 +50,17 @@ pub(crate) trait Runs {
         ensures failures { FailedIf (is_unread File.Base result) base.old.failures
             base.new.failures }
         ensures others { TellsNoOther File.Base result };
+
+    /// The requests of a block.
+    fn requests<R: Read>(&self, alloc: Global, block: &mut Watched<R>) -> Result<Block, Fault>
+        requires ready { Ready }
+        requires failures { block.old.failures < 2 ^ 64 - 1 }
+        ensures answer { IfSome (R.remaining block.old.inner) (λ text. IsBlockAnswer text result) }
+        ensures failures { FailedIf (is_unread File.Block result) block.old.failures
+            block.new.failures }
+        ensures others { TellsNoOther File.Block result }
+        ensures few { IfOk result (λ block. length block ≤ 4096) }
+        ensures short { IfOk result AreShort };
 
     /// The base and the block at numbers of terms.
     fn number(&self, alloc: Global, dataset: DataSet, block: Block) -> Result<Numbered, AllocError>
@@ -164,7 +175,7 @@ pub(crate) fn run_by<W: Runs, B: Read, K: Read, D: Write, A: Write>(
         dataset.new.failures replies.old.failures replies.new.failures }
 {
     let read = way.read(alloc, base)?;
-    let requests = read_block(alloc, block)?;
+    let requests = way.requests(alloc, block)?;
     match texts_of(way, alloc, read, requests) {
         Ok(texts) => write_texts(&texts, dataset, replies),
         Err(_) => Err(Fault::Memory),
@@ -187,6 +198,10 @@ impl<'r, T: Threads + Wait + Sync> Runs for Workers<'r, T> {
 
     fn read<R: Read>(&self, alloc: Global, base: &mut Watched<R>) -> Result<DataSet, Fault> {
         read_base_by(self.rt, alloc, base, self.count)
+    }
+
+    fn requests<R: Read>(&self, alloc: Global, block: &mut Watched<R>) -> Result<Block, Fault> {
+        read_block_by(self.rt, alloc, block, self.count)
     }
 
     fn number(

@@ -5,7 +5,7 @@ ghost use Rattle.cli.specs.Inputs.{IsFaultOf};
 ghost use Rattle.cli.specs.Outputs.{IfBoth, Wrote, WroteInPart, taken};
 
 use crate::engine::{Runs, run_by};
-use crate::inputs::read_base;
+use crate::inputs::{read_base, read_block};
 use command_line::{Fault, File};
 use delta::Outcome;
 use devices::Watched;
@@ -27,6 +27,10 @@ impl Runs for OneByOne {
 
     fn read<R: Read>(&self, alloc: Global, base: &mut Watched<R>) -> Result<DataSet, Fault> {
         read_base(alloc, base)
+    }
+
+    fn requests<R: Read>(&self, alloc: Global, block: &mut Watched<R>) -> Result<Block, Fault> {
+        read_block(alloc, block)
     }
 
     fn number(

@@ -11,7 +11,7 @@ use command_line::{Fault, File};
 use devices::{ReadFault, Watched, all_of, front_of};
 use nquads::BaseFault;
 use rules::laws::requests_are_short;
-use rules::{Block, BlockFault, Verdict, split, verdicts};
+use rules::{Block, BlockFault, Verdict, split, split_by, verdicts};
 use sets::Items;
 use std::alloc::Global;
 use std::io::Read;
@@ -103,6 +103,26 @@ fn cut(alloc: Global, bytes: &[u8]) -> Result<Block, Fault>
     }
 }
 
+/// The same, checked by so many threads.
+fn cut_by<T: Threads + Sync>(
+    rt: &T,
+    alloc: Global,
+    bytes: &[u8],
+    threads: u32,
+) -> Result<Block, Fault>
+    ensures answer { (text : List ℕ) → IsFront (2 ^ 28) text bytes.now → IsBlockAnswer text result }
+    ensures read { is_unread File.Block result ≡ false }
+    ensures others { TellsNoOther File.Block result }
+    ensures few { IfOk result (λ block. length block ≤ 4096) }
+    ensures short { IfOk result AreShort }
+{
+    requests_are_short();
+    match split_by(rt, alloc, bytes, threads as usize) {
+        Ok(block) => Ok(block),
+        Err(fault) => Err(block_fault(fault)),
+    }
+}
+
 /// The requests of the block that a reader gives. `CannotRead` comes where a read failed, and only there.
 pub fn read_block<R: Read>(alloc: Global, reader: &mut Watched<R>) -> Result<Block, Fault>
     requires { reader.old.failures < 2 ^ 64 - 1 }
@@ -118,6 +138,28 @@ pub fn read_block<R: Read>(alloc: Global, reader: &mut Watched<R>) -> Result<Blo
         Err(fault) => return Err(device_fault(fault)),
     };
     cut(alloc, bytes.as_slice())
+}
+
+/// The same, checked by so many threads.
+pub fn read_block_by<T: Threads + Sync, R: Read>(
+    rt: &T,
+    alloc: Global,
+    reader: &mut Watched<R>,
+    threads: u32,
+) -> Result<Block, Fault>
+    requires { reader.old.failures < 2 ^ 64 - 1 }
+    ensures answer { IfSome (R.remaining reader.old.inner) (λ text. IsBlockAnswer text result) }
+    ensures failures { FailedIf (is_unread File.Block result) reader.old.failures
+        reader.new.failures }
+    ensures others { TellsNoOther File.Block result }
+    ensures few { IfOk result (λ block. length block ≤ 4096) }
+    ensures short { IfOk result AreShort }
+{
+    let bytes = match front_of(alloc, reader, MOST_BLOCK_BYTES) {
+        Ok(bytes) => bytes,
+        Err(fault) => return Err(device_fault(fault)),
+    };
+    cut_by(rt, alloc, bytes.as_slice(), threads)
 }
 
 /// The verdicts on the requests of a block's bytes.

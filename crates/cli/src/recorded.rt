@@ -7,7 +7,7 @@ ghost use Rattle.cli.specs.Journals.{IsFaultWithJournal, IsJournalAt, IsJournalO
 ghost use Rattle.cli.specs.Outputs.{IfBoth, IsAnswerTo, IsWhole, Wrote, WroteInPart, taken};
 
 use crate::engine::{Runs, Workers, texts_of_outcome};
-use crate::inputs::{read_base_by, read_block};
+use crate::inputs::{read_base_by, read_block_by};
 use crate::outputs::{Texts, write_journal, write_texts};
 use command_line::{Fault, File};
 use delta::Outcome;
@@ -163,7 +163,7 @@ pub fn run_with_journal_engine<
         journal.new.failures }
 {
     let read = read_base_by(rt, alloc, base, workers)?;
-    let requests = read_block(alloc, block)?;
+    let requests = read_block_by(rt, alloc, block, workers)?;
     let Ok(texts) = texts_with_journal(rt, alloc, read, requests, workers) else {
         return Err(Fault::Memory);
     };

@@ -3,6 +3,8 @@
 #![tactic(auto)]
 
 #[cfg(test)]
+mod by_threads;
+#[cfg(test)]
 mod filters;
 #[cfg(test)]
 mod group_patterns;

@@ -9,7 +9,7 @@ use terms::Term;
 const RDF_TYPE: &str = "http://www.w3.org/1999/02/22-rdf-syntax-ns#type";
 
 /// Texts after the prologue of `ex:`, and how many operations each has, or why it is refused.
-const TEXTS: [(&str, Result<usize, Refusal>); 75] = [
+pub(crate) const TEXTS: [(&str, Result<usize, Refusal>); 75] = [
     ("INSERT DATA { ?x nope:p 1 }", Err(Refusal::Prefix)),
     (
         "INSERT DATA { GRAPH ?g { ex:a ex:p 1 } }",

@@ -1,3 +1,5 @@
 pub mod VerdictLaws
 pub mod CutLaws
+pub mod SideLaws
+pub mod Sent
 pub mod TermLaws

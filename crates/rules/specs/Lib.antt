@@ -1,5 +1,6 @@
 pub mod Refusal
 pub mod Requests
 pub mod Cutting
+pub mod Cuts
 pub mod Terms
 pub mod Parts
