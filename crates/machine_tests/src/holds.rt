@@ -11,7 +11,7 @@ use block_machine::Reply;
 use book::count;
 use datasets::{GraphPlace, QuadPattern, Read};
 use reads::{IndexedView, Scanned, View};
-use shared::{Pass, SharedBlock};
+use shared::{Next, Pass, SharedBlock};
 use std::alloc::{AllocError, Global};
 use std::sync::Wait;
 use std::test::Fail;
@@ -39,7 +39,7 @@ fn settles<'a, R: Wait>(
     }
 }
 
-// Takes the first request, runs it, and publishes and settles its run.
+// Takes the first request, runs it, publishes and settles its run, and takes the next one.
 fn publishes_settled<'a, R: Wait>(
     rt: &R,
     alloc: Global,
@@ -62,7 +62,27 @@ fn publishes_settled<'a, R: Wait>(
         return Ok(false);
     };
     let until = topic.block.len();
-    shared.publish_settled(rt, alloc, &mut pass, 0, 0, run, 1, until, replies)
+    let (whole, next) = shared.publish_settled(
+        rt, alloc, &mut pass, 0, 0, run, 1, until, until, replies,
+    )?;
+    if let Some(reply) = next.taken {
+        replies.push(reply)?;
+    }
+    Ok(whole)
+}
+
+// What can be done first, with the reply to a take of a request below a place.
+fn first_task<R: Wait>(
+    rt: &R,
+    alloc: Global,
+    topic: &Topic<'_>,
+    most: usize,
+) -> Result<Next, AllocError>
+    requires { IsDataset topic.now.base }
+{
+    let (shared, mut passes) = opened(alloc, topic, 1)?;
+    let mut pass = last(&shared, topic, &mut passes);
+    shared.take_next(rt, alloc, &mut pass, most)
 }
 
 // Takes the second request and reads all quads and all names for it.
@@ -166,12 +186,13 @@ fn are_expected<R: Wait>(rt: &R, alloc: Global, topic: &Topic<'_>) -> Result<boo
     Ok(told.as_slice() == EXPECTED.as_slice())
 }
 
-const PUBLISHED: [(Told, u64); 5] = [
+const PUBLISHED: [(Told, u64); 6] = [
     (Told::Published, 0),
     (Told::Begun, 0),
     (Told::Passed, 0),
     (Told::Committed, 0),
     (Told::NotYet, 0),
+    (Told::Taken(0), 0),
 ];
 
 // Whether the one worker is told so.
@@ -195,5 +216,9 @@ fn many_events_in_one_hold(rt: HostRuntime) -> Result<(), Fail> {
     };
     assert!(rt; are_expected(&rt, alloc, &topic)?);
     assert!(rt; is_published(&rt, alloc, &topic)?);
+    let far = first_task(&rt, alloc, &topic, 0)?;
+    assert!(rt; far.task.is_some() && far.taken.is_none());
+    let near = first_task(&rt, alloc, &topic, 1)?;
+    assert!(rt; matches!(near.taken, Some(Reply::Taken(0))));
     Ok(())
 }

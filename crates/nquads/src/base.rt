@@ -154,8 +154,10 @@ fn read_within_by<T: Threads + Sync, R: Read>(
 {
     let bytes = front_of(alloc, reader, limit)?;
     let answer = answer_by(rt, alloc, bytes.as_slice(), limit, threads);
-    // Nobody waits until they are let go.
-    let _ = spawn(rt, move || drop(bytes));
+    if 1 < threads {
+        // Nobody waits until they are let go.
+        let _ = spawn(rt, move || drop(bytes));
+    }
     answer
 }
 

@@ -349,7 +349,9 @@ pub fn canonical_pieces_by<T: Threads + Sync>(
         &full,
         threads,
     )?;
-    // Nobody waits until they are let go.
-    let _ = spawn(rt, move || drop(texts));
+    if 1 < threads {
+        // Nobody waits until they are let go.
+        let _ = spawn(rt, move || drop(texts));
+    }
     Ok(pieces)
 }
