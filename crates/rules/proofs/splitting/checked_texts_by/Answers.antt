@@ -22,7 +22,7 @@ pub returns : goal.returns
 returns g c =
     let slice = ap (λ it. it.base.slice.now) c.map.ensures.base ∙ ap (λ it. it.slice.now) c.with_min_len.ensures.base ∙ c.par_iter.ensures ∙ c.as_slice.ensures.value in
     let h = c.in_ok-found.ensures in
-    let chain = rw c.map.ensures.f at h.1 in
+    let chain = h.1 in
     let texts = texts_of (whole_lines c.args.text.now) in
     let cuts = c.in_ok-texts.texts.items in
     subst (λ requests. AreChecked texts requests) (sym c.from_vec.ensures)
