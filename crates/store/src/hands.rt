@@ -46,12 +46,7 @@ pub trait Hands {
         ensures known { IfOk result (λ r. list_all (is_known r.0) r.1.items ≡ true) };
 
     /// Quads by places, at the numbers that stand there.
-    fn placed(
-        &self,
-        alloc: Global,
-        ids: &[Id],
-        quads: &[Quad<u32>],
-    ) -> Result<QuadList, AllocError>
+    fn placed(&self, alloc: Global, ids: &[Id], quads: &[Quad<u32>]) -> Result<QuadList, AllocError>
         requires ready { Ready }
         requires within { list_all (is_quad_within ids.now) quads.now ≡ true }
         ensures { IfOk result (λ list. list ≡ map (numbers_at ids.now) quads.now) };

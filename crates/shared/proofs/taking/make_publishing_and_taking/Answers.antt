@@ -22,7 +22,7 @@ pub returns-in_err-next-clause-took : goal.returns-in_err-next-clause-took
 returns-in_err-next-clause-took c =
     let told = err_from_is_err_and c.from_residual-in_err-next.result c.from_residual-in_err-next.ensures.1 in
     let took = took_while c.args.pass.now c.make_publishing.new.book c.make_taking.new.book c.worker.result c.args.most c.make_taking.result c.make_publishing.ensures.subject c.worker.ensures
-        c.journal-between.ensures.lawful c.make_taking.ensures.next c.make_taking.ensures.none c.make_taking.ensures.some c.make_taking.ensures.err in
+    c.journal-between.ensures.lawful c.make_taking.ensures.next c.make_taking.ensures.none c.make_taking.ensures.some c.make_taking.ensures.err in
     took_short c.args.pass.now c.args.book.now c.make_publishing.new.book c.make_taking.new.book (publishing c.args.i c.args.n c.args.finished c.args.notes c.args.until) c.args.replies.now.items
     c.make_publishing.new.replies.items c.args.most c.make_publishing.result _ c.make_taking.result c.from_residual-in_err-next.result _ told.0 c.in_ok-whole.was c.in_err-next.was told.1 c.make_publishing.ensures took
 
@@ -34,6 +34,6 @@ returns-clause-goes_on c =
 pub returns-clause-took : goal.returns-clause-took
 returns-clause-took c =
     let took = took_while c.args.pass.now c.make_publishing.new.book c.make_taking.new.book c.worker.result c.args.most c.make_taking.result c.make_publishing.ensures.subject c.worker.ensures
-        c.journal-between.ensures.lawful c.make_taking.ensures.next c.make_taking.ensures.none c.make_taking.ensures.some c.make_taking.ensures.err in
+    c.journal-between.ensures.lawful c.make_taking.ensures.next c.make_taking.ensures.none c.make_taking.ensures.some c.make_taking.ensures.err in
     took_all c.args.pass.now c.args.book.now c.make_publishing.new.book c.make_taking.new.book (publishing c.args.i c.args.n c.args.finished c.args.notes c.args.until) c.args.replies.now.items
     c.make_publishing.new.replies.items c.args.most c.make_publishing.result _ c.make_taking.result _ c.in_ok-whole.was c.in_ok-next.was c.make_publishing.ensures took
