@@ -5,7 +5,11 @@ stand in one copy of their crate, in which the other functions are emptied, whic
 of its own function, or of a closure in it, is reported. That a function calls one that is not proved says nothing. An edit of which such a check
 tells nothing, or that no other can stand beside, goes into another copy, in the end alone with nothing emptied. An edit that cannot be applied or
 read, or that is still proved, fails.
+
+That an edit is refused is kept beside the toolchain, on this machine alone, by the sum of all that it rests on, as `rt ci` keeps what it proves.
 """
+import contextlib
+import hashlib
 import os
 import re
 import shutil
@@ -13,7 +17,7 @@ import subprocess
 import tempfile
 from dataclasses import dataclass
 
-from crates import rt, rtlib
+from crates import ROOT, rt, rtlib
 from functions import empty_others, module_of, places, sources_of, spans_in
 
 OPEN = "an open goal"
@@ -233,18 +237,69 @@ def evidence(found):
     return next(it for it in (OPEN, BY_TYPE, BY_NAME) if it in found)
 
 
-def add_wrong_bodies(work, crate, waits_for, is_due=lambda crate: True):
-    """Adds a crate's edits as a task, which comes to whether each is refused and what to say of it, by its name: to none if they are not due by then."""
+def files_below(*folders):
+    return sorted(f"{at}/{name}" for folder in folders for at, _, names in os.walk(folder) for name in names)
+
+
+def sum_of(files):
+    found = hashlib.sha256()
+    for file in files:
+        with open(file, "rb") as it:
+            found.update(repr((os.path.relpath(file, ROOT), it.read())).encode())
+    return found.hexdigest()
+
+
+class Refused:
+    """The edits of a crate that a run on this machine has seen refused, by the sum of all that this rests on: the toolchain, these scripts, the crate's own
+    files, what the libraries below it state, and the edit."""
+
+    def __init__(self, crate):
+        stated = [it for below in crate.below() for it in files_below(f"{below.rlib}/interface/lang", f"{below.rlib}/lang/antt/specs")]
+        own = files_below(*(f"{crate.folder}/{it}" for it in rtlib.PARTS))
+        scripts = [f"{ROOT}/bin/lib/{it}" for it in ("functions.py", "wrong_bodies.py")]
+        self.sum, self.at = rt.kit_sum() + sum_of([*scripts, *own, *stated]), f"{rt.STORE}/wrong-bodies"
+
+    def file(self, edit):
+        return f"{self.at}/{hashlib.sha256(repr((self.sum, edit.name, edit.text)).encode()).hexdigest()}"
+
+    def found(self, edit):
+        """What was said of the edit when it was refused, or None if that is not known."""
+        said = rtlib.text_of(self.file(edit))
+        return said if said in (OPEN, BY_TYPE, BY_NAME) else None
+
+    def keep(self, edit, said):
+        with contextlib.suppress(OSError):
+            os.makedirs(self.at, 0o700, exist_ok=True)
+            with tempfile.NamedTemporaryFile("w", dir=self.at, delete=False, encoding="utf-8") as it:
+                it.write(said)
+            # so that no other run meets half of it
+            os.replace(it.name, self.file(edit))
+
+
+def results_of(crate, jobs, is_anew):
+    """What becomes of a crate's edits, by their names, how many of them are tried here, and the processor seconds of that."""
+    (good, bad), kept = edits_of(crate), Refused(crate)
+    told = {} if is_anew else {it.name: (True, said) for it in good if (said := kept.found(it))}
+    new = [it for it in good if it.name not in told]
+    with tempfile.TemporaryDirectory(prefix="wrong-bodies-") as room:
+        results, seconds = tried(crate, new, room, jobs)
+    for edit in new:
+        is_refused, said = results[edit.name]
+        if is_refused:
+            kept.keep(edit, said)
+    return {**told, **results, **{name: (False, f"BAD EDIT: {why}") for name, why in bad}}, len(new), seconds
+
+
+def add_wrong_bodies(work, crate, waits_for, is_anew=False):
+    """Adds a crate's edits as a task, which comes to whether each is refused and what to say of it, by its name: to none if what it waits for is not well."""
 
     def call(given, jobs):
-        if not all(given[it.name, kind] for it, kind in waits_for) or not is_due(crate):
+        if not all(given[it.name, kind] for it, kind in waits_for):
             return {}, ""
-        good, bad = edits_of(crate)
-        with tempfile.TemporaryDirectory(prefix="wrong-bodies-") as room:
-            results, seconds = tried(crate, good, room, jobs)
-        results.update((name, (False, f"BAD EDIT: {why}")) for name, why in bad)
+        results, new, seconds = results_of(crate, jobs, is_anew)
         tell(crate, results)
-        return results, f"{len(results)} wrong bodies of {crate.name}, {seconds:.0f} s of a processor"
+        others = "" if new == len(results) else f" ({len(results) - new} of them kept)"
+        return results, f"{len(results)} wrong bodies of {crate.name}{others}, {seconds:.0f} s of a processor"
 
     # each of several checks reads the libraries below anew, so crates that stand on many are dear, and are begun early
     work.add(crate, "wrong bodies", waits_for, crate.count(rb"\n") + 60 * len(crate.below()), call)
