@@ -1,5 +1,5 @@
 -- Operands with operators between them, whichever the operand is.
-use Rattle.std.proofs.Common.{◌≡◌, ℕ, zero, suc, ◌≤◌, ◌<◌, true, false, cond, eqb, List, [], ◌∷◌, length, Option, Some, None, refl, sym, ap, ◌∙◌, subst, arith}
+use Rattle.std.proofs.Common.{◌≡◌, ℕ, zero, suc, ◌≤◌, ◌<◌, true, false, cond, eqb, List, [], ◌∷◌, length, Option, Some, None, Result, Err, refl, sym, ap, ◌∙◌, subst, arith}
 use Rattle.std.specs.Option.{option_map_or}
 use Rattle.std.proofs.lemmas.Bool.{eqb-true, eqb-false}
 use Rattle.std.proofs.lemmas.Option.{same_Some, cond_some}
@@ -9,7 +9,9 @@ use Rattle.lexer.specs.declared.token.Token.{Token}
 use Rattle.syntax_trees.specs.declared.expression.Operator.{Operator}
 use Rattle.syntax_trees.specs.Expressions.{Tree, Binary}
 use Rattle.syntax_trees.specs.Operators.{rank, level_of}
-use Rattle.productions.specs.Steps.{Production, Reader, Found, Takes}
+use Rattle.lexer.specs.declared.stop.Stop.{Stop}
+use Rattle.lexer.specs.declared.stop.Stop.TheVariants as stop
+use Rattle.productions.specs.Steps.{Production, Reader, Found, Takes, Fails, Gives}
 use Rattle.expressions.specs.Operators.{operator_of, operator_at}
 use Rattle.expressions.specs.Grammar.{IsOperator, ReadsMore, done, more, ReadsChain, chain, ReadsOnce, alone, pair}
 use Rattle.expressions.specs.Reading.{more_with, chain_with, once_with}
@@ -153,3 +155,32 @@ more_steps item n shrinks e ts o x op i =
 
 pub turn_shrinks : (item : Reader Tree) (n : ℕ) → Shrinks item → (ts : List Token) (o : Operator × List Token) (x : Tree × List Token) → operator_at n ts ≡ Some o → item o.1 ≡ Some x → length x.1 < length ts
 turn_shrinks item n shrinks ts o x op i = let c = operator_shrinks n ts o op in let d = shrinks o.1 x i in omega arith
+
+-- an operand that was read behind an operator, joined with what stands before it
+abbrev join : Operator → Tree → Option (Tree × List Token) → Option (Tree × List Token)
+join o e read = read >>= λ x. Some (Binary o e x.0, x.1)
+
+pub joined_shrinks : (item : Reader Tree) (n : ℕ) → Shrinks item → (e : Tree) (ts : List Token) (o : Operator × List Token) (y : Tree × List Token) → operator_at n ts ≡ Some o → join o.0 e (item o.1) ≡ Some y → length y.1 < length ts
+joined_shrinks item n shrinks e ts o y op j =
+    let x = bind_some (item o.1) (λ x. Some (Binary o.0 e x.0, x.1)) y j in
+    let same : length x.0.1 ≡ length y.1 = ap (λ (z : Tree × List Token). length z.1) (same_Some (Binary o.0 e x.0.0, x.0.1) y x.2) in
+    let d = turn_shrinks item n shrinks ts o x.0 op x.1 in
+    omega arith
+
+pub joined_steps : (item : Reader Tree) (n : ℕ) → Shrinks item → (e : Tree) (ts : List Token) (o : Operator × List Token) (y : Tree × List Token) → operator_at n ts ≡ Some o → join o.0 e (item o.1) ≡ Some y → more_all item n e ts ≡ more_all item n y.0 y.1
+joined_steps item n shrinks e ts o y op j =
+    let x = bind_some (item o.1) (λ x. Some (Binary o.0 e x.0, x.1)) y j in
+    more_steps item n shrinks e ts o x.0 op x.1 ∙ ap (λ (z : Tree × List Token). more_all item n z.0 z.1) (same_Some (Binary o.0 e x.0.0, x.0.1) y x.2)
+
+join_unread : (o : Operator) (e : Tree) (read : Option (Tree × List Token)) → join o e read ≡ None → read ≡ None
+join_unread o e None h = refl
+join_unread o e (Some x) h = absurd cc
+
+pub joined_fails : (item : Reader Tree) (n : ℕ) (e : Tree) (ts : List Token) (o : Operator × List Token) (all : Option (Tree × List Token)) (f : Stop) → operator_at n ts ≡ Some o → Fails f (join o.0 e (item o.1)) → more_all item n e ts ≡ all → Fails f all
+joined_fails item n e [] o all f op h all-is = absurd cc
+joined_fails item n e (t ∷ ts) o all stop.Memory op h all-is = tt
+joined_fails item n e (t ∷ ts) o all stop.NoReading op h all-is = sym all-is ∙ rw (op, join_unread o.0 e (item o.1) h) refl
+
+-- an error that is passed on
+pub passes : {X Y : Type 0} (view : X → Y) (r : Result X Stop) (read : Option Y) (e f : Stop) → r ≡ Err e → e ≡ f → Fails f read → Gives view r read
+passes {X} {Y} view r read e f r-is e-is h = subst (λ (r : Result X Stop). Gives view r read) (sym r-is) (subst (λ (e : Stop). Fails e read) (sym e-is) h)

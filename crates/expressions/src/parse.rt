@@ -2,16 +2,16 @@
 ghost use Rattle.std.specs.Prelude.{◌≡◌};
 ghost use Rattle.syntax_trees.specs.Expressions.{tree_of};
 ghost use Rattle.productions.specs.Steps.{Gives};
-ghost use Rattle.expressions.specs.Reading.{bound_at, closed_with, one_with, two_with, arguments_with, primary_with, not_with, operand_with, level_with, expression_at, call_at, constraint_at};
+ghost use Rattle.expressions.specs.Reading.{bound_at, two_with, arguments_with, primary_with, not_with, operand_with, level_with, expression_at, call_at, constraint_at};
 
-use crate::build::{binary, call, call_two, negated};
+use crate::build::{call_of, call_of_two, closed, joined, negated};
 use crate::calls::{Called, called_at};
 use crate::operators::operator_at;
 use crate::values::value_at;
 use lexer::{Sign, Stop, Token};
 use productions::{after_sign, kept, variable_at};
 use std::alloc::Global;
-use syntax_trees::{Expression, Level, One, Two};
+use syntax_trees::{Expression, Level, Two};
 
 /// `variable ')'`, behind BOUND and its `(`.
 #[tactic(auto, unfolding(crate::specs::Reading::bound_at))]
@@ -47,40 +47,6 @@ fn expression_at<'t, 'a>(
     level_at(alloc, depth - 1, Level::Or, tokens)
 }
 
-/// `Expr ')'`, behind a `(`.
-#[cycle(expressions)]
-#[tactic(auto, unfolding(crate::specs::Reading::closed_with))]
-fn closed_at<'t, 'a>(
-    alloc: Global,
-    depth: usize,
-    tokens: &'t [Token<'a>],
-) -> Result<(Expression<'a>, &'t [Token<'a>]), Stop>
-    ensures { Gives (λ x. (tree_of x.0, x.1.now)) result
-        (closed_with (expression_at depth) tokens.now) }
-{
-    let (inner, rest) = expression_at(alloc, depth, tokens)?;
-    let Some(rest) = after_sign(Sign::CloseParen, rest) else {
-        return Err(Stop::NoReading);
-    };
-    Ok((inner, rest))
-}
-
-/// `Expr ')'`, behind a function's name and its `(`.
-#[cycle(expressions)]
-#[tactic(auto, unfolding(crate::specs::Reading::one_with))]
-fn one_at<'t, 'a>(
-    alloc: Global,
-    depth: usize,
-    function: One,
-    tokens: &'t [Token<'a>],
-) -> Result<(Expression<'a>, &'t [Token<'a>]), Stop>
-    ensures { Gives (λ x. (tree_of x.0, x.1.now)) result
-        (one_with (expression_at depth) function tokens.now) }
-{
-    let (argument, rest) = closed_at(alloc, depth, tokens)?;
-    Ok((call(alloc, function, argument)?, rest))
-}
-
 /// `Expr ',' Expr ')'`, behind a function's name and its `(`.
 #[cycle(expressions)]
 #[tactic(auto, unfolding(crate::specs::Reading::two_with))]
@@ -94,11 +60,10 @@ fn two_at<'t, 'a>(
         (two_with (expression_at depth) function tokens.now) }
 {
     let (first, rest) = expression_at(alloc, depth, tokens)?;
-    let Some(rest) = after_sign(Sign::Comma, rest) else {
-        return Err(Stop::NoReading);
-    };
-    let (second, rest) = closed_at(alloc, depth, rest)?;
-    Ok((call_two(alloc, function, first, second)?, rest))
+    match after_sign(Sign::Comma, rest) {
+        Some(rest) => call_of_two(alloc, function, first, expression_at(alloc, depth, rest)),
+        None => Err(Stop::NoReading),
+    }
 }
 
 /// The arguments of a call, in their parentheses.
@@ -118,7 +83,7 @@ fn arguments_at<'t, 'a>(
     };
     match called {
         Called::Bound => bound_at(depth, inside),
-        Called::One(function) => one_at(alloc, depth, function, inside),
+        Called::One(function) => call_of(alloc, function, expression_at(alloc, depth, inside)),
         Called::Two(function) => two_at(alloc, depth, function, inside),
     }
 }
@@ -135,7 +100,7 @@ fn primary_at<'t, 'a>(
         (primary_with depth (expression_at depth) tokens.now) }
 {
     if let Some(inside) = after_sign(Sign::OpenParen, tokens) {
-        return closed_at(alloc, depth, inside);
+        return closed(expression_at(alloc, depth, inside));
     }
     match called_at(tokens) {
         Some((called, rest)) => arguments_at(alloc, depth, called, rest),
@@ -155,10 +120,7 @@ fn not_at<'t, 'a>(
         (not_with depth (expression_at depth) tokens.now) }
 {
     match after_sign(Sign::Bang, tokens) {
-        Some(rest) => {
-            let (inner, rest) = primary_at(alloc, depth, rest)?;
-            Ok((negated(alloc, inner)?, rest))
-        }
+        Some(rest) => negated(alloc, primary_at(alloc, depth, rest)),
         None => primary_at(alloc, depth, tokens),
     }
 }
@@ -177,8 +139,8 @@ fn relation_at<'t, 'a>(
     let (left, rest) = level_at(alloc, depth, Level::Sum, tokens)?;
     match operator_at(Level::Relation, rest) {
         Some((operator, rest)) => {
-            let (right, rest) = level_at(alloc, depth, Level::Sum, rest)?;
-            Ok((binary(alloc, operator, left, right)?, rest))
+            let read = level_at(alloc, depth, Level::Sum, rest);
+            joined(alloc, operator, left, read)
         }
         None => Ok((left, rest)),
     }
@@ -220,8 +182,9 @@ fn level_at<'t, 'a>(
     let mut left = first;
     let mut rest = kept(after);
     while let Some((operator, after)) = operator_at(level, rest) {
-        let (right, after) = operand_at(alloc, depth, level, after)?;
-        left = binary(alloc, operator, left, right)?;
+        let read = operand_at(alloc, depth, level, after);
+        let (made, after) = joined(alloc, operator, left, read)?;
+        left = made;
         rest = kept(after);
     }
     Ok((left, rest))
@@ -252,7 +215,7 @@ pub fn constraint_at<'t, 'a>(
     ensures { Gives (λ x. (tree_of x.0, x.1.now)) result (constraint_at depth tokens.now) }
 {
     match after_sign(Sign::OpenParen, tokens) {
-        Some(inside) => closed_at(alloc, depth, inside),
+        Some(inside) => closed(expression_at(alloc, depth, inside)),
         None => call_at(alloc, depth, tokens),
     }
 }

@@ -13,7 +13,7 @@ use lexer::{IriText, Piece};
 use names::{Labels, Prefixes};
 use nodes::OperationNodes;
 use std::alloc::{AllocError, Global};
-use syntax_trees::{Step, Syntax};
+use syntax_trees::{Operation, Step, Syntax};
 
 /// How many bytes a request has at most.
 const MOST_BYTES: usize = 1 << 20;
@@ -96,6 +96,30 @@ impl<'a> Walk<'a> {
     }
 }
 
+/// The next step, an operation whose nodes are gathered for it.
+fn see_operation<'a>(
+    alloc: Global,
+    walk: &mut Walk<'a>,
+    operation: &Operation<'a>,
+) -> Result<(), AllocError>
+    ensures { OnOk result ((rest : List Step) → kinds_with walk.new rest
+        ≡ kinds_with walk.old (step.Do operation.now ∷ rest)) }
+{
+    let nodes = OperationNodes::of(alloc, operation)?;
+    walk.see(&nodes)
+}
+
+/// The next step.
+fn take<'a>(alloc: Global, walk: &mut Walk<'a>, next: &Step<'a>) -> Result<(), AllocError>
+    ensures { OnOk result ((rest : List Step) → kinds_with walk.new rest
+        ≡ kinds_with walk.old (next.now ∷ rest)) }
+{
+    match next {
+        Step::Declare { prefix, iri } => walk.declare(prefix, iri),
+        Step::Do(operation) => see_operation(alloc, walk, operation),
+    }
+}
+
 /// The kinds of fault that a request is refused for (SPARQL 1.1 Update, 19.8, notes 8 to 12, and the limits of this program), found in one
 /// walk. An error comes only where a growth was refused, or where INSERT DATA has 2^32 labels.
 pub fn kinds_in(alloc: Global, syntax: &Syntax<'_>) -> Result<Kinds, AllocError>
@@ -103,10 +127,7 @@ pub fn kinds_in(alloc: Global, syntax: &Syntax<'_>) -> Result<Kinds, AllocError>
 {
     let mut walk = Walk::new(alloc, syntax);
     for step in syntax.steps.as_slice() {
-        match step {
-            Step::Declare { prefix, iri } => walk.declare(prefix, iri)?,
-            Step::Do(operation) => walk.see(&OperationNodes::of(alloc, operation)?)?,
-        }
+        take(alloc, &mut walk, step)?;
     }
     Ok(walk.kinds())
 }

@@ -14,7 +14,7 @@ use crate::scope::Scope;
 use crate::triples::patterns_of;
 use algebra::{Expression as Made, Link, OneOperator, Plan, TwoOperator};
 use std::alloc::{AllocError, Global};
-use syntax_trees::{Block, Element, Expression, Node, One, Operator, Two};
+use syntax_trees::{Block, Element, Expression, Node, One, Operator, SameSubject, Two};
 use terms::Term;
 
 fn operator_of(operator: Operator) -> TwoOperator
@@ -226,20 +226,72 @@ fn link(parts: &mut Vec<Part>, link: Link<Term>, plan: Plan<Term>) -> Result<(),
     Ok(())
 }
 
+/// Goes on with triples.
+fn link_triples<'a>(
+    alloc: Global,
+    scope: &Scope<'_, 'a>,
+    parts: &mut Vec<Part>,
+    triples: &[SameSubject<'a>],
+) -> Result<(), AllocError>
+    ensures { OnOk result (linked_all nothing (linked_parts parts.new.items)
+        ≡ plans.Join (linked_all nothing (linked_parts parts.old.items))
+        (plans.Basic (patterns_of scope.now.prefixes.now scope.now.variables.now triples.now))) }
+{
+    let patterns = patterns_of(alloc, scope, triples)?;
+    link(parts, Link::Join, Plan::Basic(patterns))
+}
+
 /// Goes on with the parts of an OPTIONAL group, whose filters are the condition.
 #[tactic(auto, using(crate::proofs::PlanLaws::folded))]
-fn link_optional(
+fn link_optional<'a>(
     alloc: Global,
+    scope: &Scope<'_, 'a>,
     parts: &mut Vec<Part>,
+    elements: &[Element<'a>],
     inner: Vec<Part>,
-    filters: Vec<Made<Term>>,
 ) -> Result<(), AllocError>
     ensures { OnOk result (linked_all nothing (linked_parts parts.new.items)
         ≡ plans.LeftJoin (linked_all nothing (linked_parts parts.old.items))
-        (linked_all nothing (linked_parts inner.items)) (map expression_of filters.items)) }
+        (linked_all nothing (linked_parts inner.items))
+        (filters_of scope.now.prefixes.now scope.now.variables.now
+        (group (parts_of elements.now)))) }
 {
+    let filters = filters_of(alloc, scope, elements)?;
     let right = Plan::Group(inner, Vec::new(alloc));
     link(parts, Link::LeftJoin(filters), right)
+}
+
+/// Goes on with the pattern of a GRAPH group.
+fn link_graph<'a>(
+    alloc: Global,
+    scope: &Scope<'_, 'a>,
+    parts: &mut Vec<Part>,
+    graph: &Node<'a>,
+    inner: Plan<Term>,
+) -> Result<(), AllocError>
+    ensures { OnOk result (linked_all nothing (linked_parts parts.new.items)
+        ≡ plans.Join (linked_all nothing (linked_parts parts.old.items))
+        (plans.InGraph (place_of scope.now.prefixes.now scope.now.variables.now graph.now)
+        (plan_of inner))) }
+{
+    let right = in_graph(alloc, scope, graph, inner)?;
+    link(parts, Link::Join, right)
+}
+
+/// The parts of a group under its filters.
+#[tactic(auto, using(crate::proofs::PlanLaws::folded))]
+fn with_filters<'a>(
+    alloc: Global,
+    scope: &Scope<'_, 'a>,
+    elements: &[Element<'a>],
+    parts: Vec<Part>,
+) -> Result<Plan<Term>, AllocError>
+    ensures { IfOk result (λ plan. plan_of plan
+        ≡ plans.filtered (filters_of scope.now.prefixes.now scope.now.variables.now
+        (group (parts_of elements.now))) (linked_all nothing (linked_parts parts.items))) }
+{
+    let filters = filters_of(alloc, scope, elements)?;
+    Ok(Plan::Group(parts, filters))
 }
 
 /// The patterns of a group's parts in order.
@@ -274,10 +326,7 @@ fn add_part<'a>(
         (linked_all nothing (linked_parts parts.old.items)) (part_of element.now)) }
 {
     match element {
-        Element::Triples(triples) => {
-            let patterns = patterns_of(alloc, scope, triples.as_slice())?;
-            link(parts, Link::Join, Plan::Basic(patterns))
-        }
+        Element::Triples(triples) => link_triples(alloc, scope, parts, triples.as_slice()),
         Element::Union(members) => {
             let mut plans = Vec::new(alloc);
             for elements in members {
@@ -287,16 +336,15 @@ fn add_part<'a>(
         }
         Element::Optional(elements) => {
             let inner = parts_of(alloc, scope, elements.as_slice())?;
-            let filters = filters_of(alloc, scope, elements.as_slice())?;
-            link_optional(alloc, parts, inner, filters)
+            link_optional(alloc, scope, parts, elements.as_slice(), inner)
         }
         Element::Minus(elements) => {
             let right = translate(alloc, scope, elements.as_slice())?;
             link(parts, Link::Minus, right)
         }
         Element::Graph(graph, elements) => {
-            let right = translate(alloc, scope, elements.as_slice())?;
-            link(parts, Link::Join, in_graph(alloc, scope, graph, right)?)
+            let inner = translate(alloc, scope, elements.as_slice())?;
+            link_graph(alloc, scope, parts, graph, inner)
         }
         Element::Filter(_) => Ok(()),
     }
@@ -318,8 +366,7 @@ pub fn translate<'a>(
         (group (parts_of elements.now))) }
 {
     let parts = parts_of(alloc, scope, elements)?;
-    let filters = filters_of(alloc, scope, elements)?;
-    Ok(Plan::Group(parts, filters))
+    with_filters(alloc, scope, elements, parts)
 }
 
 // ---- quads as a pattern

@@ -1,5 +1,7 @@
 //! Triples of templates and patterns.
-ghost use Rattle.std.specs.Prelude.{◌≡◌, ◌++◌, IfOk, OnOk};
+ghost use Rattle.std.specs.Prelude.{◌≡◌, ◌++◌, Option, IfOk, OnOk};
+ghost use Rattle.algebra.specs.declared.template.Slot.{Slot};
+ghost use Rattle.terms.specs.declared.term.Term.{Term};
 ghost use Rattle.group_translation.specs.Triples.{of_property, of_subject, of_triples, slot_of, graph_of, pattern_of, patterns_of, quad_of, quads_of_block, template_of};
 
 use crate::scope::Scope;
@@ -123,6 +125,30 @@ fn object_of<'a>(
     Ok((object, graph))
 }
 
+/// A quad of its subject and verb, and of what was made of its object and graph.
+fn quad_with(
+    ends: (Slot<Term>, Slot<Term>),
+    rest: Result<(Slot<Term>, Option<Slot<Term>>), AllocError>,
+) -> Result<QuadTemplate<Term>, AllocError>
+    ensures { (object : Slot Term) (graph : Option (Slot Term))
+        → IfOk rest (λ x. x ≡ (object, graph))
+        → IfOk result (λ quad. quad ≡ record {
+          subject = ends.0;
+          predicate = ends.1;
+          object = object;
+          graph = graph;
+        }) }
+{
+    let (object, graph) = rest?;
+    let (subject, predicate) = ends;
+    Ok(QuadTemplate {
+        subject,
+        predicate,
+        object,
+        graph,
+    })
+}
+
 fn quad_of<'a>(
     alloc: Global,
     within: &Within<'_, 'a>,
@@ -136,14 +162,8 @@ fn quad_of<'a>(
         within.now.scope.now.labels.now within.now.with.now within.now.graph.now) subject.now
         verb.now object.now) }
 {
-    let (subject, predicate) = two_slots(alloc, within.scope, subject, verb)?;
-    let (object, graph) = object_of(alloc, within, object)?;
-    Ok(QuadTemplate {
-        subject,
-        predicate,
-        object,
-        graph,
-    })
+    let ends = two_slots(alloc, within.scope, subject, verb)?;
+    quad_with(ends, object_of(alloc, within, object))
 }
 
 fn add_property_quads<'a>(

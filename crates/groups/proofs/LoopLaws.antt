@@ -1,6 +1,6 @@
 -- The loop over the parts of a group: what was found and what is left to read is all.
-use Rattle.std.proofs.Common.{◌≡◌, ℕ, ◌<◌, false, List, [], ◌∷◌, ◌++◌, length, Option, Some, None, Result, Err, refl, sym, ap, ◌∙◌, subst, arith, append_assoc}
-use Rattle.std.specs.Option.{MatchOption, is_some}
+use Rattle.std.proofs.Common.{◌≡◌, ℕ, zero, suc, ◌<◌, Bool, true, false, List, [], ◌∷◌, ◌++◌, length, Option, Some, None, Result, Err, refl, sym, ap, ◌∙◌, subst, arith, append_assoc}
+use Rattle.std.specs.Option.{MatchOption, is_some, option_and_then}
 use Rattle.std.proofs.lemmas.Option.{same_Some}
 use Rattle.std.proofs.lemmas.List.{map_push}
 use Rattle.iris.specs.Bracketed.{◌>>=◌}
@@ -14,7 +14,9 @@ use Rattle.syntax_trees.specs.Groups.{Part, part_of, parts_of}
 use Rattle.productions.specs.Steps.{Reader, Fails, Gives}
 use Rattle.productions.specs.Signs.{sign_at}
 use Rattle.triples.specs.Reading.{after_dot}
-use Rattle.groups.specs.Reading.{behind, front_at, part_with, item_with, items, parts_with, group_at}
+use Rattle.productions.specs.Many.{many_from}
+use Rattle.productions.proofs.ManyLaws.{with_front, so_far}
+use Rattle.groups.specs.Reading.{behind, union_link, front_at, part_with, item_with, items, parts_with, group_at}
 use Rattle.groups.specs.Laws.{ItemsShrink}
 use Rattle.groups.proofs.ItemLaws.{behind_nothing, behind_both, items_stuck, items_next}
 
@@ -27,9 +29,52 @@ pub where_none : {A : Type 0} (o : Option A) (P : Type 0) (Q : A → Type 0) →
 where_none None P Q e h = h
 where_none (Some x) P Q e h = absurd cc
 
-no_front : (front : List Part) (read : Option (List Part × List Token)) → behind front read ≡ None → read ≡ None
-no_front front None e = refl
-no_front front (Some x) e = absurd cc
+no_behind : (front : List Part) (read : Option (List Part × List Token)) → behind front read ≡ None → read ≡ None
+no_behind front None e = refl
+no_behind front (Some x) e = absurd cc
+
+-- ---- what is pushed
+
+pushed_behind : (before after : List Element) (x : Element) → after ≡ before ++ x ∷ [] → (read : Option (List Part × List Token)) → behind (parts_of after) read ≡ behind (parts_of before) (read >>= λ xs. Some (part_of x ∷ xs.0, xs.1))
+pushed_behind before after x is None = refl
+pushed_behind before after x is (Some xs) =
+    ap (λ (ps : List Part). let r : Option (List Part × List Token) = Some (ps ++ xs.0, xs.1) in r) (ap parts_of is ∙ map_push part_of before x)
+    ∙ ap (λ (ps : List Part). let r : Option (List Part × List Token) = Some (ps, xs.1) in r) (append_assoc (parts_of before) (part_of x ∷ []) xs.0)
+
+-- a part is pushed, and then the triples behind it are
+pub item_pushed : (n : ℕ) (inner : Reader (List Part)) (ts r u : List Token) (before after : List Element) (x : Element) → part_with n inner ts ≡ Some (part_of x, r) → after ≡ before ++ x ∷ [] → u ≡ after_dot r → behind (parts_of after) (front_at u) ≡ behind (parts_of before) (item_with n inner ts)
+unfolding item_with
+item_pushed n inner ts r u before after x part_is is undotted =
+    ap (λ (us : List Token). behind (parts_of after) (front_at us)) undotted
+    ∙ pushed_behind before after x is (front_at (after_dot r))
+    ∙ ap (λ (o : Option (Part × List Token)). behind (parts_of before) (o >>= λ p. front_at (after_dot p.1) >>= λ xs. Some (p.0 ∷ xs.0, xs.1))) (sym part_is)
+
+-- where the part isn't read, neither is the item
+pub item_unread : (n : ℕ) (inner : Reader (List Part)) (front : List Part) (ts : List Token) (e : Stop) → Fails e (part_with n inner ts) → Fails e (behind front (item_with n inner ts))
+unfolding item_with
+item_unread n inner front ts stop.Memory h = tt
+item_unread n inner front ts stop.NoReading h = ap (λ (o : Option (Part × List Token)). behind front (o >>= λ p. front_at (after_dot p.1) >>= λ xs. Some (p.0 ∷ xs.0, xs.1))) h
+
+pub group_pushed : (read : Option (List Part × List Token)) (before found : List (List Part)) (rest : List Token) → option_and_then (λ (g : List Part × List Token). let r : Option (List (List Part) × List Token) = Some (before ++ g.0 ∷ [], g.1) in r) read ≡ Some (found, rest) → (g : List Part) × (read ≡ Some (g, rest)) × (before ++ g ∷ [] ≡ found)
+group_pushed None before found rest e = absurd cc
+group_pushed (Some g) before found rest e =
+    let same = same_Some (before ++ g.0 ∷ [], g.1) (found, rest) e in
+    (g.0, ap (λ (y : List (List Part) × List Token). let r : Option (List Part × List Token) = Some (g.0, y.1) in r) same, ap (λ (y : List (List Part) × List Token). y.0) same)
+
+push_unread : (read : Option (List Part × List Token)) (before : List (List Part)) → option_and_then (λ (g : List Part × List Token). let r : Option (List (List Part) × List Token) = Some (before ++ g.0 ∷ [], g.1) in r) read ≡ None → read ≡ None
+push_unread None before e = refl
+push_unread (Some g) before e = absurd cc
+
+many_unread : (item : Reader (List Part)) (k : ℕ) (ts : List Token) → item ts ≡ None → many_from item union_link k ts ≡ None
+many_unread item zero ts none = refl
+many_unread item (suc k) ts none = rw none refl
+
+-- where a group isn't read, neither are the groups from there on
+pub group_unread : (n : ℕ) (before : List (List Part)) (ts : List Token) (goes_on : Bool) (all : Option (List (List Part) × List Token)) (e : Stop) → goes_on ≡ true → Fails e (option_and_then (λ (g : List Part × List Token). let r : Option (List (List Part) × List Token) = Some (before ++ g.0 ∷ [], g.1) in r) (group_at n ts)) → so_far (group_at n) union_link goes_on before ts ≡ all → Fails e all
+group_unread n before ts goes_on all stop.Memory is h all-is = tt
+group_unread n before ts goes_on all stop.NoReading is h all-is =
+    sym all-is ∙ ap (λ (b : Bool). so_far (group_at n) union_link b before ts) is
+    ∙ ap (λ (o : Option (List (List Part) × List Token)). with_front (group_at n) union_link before o) (many_unread (group_at n) (length ts) ts (push_unread (group_at n ts) before h))
 
 -- ---- turns
 
@@ -55,64 +100,35 @@ module _ (n : ℕ) where
   first_fails none ts stop.Memory is h = tt
   first_fails none ts stop.NoReading is h = ap (λ (o : Option (List Part × List Token)). o >>= finish) (first none ts is ∙ h)
 
-  module _ (shrink : ItemsShrink) where
-    abbrev after_part : List Token → Part → Option (List Part × List Token)
-    after_part r p = front_at (after_dot r) >>= λ xs. Some (p ∷ xs.0, xs.1)
+  -- one turn: the item at the front of ts is pushed behind what was found
+  module _ (shrink : ItemsShrink) (front : List Part) (ts : List Token) where
+    pub item_fails : (read : Option (List Part × List Token)) (e : Stop) → sign_at signs.CloseBrace ts ≡ None → Fails e (behind front (item ts)) → behind front (items item ts) ≡ read → Fails e read
+    item_fails read stop.Memory unclosed h all-is = tt
+    item_fails read stop.NoReading unclosed h all-is = sym all-is ∙ ap (behind front) (items_stuck item (shrink n) ts unclosed (no_behind front (item ts) h))
 
-    item_is : (ts r : List Token) (p : Part) → part_with n (group_at n) ts ≡ Some (p, r) → item ts ≡ after_part r p
-    unfolding item_with
-    item_is ts r p is = ap (λ (o : Option (Part × List Token)). o >>= λ p. after_part p.1 p.0) is
+    abbrev pair : List Part → List Token → List Part × List Token
+    pair found rest = (found, rest)
 
-    stuck : (front : List Part) (ts : List Token) (read : Option (List Part × List Token)) → sign_at signs.CloseBrace ts ≡ None → item ts ≡ None → behind front (items item ts) ≡ read → read ≡ None
-    stuck front ts read unclosed none all-is = sym all-is ∙ ap (behind front) (items_stuck item (shrink n) ts unclosed none)
+    record Turn (found : List Part) (rest : List Token) : Type 0 where
+      x : List Part × List Token
+      is : item ts ≡ Some x
+      same : pair (front ++ x.0) x.1 ≡ pair found rest
 
-    pub part_fails : (front : List Part) (ts : List Token) (read : Option (List Part × List Token)) (e : Stop) → sign_at signs.CloseBrace ts ≡ None → Fails e (part_with n (group_at n) ts) → behind front (items item ts) ≡ read → Fails e read
-    unfolding item_with
-    part_fails front ts read stop.Memory unclosed h all-is = tt
-    part_fails front ts read stop.NoReading unclosed h all-is = stuck front ts read unclosed (ap (λ (o : Option (Part × List Token)). o >>= λ p. after_part p.1 p.0) h) all-is
+    turn : (found : List Part) (rest : List Token) → behind front (item ts) ≡ Some (found, rest) → Turn found rest
+    turn found rest e =
+        let y = bind_some (item ts) (λ x. Some (front ++ x.0, x.1)) (found, rest) e in
+        record { x = y.0; is = y.1; same = same_Some (front ++ y.0.0, y.0.1) (found, rest) y.2 }
 
-    -- one turn: the part x is pushed, and then the triples behind it are
-    module _ (before after : List Element) (x : Element) (ts r u : List Token) (part_is : part_with n (group_at n) ts ≡ Some (part_of x, r)) (pushed : after ≡ before ++ x ∷ []) (undotted : u ≡ after_dot r) where
-      abbrev behind_part : List Part × List Token → List Part × List Token
-      behind_part xs = ((parts_of before ++ part_of x ∷ []) ++ xs.0, xs.1)
+    pub turn_shrinks : (found : List Part) (rest : List Token) → behind front (item ts) ≡ Some (found, rest) → length rest < length ts
+    turn_shrinks found rest e =
+        let t = turn found rest e in
+        let c = shrink n ts t.x t.is in
+        let same : length t.x.1 ≡ length rest = ap (λ (y : List Part × List Token). length y.1) t.same in
+        omega arith
 
-      abbrev pair : List Part → List Token → List Part × List Token
-      pair found rest = (found, rest)
-
-      front_is : behind (parts_of after) (front_at u) ≡ behind (parts_of before ++ part_of x ∷ []) (front_at (after_dot r))
-      front_is = ap (λ (ps : List Part). behind ps (front_at u)) (ap parts_of pushed ∙ map_push part_of before x) ∙ ap (λ (us : List Token). behind (parts_of before ++ part_of x ∷ []) (front_at us)) undotted
-
-      record Turn (found : List Part) (rest : List Token) : Type 0 where
-        xs : List Part × List Token
-        turn_is : item ts ≡ Some (part_of x ∷ xs.0, xs.1)
-        same : behind_part xs ≡ pair found rest
-
-      turn : (found : List Part) (rest : List Token) → behind (parts_of after) (front_at u) ≡ Some (found, rest) → Turn found rest
-      turn found rest e =
-          let y = bind_some (front_at (after_dot r)) (λ xs. Some (behind_part xs)) (found, rest) (sym front_is ∙ e) in
-          record {
-            xs = y.0;
-            turn_is = item_is ts r (part_of x) part_is ∙ ap (λ (o : Option (List Part × List Token)). o >>= λ xs. Some (part_of x ∷ xs.0, xs.1)) y.1;
-            same = same_Some (behind_part y.0) (found, rest) y.2;
-          }
-
-      pub turn_shrinks : (found : List Part) (rest : List Token) → behind (parts_of after) (front_at u) ≡ Some (found, rest) → length rest < length ts
-      turn_shrinks found rest e =
-          let t = turn found rest e in
-          let c = shrink n ts (part_of x ∷ t.xs.0, t.xs.1) t.turn_is in
-          let same : length t.xs.1 ≡ length rest = ap (λ (y : List Part × List Token). length y.1) t.same in
-          omega arith
-
-      pub turns : (found : List Part) (rest : List Token) → sign_at signs.CloseBrace ts ≡ None → behind (parts_of after) (front_at u) ≡ Some (found, rest) → behind found (items item rest) ≡ behind (parts_of before) (items item ts)
-      turns found rest unclosed e =
-          let t = turn found rest e in
-          ap (λ (y : List Part × List Token). behind y.0 (items item y.1)) (sym t.same)
-          ∙ ap (λ (ps : List Part). behind ps (items item t.xs.1)) (append_assoc (parts_of before) (part_of x ∷ []) t.xs.0)
-          ∙ sym (behind_both (parts_of before) (part_of x ∷ t.xs.0) (items item t.xs.1))
-          ∙ ap (behind (parts_of before)) (sym (items_next item (shrink n) ts (part_of x ∷ t.xs.0, t.xs.1) unclosed t.turn_is))
-
-      pub front_fails : (read : Option (List Part × List Token)) (e : Stop) → sign_at signs.CloseBrace ts ≡ None → Fails e (behind (parts_of after) (front_at u)) → behind (parts_of before) (items item ts) ≡ read → Fails e read
-      front_fails read stop.Memory unclosed h all-is = tt
-      front_fails read stop.NoReading unclosed h all-is =
-          let none = no_front (parts_of before ++ part_of x ∷ []) (front_at (after_dot r)) (sym front_is ∙ h) in
-          stuck (parts_of before) ts read unclosed (item_is ts r (part_of x) part_is ∙ ap (λ (o : Option (List Part × List Token)). o >>= λ xs. Some (part_of x ∷ xs.0, xs.1)) none) all-is
+    pub turns : (found : List Part) (rest : List Token) → sign_at signs.CloseBrace ts ≡ None → behind front (item ts) ≡ Some (found, rest) → behind found (items item rest) ≡ behind front (items item ts)
+    turns found rest unclosed e =
+        let t = turn found rest e in
+        ap (λ (y : List Part × List Token). behind y.0 (items item y.1)) (sym t.same)
+        ∙ sym (behind_both front t.x.0 (items item t.x.1))
+        ∙ ap (behind front) (sym (items_next item (shrink n) ts t.x unclosed t.is))

@@ -5,6 +5,7 @@
 #![tactic(auto)]
 
 pub mod laws;
+mod made;
 mod parse;
 mod patterns;
 mod unlabelled;

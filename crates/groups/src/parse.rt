@@ -1,19 +1,20 @@
 //! The productions of groups, each by one function.
-ghost use Rattle.std.specs.Prelude.{◌≡◌, map};
+ghost use Rattle.std.specs.Prelude.{◌≡◌};
 ghost use Rattle.productions.specs.Steps.{Gives};
 ghost use Rattle.productions.specs.Many.{many};
 ghost use Rattle.syntax_trees.specs.Expressions.{tree_of};
 ghost use Rattle.syntax_trees.specs.Groups.{part_of, parts_of, lists_of};
 ghost use Rattle.syntax_trees.specs.Groups as parts;
-ghost use Rattle.groups.specs.Reading.{union_link, union_with, optional_with, minus_with, graph_with, filter_at, part_with, parts_with, braces_with, group_at};
+ghost use Rattle.groups.specs.Reading.{union_link, graph_with, filter_at, part_with, parts_with, group_at};
 
 use crate::laws::readings_shrink;
-use crate::patterns::{after_dot, push_front};
+use crate::made::{graph_of, minus_of, optional_of, push_group, union_of};
+use crate::patterns::{push_front, push_item};
 use expressions::constraint_at;
 use lexer::{Sign, Stop, Token};
 use productions::{after_keyword, after_sign, kept};
 use std::alloc::Global;
-use syntax_trees::{Element, Expression, Node};
+use syntax_trees::{Element, Expression};
 use triples::graph_name_at;
 
 /// Whether the word `UNION` leads to a next group, and what follows it.
@@ -24,32 +25,6 @@ fn union_link<'t, 'a>(tokens: &'t [Token<'a>]) -> (bool, &'t [Token<'a>])
         Some(rest) => (true, rest),
         None => (false, tokens),
     }
-}
-
-#[tactic(auto, using(crate::proofs::TreeLaws::union_lists))]
-fn union_of<'a>(groups: Vec<Vec<Element<'a>>>) -> Element<'a>
-    ensures { part_of result ≡ parts.Union (parts.groups
-        (map parts.group (lists_of groups.entry.items))) }
-{
-    Element::Union(groups)
-}
-
-fn optional_of<'a>(group: Vec<Element<'a>>) -> Element<'a>
-    ensures { part_of result ≡ parts.Optional (parts.group (parts_of group.entry.items)) }
-{
-    Element::Optional(group)
-}
-
-fn minus_of<'a>(group: Vec<Element<'a>>) -> Element<'a>
-    ensures { part_of result ≡ parts.Minus (parts.group (parts_of group.entry.items)) }
-{
-    Element::Minus(group)
-}
-
-fn graph_of<'a>(name: Node<'a>, group: Vec<Element<'a>>) -> Element<'a>
-    ensures { part_of result ≡ parts.InGraph name.entry (parts.group (parts_of group.entry.items)) }
-{
-    Element::Graph(name, group)
 }
 
 fn filter_of<'a>(condition: Expression<'a>) -> Element<'a>
@@ -74,7 +49,7 @@ fn filter_at<'t, 'a>(
 /// The group at the front of the tokens (SPARQL 1.1 Query, 19.8, production 53), and what follows it. Braces and parentheses nest at most
 /// `depth` deep in it, its own included. `NoReading` comes only where no such group is there, and `Memory` only where a growth was refused.
 #[cycle(groups)]
-#[tactic(auto, unfolding(crate::specs::Reading::group_at))]
+#[tactic(auto, unfolding(crate::specs::Reading::group_at, crate::specs::Reading::braces_with))]
 pub fn group_at<'t, 'a>(
     alloc: Global,
     depth: usize,
@@ -85,7 +60,10 @@ pub fn group_at<'t, 'a>(
     if depth == 0 {
         return Err(Stop::NoReading);
     }
-    braces_at(alloc, depth - 1, tokens)
+    match after_sign(Sign::OpenBrace, tokens) {
+        Some(inside) => parts_at(alloc, depth - 1, inside),
+        None => Err(Stop::NoReading),
+    }
 }
 
 /// `Group { 'UNION' Group }`
@@ -103,53 +81,12 @@ fn groups_at<'t, 'a>(
     let mut rest = tokens;
     let mut goes_on = true;
     while goes_on {
-        let (group, after) = group_at(alloc, depth, rest)?;
-        found.push(group)?;
-        let (next, after) = union_link(after);
+        let read = group_at(alloc, depth, rest);
+        let (next, after) = union_link(push_group(&mut found, read)?);
         goes_on = next;
         rest = kept(after);
     }
     Ok((found, rest))
-}
-
-#[cycle(groups)]
-#[tactic(auto, unfolding(crate::specs::Reading::union_with))]
-fn union_at<'t, 'a>(
-    alloc: Global,
-    depth: usize,
-    tokens: &'t [Token<'a>],
-) -> Result<(Element<'a>, &'t [Token<'a>]), Stop>
-    ensures { Gives (λ x. (part_of x.0, x.1.now)) result (union_with (group_at depth) tokens.now) }
-{
-    let (groups, rest) = groups_at(alloc, depth, tokens)?;
-    Ok((union_of(groups), rest))
-}
-
-#[cycle(groups)]
-#[tactic(auto, unfolding(crate::specs::Reading::optional_with))]
-fn optional_at<'t, 'a>(
-    alloc: Global,
-    depth: usize,
-    tokens: &'t [Token<'a>],
-) -> Result<(Element<'a>, &'t [Token<'a>]), Stop>
-    ensures { Gives (λ x. (part_of x.0, x.1.now)) result
-        (optional_with (group_at depth) tokens.now) }
-{
-    let (group, rest) = group_at(alloc, depth, tokens)?;
-    Ok((optional_of(group), rest))
-}
-
-#[cycle(groups)]
-#[tactic(auto, unfolding(crate::specs::Reading::minus_with))]
-fn minus_at<'t, 'a>(
-    alloc: Global,
-    depth: usize,
-    tokens: &'t [Token<'a>],
-) -> Result<(Element<'a>, &'t [Token<'a>]), Stop>
-    ensures { Gives (λ x. (part_of x.0, x.1.now)) result (minus_with (group_at depth) tokens.now) }
-{
-    let (group, rest) = group_at(alloc, depth, tokens)?;
-    Ok((minus_of(group), rest))
 }
 
 /// `VarIri Group`, behind GRAPH.
@@ -163,8 +100,7 @@ fn graph_at<'t, 'a>(
     ensures { Gives (λ x. (part_of x.0, x.1.now)) result (graph_with (group_at depth) tokens.now) }
 {
     let (name, rest) = graph_name_at(tokens)?;
-    let (group, rest) = group_at(alloc, depth, rest)?;
-    Ok((graph_of(name, group), rest))
+    graph_of(name, group_at(alloc, depth, rest))
 }
 
 /// `Group { 'UNION' Group } | 'OPTIONAL' Group | 'MINUS' Group | 'GRAPH' VarIri Group | 'FILTER' ( '(' Expr ')' | Call )`
@@ -179,10 +115,10 @@ fn part_at<'t, 'a>(
         (part_with depth (group_at depth) tokens.now) }
 {
     if let Some(rest) = after_keyword(b"OPTIONAL", tokens) {
-        return optional_at(alloc, depth, rest);
+        return optional_of(group_at(alloc, depth, rest));
     }
     if let Some(rest) = after_keyword(b"MINUS", tokens) {
-        return minus_at(alloc, depth, rest);
+        return minus_of(group_at(alloc, depth, rest));
     }
     if let Some(rest) = after_keyword(b"GRAPH", tokens) {
         return graph_at(alloc, depth, rest);
@@ -190,7 +126,7 @@ fn part_at<'t, 'a>(
     if let Some(rest) = after_keyword(b"FILTER", tokens) {
         return filter_at(alloc, depth, rest);
     }
-    union_at(alloc, depth, tokens)
+    union_of(groups_at(alloc, depth, tokens))
 }
 
 /// `[Triples] { Part ['.'] [Triples] } '}'`
@@ -207,29 +143,11 @@ fn parts_at<'t, 'a>(
     let mut found = Vec::new(alloc);
     let mut rest = push_front(alloc, &mut found, tokens)?;
     while after_sign(Sign::CloseBrace, rest).is_none() {
-        let (part, after) = part_at(alloc, depth, rest)?;
-        found.push(part)?;
-        rest = push_front(alloc, &mut found, after_dot(after))?;
+        let read = part_at(alloc, depth, rest);
+        rest = push_item(alloc, &mut found, read)?;
     }
     match after_sign(Sign::CloseBrace, rest) {
         Some(rest) => Ok((found, rest)),
         None => Err(Stop::NoReading),
     }
-}
-
-/// `'{' [Triples] { Part ['.'] [Triples] } '}'`
-#[cycle(groups)]
-#[tactic(auto, unfolding(crate::specs::Reading::braces_with))]
-fn braces_at<'t, 'a>(
-    alloc: Global,
-    depth: usize,
-    tokens: &'t [Token<'a>],
-) -> Result<(Vec<Element<'a>>, &'t [Token<'a>]), Stop>
-    ensures { Gives (λ x. (parts_of x.0.items, x.1.now)) result
-        (braces_with depth (group_at depth) tokens.now) }
-{
-    let Some(inside) = after_sign(Sign::OpenBrace, tokens) else {
-        return Err(Stop::NoReading);
-    };
-    parts_at(alloc, depth, inside)
 }

@@ -1,10 +1,11 @@
 //! The triples between the parts of a group.
-ghost use Rattle.std.specs.Prelude.{◌≡◌};
-ghost use Rattle.productions.specs.Steps.{Gives};
-ghost use Rattle.syntax_trees.specs.Groups.{part_of, parts_of};
+ghost use Rattle.std.specs.Prelude.{◌≡◌, ℕ, List};
+ghost use Rattle.lexer.specs.declared.token.Token.{Token};
+ghost use Rattle.productions.specs.Steps.{Reader, Gives};
+ghost use Rattle.syntax_trees.specs.Groups.{Part, part_of, parts_of};
 ghost use Rattle.syntax_trees.specs.Groups as parts;
 ghost use Rattle.triples.specs.Reading.{after_dot};
-ghost use Rattle.groups.specs.Reading.{behind, unlabelled_at, front_at};
+ghost use Rattle.groups.specs.Reading.{behind, unlabelled_at, front_at, part_with, item_with};
 
 use crate::unlabelled::are_unlabelled;
 use lexer::{Sign, Stop, Token};
@@ -62,4 +63,21 @@ pub fn push_front<'t, 'a>(
     } else {
         Ok(tokens)
     }
+}
+
+/// `Part ['.'] [Triples]`, of which the part was read: pushes it and the triples behind it, and gives what follows them.
+#[tactic(auto, unfolding(crate::specs::Reading::item_with))]
+pub fn push_item<'t, 'a>(
+    alloc: Global,
+    found: &mut Vec<Element<'a>>,
+    read: Result<(Element<'a>, &'t [Token<'a>]), Stop>,
+) -> Result<&'t [Token<'a>], Stop>
+    ensures { (n : ℕ) (inner : Reader (List Part)) (ts : List Token)
+        → Gives (λ x. (part_of x.0, x.1.now)) read.entry (part_with n inner ts)
+        → Gives (λ rest. (parts_of found.new.items, rest.now)) result
+        (behind (parts_of found.old.items) (item_with n inner ts)) }
+{
+    let (part, rest) = read?;
+    found.push(part)?;
+    push_front(alloc, found, after_dot(rest))
 }

@@ -1,10 +1,11 @@
 //! The nodes of names, quads and groups, one after another.
-ghost use Rattle.std.specs.Prelude.{◌≡◌, ◌++◌, ◌∷◌, [], OnOk};
+ghost use Rattle.std.specs.Prelude.{◌≡◌, ◌<◌, ◌++◌, ◌∷◌, [], OnOk};
 ghost use Rattle.syntax_trees.specs.declared.tree.Node.TheVariants as node;
 ghost use Rattle.std.specs.Option.{option_to_list};
 ghost use Rattle.syntax_trees.specs.Expressions.{tree_of};
 ghost use Rattle.syntax_trees.specs.Groups.{part_of, parts_of, group};
 ghost use Rattle.nodes.specs.Nodes.{nodes_of_property, nodes_of_subject, nodes_of_triples, nodes_of_block, nodes_of_blocks, nodes_of_tree, nodes_of_part, nodes_of_parts, nodes_of_target, nodes_of_place, nodes_of_with};
+ghost use Rattle.nodes.specs.Pending.{pending_nodes, pending_weight};
 
 use algebra::Target;
 use std::alloc::{AllocError, Global};
@@ -135,6 +136,28 @@ fn put_two<'e, 'a>(
     put(pending, left)
 }
 
+/// Adds the nodes of an expression that has no operands, and puts those of any other one onto the stack.
+#[tactic(auto, using(crate::proofs::TreeLaws::pending_push, crate::proofs::TreeLaws::weight_push))]
+fn add_next<'e, 'a>(
+    found: &mut Vec<Node<'a>>,
+    pending: &mut Vec<&'e Expression<'a>>,
+    next: &'e Expression<'a>,
+) -> Result<(), AllocError>
+    ensures nodes { OnOk result (found.new.items ++ pending_nodes pending.new.items
+        ≡ found.old.items ++ pending_nodes (pending.old.items ++ next.entry ∷ [])) }
+    ensures fewer { OnOk result (pending_weight pending.new.items
+        < pending_weight (pending.old.items ++ next.entry ∷ [])) }
+{
+    match next {
+        Expression::Value(node) => add_node(found, node),
+        Expression::Bound(name) => add_node(found, &Node::Variable(name.again())),
+        Expression::Not(inner) => put(pending, inner),
+        Expression::One(_, inner) => put(pending, inner),
+        Expression::Binary(_, left, right) => put_two(pending, left, right),
+        Expression::Two(_, left, right) => put_two(pending, left, right),
+    }
+}
+
 /// Adds the nodes of an expression. Left operands lie as deep as a text is long: what is still to come stands on a stack.
 #[tactic(auto, using(crate::proofs::TreeLaws::pending_push, crate::proofs::TreeLaws::weight_push))]
 fn add_expression<'a>(
@@ -148,14 +171,7 @@ fn add_expression<'a>(
     let mut pending = Vec::new(alloc);
     put(&mut pending, expression)?;
     while let Some(next) = pending.pop() {
-        match next {
-            Expression::Value(node) => add_node(found, node)?,
-            Expression::Bound(name) => add_node(found, &Node::Variable(name.again()))?,
-            Expression::Not(inner) => put(&mut pending, inner)?,
-            Expression::One(_, inner) => put(&mut pending, inner)?,
-            Expression::Binary(_, left, right) => put_two(&mut pending, left, right)?,
-            Expression::Two(_, left, right) => put_two(&mut pending, left, right)?,
-        }
+        add_next(found, &mut pending, next)?;
     }
     Ok(())
 }

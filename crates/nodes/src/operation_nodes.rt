@@ -1,10 +1,12 @@
 //! The nodes of an operation, gathered once.
-ghost use Rattle.std.specs.Prelude.{◌≡◌, ◌++◌, [], IfOk, OnOk, length};
+ghost use Rattle.std.specs.Prelude.{◌≡◌, ◌++◌, [], Bool, IfOk, OnOk, length};
+ghost use Rattle.algebra.specs.declared.update.Transfer.{Transfer};
 ghost use Rattle.syntax_trees.specs.declared.tree.Operation.TheVariants as operation;
 ghost use Rattle.nodes.specs.Nodes.{nodes_of_blocks, nodes_of_place, nodes_of_where, nodes_of_operation, deleted_of};
 ghost use Rattle.nodes.specs.Places.{ArePlacesOf};
 
 use crate::nodes::{add_blocks, add_group, add_name, add_place, add_target, add_with};
+use algebra::Target;
 use std::alloc::{AllocError, Global};
 use std::marker::Model;
 use syntax_trees::{Block, Group, Name, Node, Operation, Place};
@@ -63,6 +65,55 @@ fn add_both<'a>(
 {
     add_place(found, from)?;
     add_place(found, to)
+}
+
+/// Gathers the nodes of a CREATE.
+fn add_created<'a>(found: &mut Vec<Node<'a>>, graph: &Name<'a>) -> Result<Places, AllocError>
+    requires { found.old.items ≡ [] }
+    ensures { (silent : Bool)
+        → IfOk result (ArePlacesOf (operation.Create silent graph.now) found.new.items) }
+{
+    add_name(found, graph)?;
+    Ok(no_places(found.as_slice()))
+}
+
+/// Gathers the nodes of a DROP or of a CLEAR.
+fn add_emptied<'a>(
+    found: &mut Vec<Node<'a>>,
+    target: &Target<Name<'a>>,
+) -> Result<Places, AllocError>
+    requires { found.old.items ≡ [] }
+    ensures dropped { (silent : Bool)
+        → IfOk result (ArePlacesOf (operation.Drop silent target.now) found.new.items) }
+    ensures cleared { (silent : Bool)
+        → IfOk result (ArePlacesOf (operation.Clear silent target.now) found.new.items) }
+{
+    add_target(found, target)?;
+    Ok(no_places(found.as_slice()))
+}
+
+/// Gathers the nodes of a COPY, MOVE or ADD.
+fn add_transfer<'a>(
+    found: &mut Vec<Node<'a>>,
+    from: &Place<'a>,
+    to: &Place<'a>,
+) -> Result<Places, AllocError>
+    requires { found.old.items ≡ [] }
+    ensures { (how : Transfer) (silent : Bool)
+        → IfOk result (ArePlacesOf (operation.Transfer how silent from.now to.now)
+        found.new.items) }
+{
+    add_both(found, from, to)?;
+    Ok(no_places(found.as_slice()))
+}
+
+/// Gathers the nodes of an INSERT DATA.
+fn add_insert_data<'a>(found: &mut Vec<Node<'a>>, quads: &[Block<'a>]) -> Result<Places, AllocError>
+    requires { found.old.items ≡ [] }
+    ensures { IfOk result (ArePlacesOf (operation.InsertData quads.now) found.new.items) }
+{
+    add_blocks(found, quads)?;
+    Ok(no_places(found.as_slice()))
 }
 
 /// Gathers the nodes of a DELETE DATA.
@@ -131,30 +182,27 @@ fn add_operation<'a>(
     ensures { IfOk result (ArePlacesOf operation.now found.new.items) }
 {
     match operation {
-        Operation::Create { graph, .. } => add_name(found, graph)?,
-        Operation::Drop { target, .. } => add_target(found, target)?,
-        Operation::Clear { target, .. } => add_target(found, target)?,
-        Operation::Transfer { from, to, .. } => add_both(found, from, to)?,
-        Operation::InsertData(quads) => add_blocks(found, quads.as_slice())?,
-        Operation::DeleteData(quads) => return add_delete_data(found, quads.as_slice()),
-        Operation::DeleteWhere(quads) => return add_delete_where(found, quads.as_slice()),
+        Operation::Create { graph, .. } => add_created(found, graph),
+        Operation::Drop { target, .. } => add_emptied(found, target),
+        Operation::Clear { target, .. } => add_emptied(found, target),
+        Operation::Transfer { from, to, .. } => add_transfer(found, from, to),
+        Operation::InsertData(quads) => add_insert_data(found, quads.as_slice()),
+        Operation::DeleteData(quads) => add_delete_data(found, quads.as_slice()),
+        Operation::DeleteWhere(quads) => add_delete_where(found, quads.as_slice()),
         Operation::Modify {
             with,
             delete,
             insert,
             pattern,
-        } => {
-            return add_modify(
-                alloc,
-                found,
-                with,
-                delete.as_slice(),
-                insert.as_slice(),
-                pattern,
-            );
-        }
+        } => add_modify(
+            alloc,
+            found,
+            with,
+            delete.as_slice(),
+            insert.as_slice(),
+            pattern,
+        ),
     }
-    Ok(no_places(found.as_slice()))
 }
 
 impl<'e, 'a> OperationNodes<'e, 'a> {

@@ -5,18 +5,21 @@ ghost use Rattle.algebra.specs.Plans.{nothing, plan_of};
 ghost use Rattle.std.specs.Prelude.{[], None};
 ghost use Rattle.algebra.specs.declared.update.Operation.TheVariants as made;
 ghost use Rattle.algebra.specs.declared.update.GraphOperation.TheVariants as graphs;
-ghost use Rattle.group_translation.specs.Groups.{quads_pattern};
+ghost use Rattle.syntax_trees.specs.Groups.{group};
+ghost use Rattle.group_translation.specs.Groups.{quads_pattern, translated_group};
+ghost use Rattle.nodes.specs.Nodes.{nodes_of_operation};
+ghost use Rattle.group_translation.specs.Triples.{template_of};
 ghost use Rattle.names.specs.Names.{name_term};
 ghost use Rattle.names.specs.Numbers.{labels_of, with_labels};
 ghost use Rattle.translation.specs.Translation.{target_of, graph_at, modify_with, operation_with, operation_of};
 
-use algebra::{GraphOperation, Modify, Operation, Pattern, Plan, Target, Transfer};
+use algebra::{GraphOperation, Modify, Operation, Pattern, Plan, QuadTemplate, Target, Transfer};
 use group_translation::{Scope, quads_pattern, template_of, translate};
 use names::{Labels, Prefixes, Variables};
 use nodes::OperationNodes;
 use sets::Items;
 use std::alloc::{AllocError, Global};
-use syntax_trees::{Block, Name, Node, Operation as Written, Place};
+use syntax_trees::{Block, Group, Name, Node, Operation as Written, Place};
 use terms::Term;
 
 fn target_of<'a>(
@@ -61,6 +64,57 @@ fn active_graph<'a>(
     }
 }
 
+/// The templates of DELETE and of INSERT.
+fn templates_of<'a>(
+    alloc: Global,
+    scope: &Scope<'_, 'a>,
+    with: &Option<Name<'a>>,
+    delete: &[Block<'a>],
+    insert: &[Block<'a>],
+) -> Result<(Items<QuadTemplate<Term>>, Items<QuadTemplate<Term>>), AllocError>
+    ensures { IfOk result (λ x. x
+        ≡ (
+          template_of scope.now.prefixes.now scope.now.variables.now scope.now.labels.now with.now
+              delete.now,
+          template_of scope.now.prefixes.now scope.now.variables.now scope.now.labels.now with.now
+              insert.now,
+        )) }
+{
+    let delete = template_of(alloc, scope, with, delete)?;
+    let insert = template_of(alloc, scope, with, insert)?;
+    Ok((delete, insert))
+}
+
+/// The graph that WHERE begins in, and the templates of DELETE and of INSERT.
+fn graph_and_templates<'a>(
+    alloc: Global,
+    scope: &Scope<'_, 'a>,
+    with: &Option<Name<'a>>,
+    delete: &[Block<'a>],
+    insert: &[Block<'a>],
+) -> Result<
+    (
+        Option<Term>,
+        (Items<QuadTemplate<Term>>, Items<QuadTemplate<Term>>),
+    ),
+    AllocError,
+>
+    ensures { IfOk result (λ x. x
+        ≡ (
+          option_map (name_term scope.now.prefixes.now) with.now,
+          (
+            template_of scope.now.prefixes.now scope.now.variables.now scope.now.labels.now with.now
+                delete.now,
+            template_of scope.now.prefixes.now scope.now.variables.now scope.now.labels.now with.now
+                insert.now,
+          ),
+        )) }
+{
+    let active = active_graph(alloc, scope.prefixes, with)?;
+    let templates = templates_of(alloc, scope, with, delete, insert)?;
+    Ok((active, templates))
+}
+
 /// DELETE and INSERT over a pattern.
 fn modify_with<'a>(
     alloc: Global,
@@ -74,12 +128,13 @@ fn modify_with<'a>(
         ≡ modify_with scope.now.prefixes.now scope.now.variables.now scope.now.labels.now with.now
         delete.now insert.now (plan_of pattern)) }
 {
+    let (active, (delete, insert)) = graph_and_templates(alloc, scope, with, delete, insert)?;
     Ok(Operation::Modify(Modify {
         width: scope.variables.width(),
-        active: active_graph(alloc, scope.prefixes, with)?,
+        active,
         pattern: Pattern::new(pattern),
-        delete: template_of(alloc, scope, with, delete)?,
-        insert: template_of(alloc, scope, with, insert)?,
+        delete,
+        insert,
     }))
 }
 
@@ -149,6 +204,25 @@ fn between<'a>(
     })
 }
 
+/// COPY, MOVE or ADD.
+fn transferred<'a>(
+    alloc: Global,
+    prefixes: &Prefixes<'a>,
+    silent: bool,
+    how: Transfer,
+    from: &Place<'a>,
+    to: &Place<'a>,
+) -> Result<Operation<Term>, AllocError>
+    ensures { IfOk result (λ operation. operation
+        ≡ made.Graphs silent (graphs.Transfer how (graph_at prefixes.now from.now)
+        (graph_at prefixes.now to.now))) }
+{
+    Ok(Operation::Graphs {
+        silent,
+        operation: between(alloc, prefixes, how, from, to)?,
+    })
+}
+
 /// INSERT DATA or DELETE DATA, which have the empty group as WHERE.
 fn data_with<'a>(
     alloc: Global,
@@ -178,6 +252,24 @@ fn delete_where<'a>(
     modify_with(alloc, scope, &None, quads, &[], pattern)
 }
 
+/// DELETE and INSERT with their WHERE.
+fn modified<'a>(
+    alloc: Global,
+    scope: &Scope<'_, 'a>,
+    with: &Option<Name<'a>>,
+    delete: &[Block<'a>],
+    insert: &[Block<'a>],
+    pattern: &Group<'a>,
+) -> Result<Operation<Term>, AllocError>
+    ensures { IfOk result (λ operation. operation
+        ≡ modify_with scope.now.prefixes.now scope.now.variables.now scope.now.labels.now with.now
+        delete.now insert.now (translated_group scope.now.prefixes.now scope.now.variables.now
+        (group pattern.now))) }
+{
+    let pattern = translate(alloc, scope, pattern.elements())?;
+    modify_with(alloc, scope, with, delete, insert, pattern)
+}
+
 fn operation_with<'a>(
     alloc: Global,
     scope: &Scope<'_, 'a>,
@@ -195,10 +287,7 @@ fn operation_with<'a>(
             silent,
             from,
             to,
-        } => Ok(Operation::Graphs {
-            silent: *silent,
-            operation: between(alloc, scope.prefixes, *how, from, to)?,
-        }),
+        } => transferred(alloc, scope.prefixes, *silent, *how, from, to),
         Written::InsertData(quads) => data_with(alloc, scope, &[], quads.as_slice()),
         Written::DeleteData(quads) => data_with(alloc, scope, quads.as_slice(), &[]),
         Written::DeleteWhere(quads) => delete_where(alloc, scope, quads.as_slice()),
@@ -207,11 +296,14 @@ fn operation_with<'a>(
             delete,
             insert,
             pattern,
-        } => {
-            let pattern = translate(alloc, scope, pattern.elements())?;
-            let (delete, insert) = (delete.as_slice(), insert.as_slice());
-            modify_with(alloc, scope, with, delete, insert, pattern)
-        }
+        } => modified(
+            alloc,
+            scope,
+            with,
+            delete.as_slice(),
+            insert.as_slice(),
+            pattern,
+        ),
     }
 }
 
@@ -222,6 +314,37 @@ fn labels_of<'a>(alloc: Global, nodes: &[Node<'a>]) -> Result<Labels<'a>, AllocE
     let mut labels = Labels::new(alloc);
     labels.add_nodes(nodes)?;
     Ok(labels)
+}
+
+/// An operation whose variables have numbers.
+fn operation_labelled<'a>(
+    alloc: Global,
+    prefixes: &Prefixes<'a>,
+    variables: &Variables<'a>,
+    nodes: &OperationNodes<'_, 'a>,
+) -> Result<Operation<Term>, AllocError>
+    ensures { IfOk result (λ made. made ≡ operation_with prefixes.now variables.now
+        (with_labels (labels_of (nodes_of_operation nodes.now)) []) nodes.now) }
+{
+    let labels = labels_of(alloc, nodes.all())?;
+    let scope = Scope {
+        prefixes,
+        variables,
+        labels: &labels,
+    };
+    operation_with(alloc, &scope, nodes.operation())
+}
+
+/// An operation whose IRIs are made.
+fn operation_numbered<'a>(
+    alloc: Global,
+    prefixes: &Prefixes<'a>,
+    nodes: &OperationNodes<'_, 'a>,
+) -> Result<Operation<Term>, AllocError>
+    ensures { IfOk result (λ made. made ≡ operation_of prefixes.now nodes.now) }
+{
+    let variables = Variables::of(alloc, nodes.of_where())?;
+    operation_labelled(alloc, prefixes, &variables, nodes)
 }
 
 /// An operation as an update (SPARQL 1.1 Update, section 3), with the prefixes that are declared before it. Its IRIs are made on the way, each
@@ -237,12 +360,5 @@ pub fn operation_of<'a>(
     ensures prefixes { prefixes.new ≡ prefixes.old }
 {
     prefixes.keep(alloc, nodes.all())?;
-    let variables = Variables::of(alloc, nodes.of_where())?;
-    let labels = labels_of(alloc, nodes.all())?;
-    let scope = Scope {
-        prefixes,
-        variables: &variables,
-        labels: &labels,
-    };
-    operation_with(alloc, &scope, nodes.operation())
+    operation_numbered(alloc, prefixes, nodes)
 }

@@ -9,12 +9,6 @@ use Rattle.expressions.proofs.parse.+expressions.Given as goal
 abbrev pub decreases-expression_at : goal.decreases-expression_at
 decreases-expression_at l = 32 * l.depth
 
-abbrev pub decreases-closed_at : goal.decreases-closed_at
-decreases-closed_at l = 32 * l.depth + 1
-
-abbrev pub decreases-one_at : goal.decreases-one_at
-decreases-one_at l = 32 * l.depth + 2
-
 abbrev pub decreases-two_at : goal.decreases-two_at
 decreases-two_at l = 32 * l.depth + 2
 

@@ -22,9 +22,9 @@ add_part-returns-after-loop-elements t c =
     ∙ ap (λ rest. made ++ rest) (sym (at_drop_all (λ gs. translated_groups prefixes variables (groups (map group (lists_of gs)))) members c.loop-elements.elements-index c.loop-elements-test.false))
     ∙ c.loop-elements.invariant
     ∙ ap (λ gs. translated_groups prefixes variables (groups (map group (lists_of gs)))) c.deref-elements-items.ensures.value in
-    on_ok_weaker c.link-in-Union.result
+    on_ok_weaker c.link.result
     (λ linked.
     linked
     ∙ ap (λ p. plans.Join before p) (united_is c.loop-elements.plans ∙ ap plans.united all)
     ∙ ap (with_part prefixes variables before) (sym (ap part_of c.in-Union.is ∙ union_is c.in-Union.members)))
-    c.link-in-Union.ensures
+    c.link.ensures

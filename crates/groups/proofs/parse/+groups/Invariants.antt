@@ -6,31 +6,19 @@ use Rattle.groups.specs.Reading.{behind, union_link, item_with, items, parts_wit
 use Rattle.groups.proofs.parse.+groups.Given as goal
 
 abbrev pub decreases-group_at : goal.decreases-group_at
-decreases-group_at l = 8 * l.depth
+decreases-group_at l = 4 * l.depth
 
 abbrev pub decreases-groups_at : goal.decreases-groups_at
-decreases-groups_at l = 8 * l.depth + 1
-
-abbrev pub decreases-union_at : goal.decreases-union_at
-decreases-union_at l = 8 * l.depth + 2
-
-abbrev pub decreases-optional_at : goal.decreases-optional_at
-decreases-optional_at l = 8 * l.depth + 2
-
-abbrev pub decreases-minus_at : goal.decreases-minus_at
-decreases-minus_at l = 8 * l.depth + 2
+decreases-groups_at l = 4 * l.depth + 1
 
 abbrev pub decreases-graph_at : goal.decreases-graph_at
-decreases-graph_at l = 8 * l.depth + 2
+decreases-graph_at l = 4 * l.depth + 1
 
 abbrev pub decreases-part_at : goal.decreases-part_at
-decreases-part_at l = 8 * l.depth + 3
+decreases-part_at l = 4 * l.depth + 2
 
 abbrev pub decreases-parts_at : goal.decreases-parts_at
-decreases-parts_at l = 8 * l.depth + 4
-
-abbrev pub decreases-braces_at : goal.decreases-braces_at
-decreases-braces_at l = 8 * l.depth + 5
+decreases-parts_at l = 4 * l.depth + 3
 
 abbrev pub invariant-groups_at-loop-goes_on : goal.invariant-groups_at-loop-goes_on
 invariant-groups_at-loop-goes_on l = so_far (group_at l.depth) union_link l.goes_on (lists_of l.found.items) l.rest ≡ many (group_at l.fn.depth) union_link l.fn.tokens

@@ -1,7 +1,7 @@
 use Rattle.std.proofs.Common.{◌≡◌, ◌++◌}
 use Rattle.syntax_trees.specs.Expressions.{tree_of}
 use Rattle.nodes.specs.Nodes.{nodes_of_tree}
-use Rattle.nodes.proofs.TreeLaws.{pending_nodes, pending_weight}
+use Rattle.nodes.specs.Pending.{pending_nodes, pending_weight}
 use Rattle.nodes.proofs.nodes.add_expression.Given as goal
 
 abbrev pub invariant-loop-next : goal.invariant-loop-next
