@@ -30,7 +30,7 @@ lengths = search (sendable, crosses) depth 40
 
 module _ (a lent : NamedLft) (T G : RattleType) (y : IsSync T) (z : IsSync G) where
   workers : IsSend (Workers.the_row lent a T G)
-  workers = let s = shared a in let r = requests in let d = dict in let v = indexed_view in let n = lengths in search (sendable, crosses) depth 20
+  workers = let s = shared a in let r = requests in let d = dict in let v = indexed_view in let n = lengths in search (sendable, crosses) depth 40
 
   pub crew : IsSend (Crew.the_row lent a T G)
   crew = let w = workers in let p = passes a in search (sendable, crosses) depth 20

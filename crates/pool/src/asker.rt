@@ -144,6 +144,8 @@ impl<'w, 's, 'a, R: Wait, G: Gate> Source for Asking<'w, 's, 'a, R, G> {
         notes.reserve(reads.len())?;
         let scans = scans_of_all(workers.alloc, workers.base, reads)?;
         let mut replies = Vec::new(workers.alloc);
+        // Here, and not while the book is held.
+        replies.reserve(reads.len())?;
         let made = workers.shared.read_all(
             workers.rt,
             workers.alloc,

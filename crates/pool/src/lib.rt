@@ -9,6 +9,7 @@ mod crew;
 mod gate;
 mod lengths;
 mod pace;
+mod patience;
 mod run;
 mod worker;
 

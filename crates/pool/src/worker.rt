@@ -9,8 +9,8 @@ use crate::asker::Asking;
 use crate::gate::Gate;
 use crate::lengths::Lengths;
 use crate::pace::Pace;
+use crate::patience::Patience;
 use block_machine::{Entry, Event, Reply};
-use crossbeam_utils::Backoff;
 use datasets::Id;
 use delta::Finished;
 use dict::Dict;
@@ -173,6 +173,8 @@ impl<'s, 'a, R: Wait, G: Gate> Workers<'s, 'a, R, G> {
         let Turn { place, incarnation } = turn;
         let notes = run.transcript.len();
         let mut replies = Vec::new(self.alloc);
+        // Most often there are so many; the book is not held yet.
+        replies.reserve(notes.saturating_add(3))?;
         let made = self.shared.publish_settled(
             self.rt,
             self.alloc,
@@ -368,7 +370,7 @@ impl<'s, 'a, R: Wait, G: Gate> Workers<'s, 'a, R, G> {
         &self,
         pass: Pass<'a>,
         next: Next,
-        backoff: &Backoff,
+        patience: &mut Patience,
     ) -> Result<(Pass<'a>, bool, Next), AllocError>
         requires pass { IsPassFor self.now pass }
         requires size { length self.now.subject.block < 2 ^ 32 }
@@ -378,7 +380,7 @@ impl<'s, 'a, R: Wait, G: Gate> Workers<'s, 'a, R, G> {
         if next.taken.is_some() {
             return self.follow(pass, next);
         }
-        self.pace.wait_for_room(backoff);
+        self.pace.wait_for_room(self.rt, patience);
         self.advance(pass)
     }
 
@@ -391,16 +393,16 @@ impl<'s, 'a, R: Wait, G: Gate> Workers<'s, 'a, R, G> {
     {
         let mut pass = pass;
         let mut next = Next::nothing();
-        let backoff = Backoff::new();
+        let mut patience = Patience::new();
         for _ in self.rt.forever() {
             if self.stopped.load(Ordering::SeqCst) {
                 return Err(AllocError);
             }
-            let (later, got_on, found) = self.go_on(pass, next, &backoff)?;
+            let (later, got_on, found) = self.go_on(pass, next, &mut patience)?;
             pass = later;
             next = found;
             if got_on {
-                backoff.reset();
+                patience.reset();
                 continue;
             }
             if self.pace.are_committed(self.block.len()) {
@@ -408,7 +410,7 @@ impl<'s, 'a, R: Wait, G: Gate> Workers<'s, 'a, R, G> {
                     return Ok(pass);
                 }
             }
-            backoff.snooze();
+            patience.wait(self.rt);
         }
         unreachable!()
     }
