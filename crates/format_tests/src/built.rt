@@ -100,15 +100,34 @@ fn put_in(alloc: Global, count: u32) -> Result<DataSet, Fail> {
     Ok(dataset)
 }
 
+/// How many terms a dataset has, and its canonical text.
+fn told(alloc: Global, dataset: &DataSet) -> Result<(usize, Vec<u8>), AllocError> {
+    let text = canonical_text(alloc, dataset, 1)?;
+    Ok((dataset.parts().terms.len(), text))
+}
+
+/// The same of the dataset that is built.
+fn told_built(alloc: Global, count: u32) -> Result<(usize, Vec<u8>), AllocError> {
+    let dataset = built(alloc, count)?;
+    let told = told(alloc, &dataset);
+    drop(dataset);
+    told
+}
+
+/// The same of the dataset that is put in quad after quad.
+fn told_put_in(alloc: Global, count: u32) -> Result<(usize, Vec<u8>), Fail> {
+    let dataset = put_in(alloc, count)?;
+    let told = told(alloc, &dataset);
+    drop(dataset);
+    Ok(told?)
+}
+
 #[test]
 fn more_quads_than_are_placed_together(rt: HostRuntime) -> Result<(), Fail> {
-    let alloc = rt.alloc();
     for count in [1, 63, 64, 70] {
-        let built = built(alloc, count)?;
-        let plain = put_in(alloc, count)?;
-        assert!(rt; built.parts().terms.len() == plain.parts().terms.len());
-        let text = canonical_text(alloc, &built, 1)?;
-        let wanted = canonical_text(alloc, &plain, 1)?;
+        let (terms, text) = told_built(rt.alloc(), count)?;
+        let (wanted_terms, wanted) = told_put_in(rt.alloc(), count)?;
+        assert!(rt; terms == wanted_terms);
         assert!(rt; text.as_slice() == wanted.as_slice(), "{count}");
     }
     Ok(())

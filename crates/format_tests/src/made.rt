@@ -23,7 +23,9 @@ pub fn two_graphs(alloc: Global) -> Result<DataSet, BaseFault> {
 /// Whether the canonical text of what a text spells is this one.
 pub fn spells(alloc: Global, text: &[u8], canonical: &[u8]) -> Result<bool, BaseFault> {
     let dataset = read_bytes(alloc, text)?;
-    Ok(canonical_text(alloc, &dataset, 1)?.as_slice() == canonical)
+    let found = canonical_text(alloc, &dataset, 1);
+    drop(dataset);
+    Ok(found?.as_slice() == canonical)
 }
 
 /// What is wrong with a text by an outcome, if anything is. An `Err` where memory ran out.

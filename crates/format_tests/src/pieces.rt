@@ -6,7 +6,9 @@ use nquads::{
     BaseFault, canonical_pieces, canonical_pieces_by, canonical_text, read_by, read_bytes,
 };
 use std::alloc::{AllocError, Global};
+use std::process::Abort;
 use std::thread::Threads;
+use terms::DataSet;
 
 const THREADS: [usize; 5] = [0, 1, 2, 3, 8];
 
@@ -56,7 +58,45 @@ fn text_of(alloc: Global, pieces: &[Vec<u8>]) -> Result<Vec<u8>, AllocError> {
     Ok(text)
 }
 
-/// Whether what so many threads read of a text has that canonical text, made by one thread and by as many.
+/// Whether the text of pieces is this one.
+fn is_text(alloc: Global, pieces: &[Vec<u8>], text: &str) -> Result<bool, AllocError> {
+    Ok(text_of(alloc, pieces)?.as_slice() == text.as_bytes())
+}
+
+/// Whether the canonical text of a dataset is this one, made by one thread.
+fn is_told(alloc: Global, dataset: &DataSet, canonical: &str) -> Result<bool, AllocError> {
+    let pieces = canonical_pieces(alloc, dataset, 1)?;
+    let is_text = is_text(alloc, pieces.as_slice(), canonical);
+    drop(pieces);
+    is_text
+}
+
+/// The same, made by so many threads.
+fn is_told_by<T: Threads + Sync>(
+    rt: &T,
+    alloc: Global,
+    dataset: &DataSet,
+    threads: usize,
+    canonical: &str,
+) -> Result<bool, AllocError> {
+    let pieces = canonical_pieces_by(rt, alloc, dataset, 1, threads)?;
+    let is_text = is_text(alloc, pieces.as_slice(), canonical);
+    drop(pieces);
+    is_text
+}
+
+/// Whether the canonical text of a dataset is this one, made by one thread and by so many.
+fn is_told_alike<T: Threads + Sync>(
+    rt: &T,
+    alloc: Global,
+    dataset: &DataSet,
+    threads: usize,
+    canonical: &str,
+) -> Result<bool, AllocError> {
+    Ok(is_told(alloc, dataset, canonical)? && is_told_by(rt, alloc, dataset, threads, canonical)?)
+}
+
+/// Whether what so many threads read of a text has that canonical text, and no read failed.
 fn is_read<T: Threads + Sync>(
     rt: &T,
     alloc: Global,
@@ -66,32 +106,31 @@ fn is_read<T: Threads + Sync>(
 ) -> Result<bool, BaseFault> {
     let mut reader = Watched::new(text.as_bytes());
     let dataset = read_by(rt, alloc, &mut reader, threads)?;
-    let by_one = canonical_pieces(alloc, &dataset, 1)?;
-    let by_threads = canonical_pieces_by(rt, alloc, &dataset, 1, threads)?;
-    Ok(
-        text_of(alloc, by_one.as_slice())?.as_slice() == canonical.as_bytes()
-            && text_of(alloc, by_threads.as_slice())?.as_slice() == canonical.as_bytes()
-            && reader.failures == 0,
-    )
+    let is_told = is_told_alike(rt, alloc, &dataset, threads, canonical);
+    drop(dataset);
+    Ok(is_told? && reader.failures == 0)
 }
 
-#[test]
-fn read_by_threads(rt: HostRuntime) -> Result<(), BaseFault> {
+fn check_table<T: Threads + Sync + Abort>(
+    rt: &T,
+    alloc: Global,
+    table: &[(&str, &str)],
+) -> Result<(), BaseFault> {
     for threads in &THREADS {
-        for (text, canonical) in &TEXTS {
+        for (text, canonical) in table {
             assert!(rt;
-                is_read(&rt, rt.alloc(), text, *threads, canonical)?,
-                "{threads} {text:?}"
-            );
-        }
-        for (text, canonical) in &CUT {
-            assert!(rt;
-                is_read(&rt, rt.alloc(), text, *threads, canonical)?,
+                is_read(rt, alloc, text, *threads, canonical)?,
                 "{threads} {text:?}"
             );
         }
     }
     Ok(())
+}
+
+#[test]
+fn read_by_threads(rt: HostRuntime) -> Result<(), BaseFault> {
+    check_table(&rt, rt.alloc(), &TEXTS)?;
+    check_table(&rt, rt.alloc(), &CUT)
 }
 
 /// Texts of several pieces, and the number of the first bad line of each.
@@ -104,19 +143,24 @@ const BAD_PIECES: [(&[u8], usize); 6] = [
     (b"<x:a> <x:p> \"a\nb\" .\n<x:a> <x:p> <x:b> .\n", 1),
 ];
 
-#[test]
-fn bad_lines_by_threads(rt: HostRuntime) -> Result<(), BaseFault> {
+fn check_bad<T: Threads + Sync + Abort>(
+    rt: &T,
+    alloc: Global,
+    table: &[(&[u8], usize)],
+) -> Result<(), BaseFault> {
     for threads in &THREADS {
-        for (text, number) in &BAD {
-            let outcome = read_by(&rt, rt.alloc(), &mut Watched::new(*text), *threads);
-            assert!(rt; is_bad_at(outcome, *number)?, "{threads} {text:?}");
-        }
-        for (text, number) in &BAD_PIECES {
-            let outcome = read_by(&rt, rt.alloc(), &mut Watched::new(*text), *threads);
+        for (text, number) in table {
+            let outcome = read_by(rt, alloc, &mut Watched::new(*text), *threads);
             assert!(rt; is_bad_at(outcome, *number)?, "{threads} {text:?}");
         }
     }
     Ok(())
+}
+
+#[test]
+fn bad_lines_by_threads(rt: HostRuntime) -> Result<(), BaseFault> {
+    check_bad(&rt, rt.alloc(), &BAD)?;
+    check_bad(&rt, rt.alloc(), &BAD_PIECES)
 }
 
 // Lines of so many quads, of which each has another subject, from the last to the first.
@@ -130,13 +174,31 @@ fn falling(alloc: Global, quads: u32) -> Result<Vec<u8>, AllocError> {
     Ok(text)
 }
 
+/// A dataset of so many quads.
+fn falling_dataset(alloc: Global, quads: u32) -> Result<DataSet, BaseFault> {
+    let text = falling(alloc, quads)?;
+    read_bytes(alloc, text.as_slice())
+}
+
+/// Whether eight threads make a dataset's canonical text as one does, and it begins so.
+fn is_made_alike<T: Threads + Sync>(
+    rt: &T,
+    alloc: Global,
+    dataset: &DataSet,
+    front: &[u8],
+) -> Result<bool, AllocError> {
+    let pieces = canonical_pieces_by(rt, alloc, dataset, 1, 8)?;
+    let by_threads = text_of(alloc, pieces.as_slice())?;
+    let by_one = canonical_text(alloc, dataset, 1)?;
+    Ok(by_one.starts_with(front) && by_one.as_slice() == by_threads.as_slice())
+}
+
 #[test]
 fn long_texts_by_threads(rt: HostRuntime) -> Result<(), BaseFault> {
-    let alloc = rt.alloc();
-    let dataset = read_bytes(alloc, falling(alloc, 10_000)?.as_slice())?;
-    let by_one = canonical_text(alloc, &dataset, 1)?;
-    let by_threads = canonical_pieces_by(&rt, alloc, &dataset, 1, 8)?;
-    assert!(rt; by_one.starts_with(b"<x:100001> <x:p> \"9999\" .\n<x:100002> <x:p> \"9998\" .\n"));
-    assert!(rt; by_one.as_slice() == text_of(alloc, by_threads.as_slice())?.as_slice());
+    let dataset = falling_dataset(rt.alloc(), 10_000)?;
+    let front = b"<x:100001> <x:p> \"9999\" .\n<x:100002> <x:p> \"9998\" .\n";
+    let is_alike = is_made_alike(&rt, rt.alloc(), &dataset, front);
+    drop(dataset);
+    assert!(rt; is_alike?);
     Ok(())
 }

@@ -8,6 +8,7 @@ use std::alloc::{AllocError, Global};
 use std::io;
 use std::io::{Read, Write};
 use std::test::Fail;
+use terms::DataSet;
 
 /// A reader that gives one byte at a time, and fails at a read that is counted down to.
 #[derive(Drop)]
@@ -118,18 +119,24 @@ fn write_failed(outcome: Result<(), WriteFault>) -> Result<bool, WriteFault> {
     }
 }
 
+/// Whether the write of a dataset fails once, with so many bytes of its text written.
+fn is_cut_at(alloc: Global, dataset: &DataSet, good_calls: usize) -> Result<bool, Fail> {
+    let text = room(alloc)?;
+    let mut writer = Watched::new(Narrow { text, good_calls });
+    let outcome = write(alloc, &mut writer, dataset, 1);
+    let is_cut = writer.failures == 1
+        && writer.inner.text.len() == good_calls
+        && TWO_GRAPHS.as_bytes().starts_with(&writer.inner.text);
+    drop(writer);
+    Ok(write_failed(outcome)? && is_cut)
+}
+
 #[test]
 fn each_write_fails_once(rt: HostRuntime) -> Result<(), Fail> {
     let dataset = two_graphs(rt.alloc())?;
     for good_calls in 0..TWO_GRAPHS.len() {
-        let text = room(rt.alloc())?;
-        let mut writer = Watched::new(Narrow { text, good_calls });
-        let outcome = write(rt.alloc(), &mut writer, &dataset, 1);
-        assert!(rt; write_failed(outcome)?, "{good_calls}");
-        assert_eq!(rt; writer.failures, 1);
-        assert_eq!(rt; writer.inner.text.len(), good_calls);
         assert!(rt;
-            TWO_GRAPHS.as_bytes().starts_with(&writer.inner.text),
+            is_cut_at(rt.alloc(), &dataset, good_calls)?,
             "{good_calls}"
         );
     }

@@ -46,12 +46,17 @@ fn spoken(alloc: Global, request: usize, are_made: bool) -> Result<Vec<Quad<Id>>
     Ok(quads)
 }
 
+// Puts in the hints of a request.
+fn put(alloc: Global, hints: &mut Hints, request: usize, are_made: bool) -> Result<(), AllocError> {
+    let quads = QuadSet::of_quads(alloc, spoken(alloc, request, are_made)?)?;
+    hints.put_all(alloc, &quads.as_slice(), request)
+}
+
 // The hints of all requests.
 fn hints_of(alloc: Global, orders: &[Arrangement], are_made: bool) -> Result<Hints, AllocError> {
     let mut hints = Hints::new(alloc, OrderSet::of(orders));
     for request in 0..REQUESTS {
-        let quads = QuadSet::of_quads(alloc, spoken(alloc, request, are_made)?)?;
-        hints.put_all(alloc, &quads.as_slice(), request)?;
+        put(alloc, &mut hints, request, are_made)?;
     }
     Ok(hints)
 }
@@ -111,40 +116,35 @@ fn is_found(
     Ok(so)
 }
 
-// Of a request of one quad, of the first and the last of two that put many, and of the last of all.
-fn are_found(alloc: Global, hints: &Hints, are_made: bool) -> Result<bool, AllocError> {
-    Ok(
-        is_found(alloc, hints, are_made, 7, 0)?
-            && is_found(alloc, hints, are_made, 300, 511)?
-            && is_found(alloc, hints, are_made, 601, 0)?
-            && is_found(alloc, hints, are_made, 601, 699)?
-            && is_found(alloc, hints, are_made, 1299, 0)?,
-    )
+// Requests, and the place of a quad in each: one of one quad, the first and the last of two that put many, and the last of all.
+const SOUGHT: [(usize, usize); 5] = [(7, 0), (300, 511), (601, 0), (601, 699), (1299, 0)];
+
+// Whether the hints that are kept in these orders are found.
+fn are_found(alloc: Global, orders: &[Arrangement], are_made: bool) -> Result<bool, AllocError> {
+    let hints = hints_of(alloc, orders, are_made)?;
+    let mut so = true;
+    for (request, k) in &SOUGHT {
+        so = so && is_found(alloc, &hints, are_made, *request, *k)?;
+    }
+    Ok(so)
 }
 
 #[test]
 fn hints_are_found_in_each_order(rt: HostRuntime) -> Result<(), AllocError> {
-    let alloc = rt.alloc();
-    let hints = hints_of(alloc, &BESIDE_SPOG, false)?;
-    assert!(rt; are_found(alloc, &hints, false)?);
+    assert!(rt; are_found(rt.alloc(), &BESIDE_SPOG, false)?);
     Ok(())
 }
 
 #[test]
 fn hints_are_found_without_the_order(rt: HostRuntime) -> Result<(), AllocError> {
-    let alloc = rt.alloc();
-    let hints = hints_of(alloc, &[], false)?;
-    assert!(rt; are_found(alloc, &hints, false)?);
-    let hints = hints_of(alloc, &[Arrangement::Ogsp, Arrangement::Gpso], false)?;
-    assert!(rt; are_found(alloc, &hints, false)?);
+    assert!(rt; are_found(rt.alloc(), &[], false)?);
+    assert!(rt; are_found(rt.alloc(), &[Arrangement::Ogsp, Arrangement::Gpso], false)?);
     Ok(())
 }
 
 #[test]
 fn hints_of_made_nodes_are_found(rt: HostRuntime) -> Result<(), AllocError> {
-    let alloc = rt.alloc();
-    let hints = hints_of(alloc, &[Arrangement::Pogs], true)?;
-    assert!(rt; are_found(alloc, &hints, true)?);
+    assert!(rt; are_found(rt.alloc(), &[Arrangement::Pogs], true)?);
     Ok(())
 }
 

@@ -25,7 +25,8 @@ pub fn indexed(
     Index::new(alloc, &set_of(quads), orders)
 }
 
-fn filtered(
+/// The quads that fit.
+pub fn filtered(
     alloc: Global,
     pattern: &QuadPattern<Id>,
     quads: &[Quad<Id>],
@@ -40,12 +41,32 @@ fn filtered(
 }
 
 // How a scan of each pattern of a quad went.
-#[derive(Drop)]
+#[derive(Clone, Copy)]
 struct Scans {
     // whether each found what a filter does, the quad among it
     are_right: bool,
     // whether each looked at no more entries than its answer has, and twice nine: 500 has nine binary digits
     are_short: bool,
+}
+
+// How a scan of one pattern went.
+fn scan_of(
+    alloc: Global,
+    index: &Index,
+    set: &[Quad<Id>],
+    pattern: &QuadPattern<Id>,
+    quad: &Quad<Id>,
+) -> Result<Scans, AllocError> {
+    let mut looks = Looks::new();
+    let found = index
+        .scan_counted(alloc, pattern, &mut looks)?
+        .quads(alloc)?;
+    let are_short = 0 < looks.count() && looks.count() <= 18 + found.len() as u64;
+    let wanted = filtered(alloc, pattern, set)?;
+    Ok(Scans {
+        are_right: found.as_slice() == wanted.as_slice() && found.as_slice().contains(quad),
+        are_short,
+    })
 }
 
 fn scans_of(
@@ -59,28 +80,30 @@ fn scans_of(
         are_short: true,
     };
     for places in 0..16 {
-        let pattern = pattern_of(places, quad);
-        let mut looks = Looks::new();
-        let found = index
-            .scan_counted(alloc, &pattern, &mut looks)?
-            .quads(alloc)?;
-        let wanted = filtered(alloc, &pattern, set)?;
-        let is_right = found.as_slice() == wanted.as_slice() && found.as_slice().contains(quad);
-        scans.are_right = scans.are_right && is_right;
-        let most = 18 + found.len() as u64;
-        scans.are_short = scans.are_short && 0 < looks.count() && looks.count() <= most;
+        let scan = scan_of(alloc, index, set, &pattern_of(places, quad), quad)?;
+        scans.are_right = scans.are_right && scan.are_right;
+        scans.are_short = scans.are_short && scan.are_short;
     }
     Ok(scans)
 }
 
+// How they went in an index of the set.
+fn scans_in(
+    alloc: Global,
+    orders: &[Arrangement],
+    set: &[Quad<Id>],
+    quad: &Quad<Id>,
+) -> Result<Scans, AllocError> {
+    let index = indexed(alloc, set, orders)?;
+    scans_of(alloc, &index, set, quad)
+}
+
 #[test]
 fn each_pattern_finds_what_a_filter_does(rt: HostRuntime) -> Result<(), AllocError> {
-    let alloc = rt.alloc();
-    let set = set_of(quads_with(Vec::new(alloc))?);
-    let index = indexed(alloc, &set, &BESIDE_SPOG)?;
+    let set = set_of(quads_with(Vec::new(rt.alloc()))?);
     assert!(rt; set.len() == 500);
     for i in [123, 499] {
-        let scans = scans_of(alloc, &index, &set, &quad_of(i))?;
+        let scans = scans_in(rt.alloc(), &BESIDE_SPOG, &set, &quad_of(i))?;
         assert!(rt; scans.are_right && scans.are_short);
     }
     Ok(())
@@ -88,17 +111,21 @@ fn each_pattern_finds_what_a_filter_does(rt: HostRuntime) -> Result<(), AllocErr
 
 #[test]
 fn an_index_without_the_order_finds_the_same(rt: HostRuntime) -> Result<(), AllocError> {
-    let alloc = rt.alloc();
-    let set = set_of(quads_with(Vec::new(alloc))?);
-    let index = indexed(alloc, &set, &[Arrangement::Ogsp])?;
-    let scans = scans_of(alloc, &index, &set, &quad_of(123))?;
+    let set = set_of(quads_with(Vec::new(rt.alloc()))?);
+    let scans = scans_in(rt.alloc(), &[Arrangement::Ogsp], &set, &quad_of(123))?;
     assert!(rt; scans.are_right && !scans.are_short);
     Ok(())
 }
 
+// The set of 500 quads and this one.
+fn set_with(alloc: Global, quad: Quad<Id>) -> Result<Vec<Quad<Id>>, AllocError> {
+    let mut quads = Vec::new(alloc);
+    quads.push(quad)?;
+    Ok(set_of(quads_with(quads)?))
+}
+
 #[test]
 fn a_made_node_is_found(rt: HostRuntime) -> Result<(), AllocError> {
-    let alloc = rt.alloc();
     let made = Quad {
         subject: Id::Made {
             request: 0,
@@ -108,12 +135,9 @@ fn a_made_node_is_found(rt: HostRuntime) -> Result<(), AllocError> {
         },
         ..quad_of(7)
     };
-    let mut quads = Vec::new(alloc);
-    quads.push(made)?;
-    let set = set_of(quads_with(quads)?);
-    let index = indexed(alloc, &set, &BESIDE_SPOG)?;
+    let set = set_with(rt.alloc(), made)?;
     assert!(rt; set.len() == 501);
-    let scans = scans_of(alloc, &index, &set, &made)?;
+    let scans = scans_in(rt.alloc(), &BESIDE_SPOG, &set, &made)?;
     assert!(rt; scans.are_right && scans.are_short);
     Ok(())
 }
@@ -148,16 +172,27 @@ fn with_repeated(alloc: Global, last: Quad<Id>) -> Result<Vec<Quad<Id>>, AllocEr
     Ok(quads)
 }
 
+// The same as a list.
+fn list_with_repeated(alloc: Global, last: Quad<Id>) -> Result<QuadList, AllocError> {
+    let quads = with_repeated(alloc, last)?;
+    listed(alloc, quads.as_slice())
+}
+
+// Whether an index is of the set of these, and a scan of each pattern of the last goes well.
+fn is_of_repeated(alloc: Global, index: &Index, last: Quad<Id>) -> Result<bool, AllocError> {
+    let set = set_of(with_repeated(alloc, last)?);
+    let scans = scans_of(alloc, index, &set, &last)?;
+    let is_right = scans.are_right && scans.are_short;
+    Ok(is_right && index.quads(alloc)?.as_slice() == set.as_slice())
+}
+
 #[test]
 fn quads_come_in_any_order_and_twice(rt: HostRuntime) -> Result<(), AllocError> {
     let alloc = rt.alloc();
     for last in [quad_of(3), quad_with_made()] {
-        let quads = with_repeated(alloc, last)?;
-        let set = set_of(Vec::from_slice(alloc, quads.as_slice())?);
-        let index = Index::of_quads(alloc, listed(alloc, quads.as_slice())?, &BESIDE_SPOG)?;
-        let scans = scans_of(alloc, &index, &set, &last)?;
-        assert!(rt; scans.are_right && scans.are_short);
-        assert!(rt; index.quads(alloc)?.as_slice() == set.as_slice());
+        let list = list_with_repeated(alloc, last)?;
+        let index = Index::of_quads(alloc, list, &BESIDE_SPOG)?;
+        assert!(rt; is_of_repeated(alloc, &index, last)?);
     }
     Ok(())
 }
@@ -166,13 +201,9 @@ fn quads_come_in_any_order_and_twice(rt: HostRuntime) -> Result<(), AllocError> 
 fn quads_are_put_in_order_by_threads(rt: HostRuntime) -> Result<(), AllocError> {
     let alloc = rt.alloc();
     for last in [quad_of(3), quad_with_made()] {
-        let quads = with_repeated(alloc, last)?;
-        let set = set_of(Vec::from_slice(alloc, quads.as_slice())?);
-        let list = listed(alloc, quads.as_slice())?;
+        let list = list_with_repeated(alloc, last)?;
         let index = Index::of_quads_by(&rt, alloc, list, &BESIDE_SPOG)?;
-        let scans = scans_of(alloc, &index, &set, &last)?;
-        assert!(rt; scans.are_right && scans.are_short);
-        assert!(rt; index.quads(alloc)?.as_slice() == set.as_slice());
+        assert!(rt; is_of_repeated(alloc, &index, last)?);
     }
     Ok(())
 }
@@ -192,16 +223,19 @@ fn quads_of_a_predicate(alloc: Global, least: u32) -> Result<Vec<Quad<Id>>, Allo
     Ok(quads)
 }
 
+// What an index of a set finds of that predicate.
+fn found_by_predicate(alloc: Global, set: &[Quad<Id>]) -> Result<Vec<Quad<Id>>, AllocError> {
+    let index = indexed(alloc, set, &BESIDE_SPOG)?;
+    let found = index.scan(alloc, &pattern_of(2, &quad_of(1)))?;
+    found.quads(alloc)
+}
+
 #[test]
 fn many_quads_of_a_predicate_come_by_subject(rt: HostRuntime) -> Result<(), AllocError> {
-    let alloc = rt.alloc();
     for least in [0, 0x50_0000] {
-        let set = set_of(quads_of_a_predicate(alloc, least)?);
-        let index = indexed(alloc, &set, &BESIDE_SPOG)?;
+        let set = set_of(quads_of_a_predicate(rt.alloc(), least)?);
         assert!(rt; set.len() == 3000);
-        let found = index
-            .scan(alloc, &pattern_of(2, &quad_of(1)))?
-            .quads(alloc)?;
+        let found = found_by_predicate(rt.alloc(), &set)?;
         assert!(rt; found.as_slice() == set.as_slice());
     }
     Ok(())

@@ -1,5 +1,5 @@
 //! Calls that never wait, of one worker alone.
-ghost use Rattle.std.specs.Prelude.{◌≡◌, ◌<◌, ◌^◌, Some, slice_get, IfOk, IfSome};
+ghost use Rattle.std.specs.Prelude.{◌≡◌, ◌<◌, ◌^◌, Some, slice_get, IfSome};
 ghost use Rattle.update.specs.Asked.{IsShort};
 ghost use Rattle.shared.specs.Calls.{IsSoundAt};
 ghost use Rattle.shared.specs.Duty.{IsPassFor};
@@ -98,25 +98,45 @@ pub fn executed<'a>(
     }
 }
 
-/// Runs incarnation 0 of the request and publishes it.
-pub fn publish<'a>(
+// Whether the run of incarnation 0 of a request is published.
+fn publishes<'a>(
+    alloc: Global,
+    shared: &SharedBlock<'a>,
+    topic: &Topic<'a>,
+    pass: &mut Pass<'a>,
+    place: usize,
+    run: &Finished,
+) -> bool
+    requires pass { IsPassFor (record { table = shared.now; subject = topic.now }) pass.old }
+    requires sound { IsSoundAt topic.now place run.now }
+    ensures { IsPassFor (record { table = shared.now; subject = topic.now }) pass.new }
+{
+    let _terms = topic.terms;
+    let reply = shared.try_publish(alloc, pass, place, 0, run);
+    matches!(reply, Ok(Reply::Published))
+}
+
+/// The pass that has run incarnation 0 of the request and published the run, if it did.
+pub fn published<'a>(
     alloc: Global,
     shared: &SharedBlock<'a>,
     topic: &Topic<'a>,
     pass: Pass<'a>,
     place: usize,
-) -> Result<(Pass<'a>, Reply), Refused>
+) -> Option<Pass<'a>>
     requires { IsPassFor (record { table = shared.now; subject = topic.now }) pass }
-    ensures { IfOk result (λ r. IsPassFor (record { table = shared.now; subject = topic.now })
-        r.0) }
+    ensures { IfSome result (IsPassFor (record { table = shared.now; subject = topic.now })) }
 {
     let Some(request) = request_at(topic.block, place) else {
-        return Ok((pass, Reply::Stale));
+        return None;
     };
     let (mut pass, run) = executed(alloc, shared, topic, pass, place, request);
     let Some(run) = run else {
-        return Ok((pass, Reply::Stale));
+        return None;
     };
-    let reply = shared.try_publish(alloc, &mut pass, place, 0, &run)?;
-    Ok((pass, reply))
+    if publishes(alloc, shared, topic, &mut pass, place, &run) {
+        Some(pass)
+    } else {
+        None
+    }
 }

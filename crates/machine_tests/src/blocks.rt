@@ -2,7 +2,7 @@
 ghost use Rattle.std.specs.Prelude.{IsTrue};
 ghost use Rattle.update.specs.Asked.{AreShort, IsShort};
 
-use crate::numbers::{numbered, tell_quads};
+use crate::numbers::{has_quads, numbered};
 use datasets::Id;
 use delta::Outcome;
 use meaning::{Refusal, Reply, Request};
@@ -91,21 +91,18 @@ fn is_come_to(
     let Some(outcome) = outcome(alloc, numbered)? else {
         return Ok(false);
     };
-    let mut text = Vec::new(alloc);
-    tell_quads(
-        alloc,
-        numbered.base.terms(),
-        b'+',
-        &outcome.dataset.quads().quads(alloc)?,
-        &mut text,
-    )?;
-    Ok(outcome.replies.as_slice() == replies && text.as_slice() == quads.as_bytes())
+    Ok(
+        outcome.replies.as_slice() == replies
+            && has_quads(alloc, numbered.base.terms(), &outcome.dataset, quads)?,
+    )
 }
 
 /// Whether a row comes out.
 fn comes_out(alloc: Global, row: &Row) -> Result<bool, Fail> {
     let numbered = numbered(alloc, row.base, row.block)?;
-    Ok(is_come_to(alloc, &numbered, row.replies, row.quads)?)
+    let is_come_to = is_come_to(alloc, &numbered, row.replies, row.quads);
+    drop(numbered);
+    Ok(is_come_to?)
 }
 
 #[test]
@@ -167,10 +164,17 @@ fn is_joined(alloc: Global, numbered: &Numbered) -> Result<bool, AllocError> {
     Ok(replies.len() == 209 && are_as_told(replies) && outcome.dataset.quads().len() == 16)
 }
 
+// The rounds at their numbers.
+fn numbered_rounds(alloc: Global) -> Result<Numbered, Fail> {
+    let block = rounds(alloc)?;
+    numbered(alloc, "", block.as_str())
+}
+
 #[test]
 fn changes_are_joined(rt: HostRuntime) -> Result<(), Fail> {
-    let block = rounds(rt.alloc())?;
-    let numbered = numbered(rt.alloc(), "", block.as_str())?;
-    assert!(rt; is_joined(rt.alloc(), &numbered)?);
+    let numbered = numbered_rounds(rt.alloc())?;
+    let is_joined = is_joined(rt.alloc(), &numbered);
+    drop(numbered);
+    assert!(rt; is_joined?);
     Ok(())
 }

@@ -5,8 +5,8 @@ use crate::lines::Step::{Begin, Check, Commit, GiveUp, Publish, PublishNothing, 
 use crate::lines::Told::{
     Aborted, Begun, Committed, Given, NotYet, NotYours, Passed, Published, Stale, Taken,
 };
-use crate::lines::{Step, Told, told_by};
-use crate::numbers::{numbered, tell_quads};
+use crate::lines::{Step, Told};
+use crate::numbers::{has_quads, numbered};
 use crate::run::play;
 use book::Book;
 use meaning::Reply;
@@ -230,6 +230,20 @@ pub const WALKS: [Walk; 5] = [
     },
 ];
 
+// The book after a line of a walk, whose step is told what it says.
+fn walked_on<'a>(
+    rt: &impl Abort,
+    alloc: Global,
+    book: Book<'a>,
+    line: &(u32, Step, Told),
+) -> Result<Book<'a>, AllocError> {
+    let (worker, step, told) = *line;
+    let (book, found) = play(alloc, book, worker, step)?;
+    let entries = book.journal().len();
+    assert!(rt; found == told, "entry {entries}");
+    Ok(book)
+}
+
 /// The book after a walk, each of whose steps is told what it says.
 pub fn walked<'a>(
     rt: &impl Abort,
@@ -246,57 +260,74 @@ pub fn walked<'a>(
         base,
         numbered.block.as_slice(),
     )?;
-    for (worker, step, told) in lines {
-        let (after, reply) = play(alloc, book, *worker, *step)?;
-        book = after;
-        let entries = book.journal().len();
-        assert!(rt; told_by(&reply) == *told, "entry {entries}");
+    for line in lines {
+        book = walked_on(rt, alloc, book, line)?;
     }
     Ok(book)
 }
 
-// Whether each request that was to be committed has added its quad.
-fn is_come_to(
-    alloc: Global,
-    numbered: &Numbered,
-    book: &Book<'_>,
-    walk: &Walk,
-) -> Result<bool, AllocError> {
-    let outcome = book.outcome(alloc)?;
+// Whether each of so many requests has added its quad.
+fn have_added(replies: &[Reply], count: usize) -> bool {
     let one = Reply::Done {
         added: 1,
         removed: 0,
     };
-    let mut quads = Vec::new(alloc);
-    tell_quads(
-        alloc,
-        numbered.base.terms(),
-        b'+',
-        &outcome.dataset.quads().quads(alloc)?,
-        &mut quads,
-    )?;
-    Ok(
-        outcome.replies.len() == walk.committed
-            && outcome.replies.as_slice().iter().all(|reply| *reply == one)
-            && quads.as_slice() == walk.quads.as_bytes()
-            && book.journal().len().checked_sub(walk.lines.len()) == Some(walk.reads),
-    )
+    let mut so = replies.len() == count;
+    for reply in replies {
+        so = so && *reply == one;
+    }
+    so
+}
+
+// Whether each request that was to be committed has added its quad.
+fn is_come_to(alloc: Global, book: &Book<'_>, walk: &Walk) -> Result<bool, AllocError> {
+    let outcome = book.outcome(alloc)?;
+    let have_added = have_added(outcome.replies.as_slice(), walk.committed);
+    let has_quads = has_quads(alloc, book.terms(), &outcome.dataset, walk.quads);
+    drop(outcome);
+    let reads = book.journal().len().checked_sub(walk.lines.len());
+    Ok(have_added && has_quads? && reads == Some(walk.reads))
 }
 
 // Whether a walk over an empty base comes out.
+fn is_walked<'a>(
+    rt: &impl Abort,
+    alloc: Global,
+    numbered: &'a Numbered,
+    base: &'a IndexedView,
+    walk: &Walk,
+) -> Result<bool, AllocError>
+    requires { IsDataset base.now }
+{
+    let book = walked(rt, alloc, numbered, base, walk.lines)?;
+    let is_come_to = is_come_to(alloc, &book, walk);
+    drop(book);
+    is_come_to
+}
+
+// The same with the block at its numbers.
 fn comes_out(rt: &impl Abort, alloc: Global, base: &IndexedView, walk: &Walk) -> Result<bool, Fail>
     requires { IsDataset base.now }
 {
     let numbered = numbered(alloc, "", walk.block)?;
-    let book = walked(rt, alloc, &numbered, base, walk.lines)?;
-    Ok(is_come_to(alloc, &numbered, &book, walk)?)
+    let is_walked = is_walked(rt, alloc, &numbered, base, walk);
+    drop(numbered);
+    Ok(is_walked?)
+}
+
+fn check_walks(rt: &impl Abort, alloc: Global, base: &IndexedView) -> Result<(), Fail>
+    requires { IsDataset base.now }
+{
+    for walk in &WALKS {
+        assert!(rt; comes_out(rt, alloc, base, walk)?, "{}", walk.block);
+    }
+    Ok(())
 }
 
 #[test]
 fn walks(rt: HostRuntime) -> Result<(), Fail> {
     let base = IndexedView::new(rt.alloc(), View::new(rt.alloc()), &[])?;
-    for walk in &WALKS {
-        assert!(rt; comes_out(&rt, rt.alloc(), &base, walk)?, "{}", walk.block);
-    }
-    Ok(())
+    let checked = check_walks(&rt, rt.alloc(), &base);
+    drop(base);
+    checked
 }

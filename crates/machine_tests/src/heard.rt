@@ -41,36 +41,48 @@ fn has_seen(book: &Book<'_>, lines: &[(u32, Line)], worker: u32) -> bool {
     seen.map(|line| line.1).eq(kept.map(line_of_kept))
 }
 
-// Whether the journal has of each of four workers what the gate saw of it and nothing else, and its outcome is that of the block.
-fn is_whole(alloc: Global, book: &Book<'_>, lines: &[(u32, Line)]) -> Result<bool, AllocError> {
-    let outcome = book.outcome(alloc)?;
-    Ok(
-        book.journal().len() == lines.len()
-            && (0..4u32).all(|worker| has_seen(book, lines, worker))
-            && outcome.replies.len() == 64
-            && outcome.dataset.quads().len() == 2,
-    )
+// Whether the journal has of each of four workers what the gate saw of it and nothing else.
+fn has_all(book: &Book<'_>, lines: &[(u32, Line)]) -> bool {
+    book.journal().len() == lines.len() && (0..4u32).all(|worker| has_seen(book, lines, worker))
 }
 
-// Whether four workers run the block so.
-fn run_four<R: Threads + Wait + Sync>(
+// Whether the outcome of a book is that of the block.
+fn is_outcome(alloc: Global, book: &Book<'_>) -> Result<bool, AllocError> {
+    let outcome = book.outcome(alloc)?;
+    Ok(outcome.replies.len() == 64 && outcome.dataset.quads().len() == 2)
+}
+
+// Whether four workers, watched by a gate, run the block so.
+fn is_run<'a, R: Threads + Wait + Sync>(
     rt: &R,
     alloc: Global,
-    numbered: &Numbered,
+    numbered: &'a Numbered,
+    gate: &Sees<'_, R>,
 ) -> Result<bool, AllocError> {
     let block = numbered.block.as_slice();
     if block.len() > 1000 || !are_short(block) {
         return Ok(false);
     }
+    let (terms, base) = (numbered.base.terms(), numbered.base.dataset());
+    let book = run_book(rt, alloc, terms, base, block, 4, gate)?;
+    let are_seen = has_all(&book, gate.lines.lock(rt).as_slice());
+    let is_outcome = is_outcome(alloc, &book);
+    drop(book);
+    Ok(are_seen && is_outcome?)
+}
+
+// Whether the gate sees all that they do.
+fn run_four<R: Threads + Wait + Sync>(
+    rt: &R,
+    alloc: Global,
+    numbered: &Numbered,
+) -> Result<bool, AllocError> {
     let gate = Sees {
         rt,
         lines: Mutex::new(Vec::new(alloc)),
         is_full: AtomicBool::new(false),
     };
-    let (terms, base) = (numbered.base.terms(), numbered.base.dataset());
-    let book = run_book(rt, alloc, terms, base, block, 4, &gate)?;
-    let lines = gate.lines.into_inner();
-    Ok(!gate.is_full.load(Ordering::SeqCst) && is_whole(alloc, &book, lines.as_slice())?)
+    Ok(is_run(rt, alloc, numbered, &gate)? && !gate.is_full.load(Ordering::SeqCst))
 }
 
 const BLOCK: &str =
@@ -86,10 +98,17 @@ fn long_block(alloc: Global, block: &str) -> Result<String, AllocError> {
     Ok(text)
 }
 
+// That block at its numbers.
+fn long_numbered(alloc: Global) -> Result<Numbered, Fail> {
+    let block = long_block(alloc, BLOCK)?;
+    numbered(alloc, "", block.as_str())
+}
+
 #[test]
 fn four_threads(rt: HostRuntime) -> Result<(), Fail> {
-    let block = long_block(rt.alloc(), BLOCK)?;
-    let numbered = numbered(rt.alloc(), "", block.as_str())?;
-    assert!(rt; run_four(&rt, rt.alloc(), &numbered)?);
+    let numbered = long_numbered(rt.alloc())?;
+    let is_run = run_four(&rt, rt.alloc(), &numbered);
+    drop(numbered);
+    assert!(rt; is_run?);
     Ok(())
 }

@@ -1,15 +1,17 @@
 //! Many events of a worker while it holds a shared book once.
 ghost use Rattle.reads.specs.Reads.{IsDataset};
+ghost use Rattle.shared.specs.Calls.{IsSoundAt};
 ghost use Rattle.shared.specs.Duty.{IsPassFor};
 
-use crate::alone::{executed, publish};
+use crate::alone::{executed, published};
 use crate::lines::{Step, Told, told_by};
 use crate::numbers::{numbered, request_at};
-use crate::sharing::{BLOCK, are_told, last, opened};
+use crate::sharing::{BLOCK, are_told, opened_alone, opened_by_two};
 use crate::topic::Topic;
 use block_machine::Reply;
 use book::count;
 use datasets::{GraphPlace, QuadPattern, Read};
+use delta::Finished;
 use reads::{IndexedView, Scanned, View};
 use shared::{Next, Pass, SharedBlock};
 use std::alloc::{AllocError, Global};
@@ -31,12 +33,41 @@ fn settles<'a, R: Wait>(
     if !are_told(alloc, shared, topic, &mut pass, &take) {
         return Ok(false);
     }
-    match publish(alloc, shared, topic, pass, 0) {
-        Ok((mut pass, Reply::Published)) => {
-            shared.settle(rt, alloc, &mut pass, 0, 0, 1, topic.block.len(), replies)
-        }
-        _ => Ok(false),
+    match published(alloc, shared, topic, pass, 0) {
+        Some(mut pass) => shared.settle(rt, alloc, &mut pass, 0, 0, 1, topic.block.len(), replies),
+        None => Ok(false),
     }
+}
+
+// The reply to the take of the next request, if it was taken.
+fn push_taken(next: Next, replies: &mut Vec<Reply>) -> Result<(), AllocError> {
+    if let Some(reply) = next.taken {
+        replies.push(reply)?;
+    }
+    Ok(())
+}
+
+// Publishes and settles the run of the first request, and takes the next one.
+fn publishes_run<'a, R: Wait>(
+    rt: &R,
+    alloc: Global,
+    shared: &SharedBlock<'a>,
+    topic: &Topic<'a>,
+    mut pass: Pass<'a>,
+    run: Finished,
+    replies: &mut Vec<Reply>,
+) -> Result<bool, AllocError>
+    requires pass { IsPassFor (record { table = shared.now; subject = topic.now }) pass }
+    requires sound { IsSoundAt topic.now 0 run }
+{
+    let until = topic.block.len();
+    let published = shared.publish_settled(
+        rt, alloc, &mut pass, 0, 0, run, 1, until, until, replies,
+    );
+    drop(pass);
+    let (whole, next) = published?;
+    push_taken(next, replies)?;
+    Ok(whole)
 }
 
 // Takes the first request, runs it, publishes and settles its run, and takes the next one.
@@ -57,18 +88,10 @@ fn publishes_settled<'a, R: Wait>(
     let Some(request) = request_at(topic.block, 0) else {
         return Ok(false);
     };
-    let (mut pass, run) = executed(alloc, shared, topic, pass, 0, request);
-    let Some(run) = run else {
-        return Ok(false);
-    };
-    let until = topic.block.len();
-    let (whole, next) = shared.publish_settled(
-        rt, alloc, &mut pass, 0, 0, run, 1, until, until, replies,
-    )?;
-    if let Some(reply) = next.taken {
-        replies.push(reply)?;
+    match executed(alloc, shared, topic, pass, 0, request) {
+        (pass, Some(run)) => publishes_run(rt, alloc, shared, topic, pass, run, replies),
+        _ => Ok(false),
     }
-    Ok(whole)
 }
 
 // What can be done first, with the reply to a take of a request below a place.
@@ -80,9 +103,34 @@ fn first_task<R: Wait>(
 ) -> Result<Next, AllocError>
     requires { IsDataset topic.now.base }
 {
-    let (shared, mut passes) = opened(alloc, topic, 1)?;
-    let mut pass = last(&shared, topic, &mut passes);
-    shared.take_next(rt, alloc, &mut pass, most)
+    let (shared, mut pass) = opened_alone(alloc, topic)?;
+    let next = shared.take_next(rt, alloc, &mut pass, most);
+    drop(pass);
+    drop(shared);
+    next
+}
+
+// Reads all quads and all names for the second request.
+fn reads<'a, R: Wait>(
+    rt: &R,
+    alloc: Global,
+    shared: &SharedBlock<'a>,
+    topic: &Topic<'a>,
+    pass: &mut Pass<'a>,
+    replies: &mut Vec<Reply>,
+) -> Result<bool, AllocError>
+    requires { IsPassFor (record { table = shared.now; subject = topic.now }) pass.old }
+{
+    let all = QuadPattern {
+        subject: None,
+        predicate: None,
+        object: None,
+        graph: GraphPlace::Any,
+    };
+    let reads = [Read::Scan(all), Read::Graphs];
+    let quads = Scanned::new(alloc, topic.base, &reads[0])?;
+    let names = Scanned::new(alloc, topic.base, &reads[1])?;
+    shared.read_all(rt, alloc, pass, 1, 0, &reads, &[quads, names], replies)
 }
 
 // Takes the second request and reads all quads and all names for it.
@@ -100,44 +148,39 @@ fn reads_all<'a, R: Wait>(
     if !are_told(alloc, shared, topic, &mut pass, &take) {
         return Ok(false);
     }
-    let all = QuadPattern {
-        subject: None,
-        predicate: None,
-        object: None,
-        graph: GraphPlace::Any,
-    };
-    let reads = [Read::Scan(all), Read::Graphs];
-    let quads = Scanned::new(alloc, topic.base, &reads[0])?;
-    let names = Scanned::new(alloc, topic.base, &reads[1])?;
-    shared.read_all(rt, alloc, &mut pass, 1, 0, &reads, &[quads, names], replies)
+    reads(rt, alloc, shared, topic, &mut pass, replies)
 }
 
-// The replies to two workers that do so, one after the other.
-fn replies_to_both<'a, R: Wait>(
+// What two workers are told that do so, one after the other.
+fn push_both<'a, R: Wait>(
     rt: &R,
     alloc: Global,
     shared: &SharedBlock<'a>,
     topic: &Topic<'a>,
     first: Pass<'a>,
     second: Pass<'a>,
-) -> Result<Vec<Reply>, AllocError>
+    replies: &mut Vec<Reply>,
+) -> Result<(), AllocError>
     requires first { IsPassFor (record { table = shared.now; subject = topic.now }) first }
     requires second { IsPassFor (record { table = shared.now; subject = topic.now }) second }
 {
-    let mut replies = Vec::new(alloc);
-    settles(rt, alloc, shared, topic, first, &mut replies)?;
-    reads_all(rt, alloc, shared, topic, second, &mut replies)?;
-    Ok(replies)
+    let settled = settles(rt, alloc, shared, topic, first, replies);
+    let read = reads_all(rt, alloc, shared, topic, second, replies);
+    settled?;
+    read?;
+    Ok(())
 }
 
 // The replies to the two workers of a book.
 fn replies_of<R: Wait>(rt: &R, alloc: Global, topic: &Topic<'_>) -> Result<Vec<Reply>, AllocError>
     requires { IsDataset topic.now.base }
 {
-    let (shared, mut passes) = opened(alloc, topic, 2)?;
-    let first = last(&shared, topic, &mut passes);
-    let second = last(&shared, topic, &mut passes);
-    replies_to_both(rt, alloc, &shared, topic, first, second)
+    let (shared, first, second) = opened_by_two(alloc, topic)?;
+    let mut replies = Vec::new(alloc);
+    let pushed = push_both(rt, alloc, &shared, topic, first, second, &mut replies);
+    drop(shared);
+    pushed?;
+    Ok(replies)
 }
 
 // The replies to one worker that publishes and settles in one hold.
@@ -148,10 +191,11 @@ fn replies_to_publication<R: Wait>(
 ) -> Result<Vec<Reply>, AllocError>
     requires { IsDataset topic.now.base }
 {
-    let (shared, mut passes) = opened(alloc, topic, 1)?;
-    let pass = last(&shared, topic, &mut passes);
+    let (shared, pass) = opened_alone(alloc, topic)?;
     let mut replies = Vec::new(alloc);
-    publishes_settled(rt, alloc, &shared, topic, pass, &mut replies)?;
+    let pushed = publishes_settled(rt, alloc, &shared, topic, pass, &mut replies);
+    drop(shared);
+    pushed?;
     Ok(replies)
 }
 
@@ -204,6 +248,35 @@ fn is_published<R: Wait>(rt: &R, alloc: Global, topic: &Topic<'_>) -> Result<boo
     Ok(told.as_slice() == PUBLISHED.as_slice())
 }
 
+// Whether something can be done first, and what is told of the take of a request below a place, where one is taken at once.
+fn first_told<R: Wait>(
+    rt: &R,
+    alloc: Global,
+    topic: &Topic<'_>,
+    most: usize,
+) -> Result<(bool, Option<Told>), AllocError>
+    requires { IsDataset topic.now.base }
+{
+    let next = first_task(rt, alloc, topic, most)?;
+    let told = match &next.taken {
+        Some(reply) => Some(told_by(reply)),
+        None => None,
+    };
+    Ok((next.task.is_some(), told))
+}
+
+// Whether each of these workers is told what it should be.
+fn are_all_told<R: Wait>(rt: &R, alloc: Global, topic: &Topic<'_>) -> Result<bool, AllocError>
+    requires { IsDataset topic.now.base }
+{
+    Ok(
+        are_expected(rt, alloc, topic)?
+            && is_published(rt, alloc, topic)?
+            && first_told(rt, alloc, topic, 0)? == (true, None)
+            && first_told(rt, alloc, topic, 1)?.1 == Some(Told::Taken(0)),
+    )
+}
+
 #[test]
 fn many_events_in_one_hold(rt: HostRuntime) -> Result<(), Fail> {
     let alloc = rt.alloc();
@@ -214,11 +287,9 @@ fn many_events_in_one_hold(rt: HostRuntime) -> Result<(), Fail> {
         base: &base,
         block: &numbered.block,
     };
-    assert!(rt; are_expected(&rt, alloc, &topic)?);
-    assert!(rt; is_published(&rt, alloc, &topic)?);
-    let far = first_task(&rt, alloc, &topic, 0)?;
-    assert!(rt; far.task.is_some() && far.taken.is_none());
-    let near = first_task(&rt, alloc, &topic, 1)?;
-    assert!(rt; matches!(near.taken, Some(Reply::Taken(0))));
+    let are_told = are_all_told(&rt, alloc, &topic);
+    drop(base);
+    drop(numbered);
+    assert!(rt; are_told?);
     Ok(())
 }

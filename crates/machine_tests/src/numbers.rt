@@ -7,6 +7,7 @@ use dict::Dict;
 use meaning::Request;
 use nquads::{BaseFault, read_bytes};
 use numbering::{Numbered, number};
+use reads::{CompactView, View};
 use rules::{Block, split};
 use std::alloc::{AllocError, Global};
 use std::test::Fail;
@@ -114,6 +115,19 @@ pub fn tell_quads(
     Ok(())
 }
 
+/// Whether these are the quads of a dataset, each a line with a sign before it.
+pub fn has_quads(
+    alloc: Global,
+    terms: &Dict,
+    dataset: &CompactView,
+    quads: &str,
+) -> Result<bool, AllocError> {
+    let list = dataset.quads().quads(alloc)?;
+    let mut text = Vec::new(alloc);
+    tell_quads(alloc, terms, b'+', &list, &mut text)?;
+    Ok(text.as_slice() == quads.as_bytes())
+}
+
 // Lines of so many quads in two graphs, from the last subject to the first.
 fn falling(alloc: Global, quads: u32) -> Result<Vec<u8>, AllocError> {
     let mut text = Vec::new(alloc);
@@ -136,29 +150,48 @@ fn by_threads<T: Threads + Sync>(rt: &T, alloc: Global, base: DataSet) -> Result
     Ok(number(&Together::new(rt), alloc, base, split(alloc, MOVED)?)?)
 }
 
-// Whether the two have one dataset, of so many quads, with the same numbers of the same terms.
-fn are_alike(
+// Whether a dataset is the same at other numbers.
+fn is_same_at(alloc: Global, dataset: &View, other: &Numbered) -> Result<bool, AllocError> {
+    let second = other.base.dataset().copied(alloc)?;
+    Ok(dataset.quads().is_same(&second.quads()) && dataset.names() == second.names())
+}
+
+// Whether the two have one dataset, of so many quads.
+fn have_one_dataset(
     alloc: Global,
     one: &Numbered,
     other: &Numbered,
     quads: usize,
 ) -> Result<bool, AllocError> {
     let first = one.base.dataset().copied(alloc)?;
-    let second = other.base.dataset().copied(alloc)?;
+    Ok(first.quads().len() == quads && is_same_at(alloc, &first, other)?)
+}
+
+// Whether the two have that, and the same numbers of the same terms.
+fn are_alike(
+    alloc: Global,
+    one: &Numbered,
+    other: &Numbered,
+    quads: usize,
+) -> Result<bool, AllocError> {
     Ok(
-        first.quads().len() == quads
-            && first.quads().is_same(&second.quads())
-            && first.names() == second.names()
+        have_one_dataset(alloc, one, other, quads)?
             && one.base.terms().terms() == other.base.terms().terms()
             && one.base.tag() == other.base.tag(),
     )
 }
 
-// Whether one thread and several give the same numbers of a base of so many quads.
-fn are_numbered_alike<T: Threads + Sync>(rt: &T, alloc: Global, quads: u32) -> Result<bool, Fail> {
-    let one = by_one(alloc, falling_base(alloc, quads)?)?;
+// Whether several threads give the numbers of a base of so many quads that one gave.
+fn is_numbered_alike<T: Threads + Sync>(
+    rt: &T,
+    alloc: Global,
+    one: &Numbered,
+    quads: u32,
+) -> Result<bool, Fail> {
     let other = by_threads(rt, alloc, falling_base(alloc, quads)?)?;
-    Ok(are_alike(alloc, &one, &other, quads as usize)?)
+    let are_alike = are_alike(alloc, one, &other, quads as usize);
+    drop(other);
+    Ok(are_alike?)
 }
 
 // A base of so many quads.
@@ -171,6 +204,9 @@ const MOVED: &[u8] = b"INSERT { ?s <x:q> 7 } WHERE { GRAPH <x:g0> { ?s <x:p> ?o 
 
 #[test]
 fn numbered_by_threads(rt: HostRuntime) -> Result<(), Fail> {
-    assert!(rt; are_numbered_alike(&rt, rt.alloc(), 12_000)?);
+    let one = by_one(rt.alloc(), falling_base(rt.alloc(), 12_000)?)?;
+    let is_alike = is_numbered_alike(&rt, rt.alloc(), &one, 12_000);
+    drop(one);
+    assert!(rt; is_alike?);
     Ok(())
 }

@@ -1,7 +1,7 @@
 //! Blocks run by a pool whose gate holds workers up until others have got on.
 
 use crate::blocks::are_short;
-use crate::numbers::{numbered, tell_quads};
+use crate::numbers::{has_quads, numbered};
 use block_machine::{Entry, Event, Reply};
 use meaning::Reply as Answer;
 use numbering::Numbered;
@@ -216,46 +216,69 @@ const ROWS: [Row; 3] = [
     },
 ];
 
-// Whether this many workers come to these replies and quads, and the gate does not give in.
+// Whether this many workers, held by a gate, come to these replies and quads.
 fn come_to<R: Threads + Wait + Sync>(
     rt: &R,
     alloc: Global,
     numbered: &Numbered,
     workers: u32,
     row: &Row,
+    gate: &Holds,
 ) -> Result<bool, AllocError> {
     let block = numbered.block.as_slice();
     if workers == 0 || workers > 64 || block.len() > 1000 || !are_short(block) {
         return Ok(false);
     }
-    let gate = Holds::new(row.holds);
     let (terms, base) = (numbered.base.terms(), numbered.base.dataset());
-    let outcome = run_block(rt, alloc, terms, base, block, workers, &gate)?;
-    let mut text = Vec::new(alloc);
-    let quads = outcome.dataset.quads().quads(alloc)?;
-    tell_quads(alloc, terms, b'+', &quads, &mut text)?;
-    Ok(
-        !gate.gave_in.load(Ordering::SeqCst)
-            && outcome.replies.as_slice() == row.replies
-            && text.as_slice() == row.quads.as_bytes(),
-    )
+    let outcome = run_block(rt, alloc, terms, base, block, workers, gate)?;
+    let are_replies = outcome.replies.as_slice() == row.replies;
+    let has_quads = has_quads(alloc, terms, &outcome.dataset, row.quads);
+    drop(outcome);
+    Ok(are_replies && has_quads?)
 }
 
-// Whether the row comes out with each of its numbers of workers.
-fn comes_out<R: Threads + Wait + Sync + AllocGlobal>(rt: &R, row: &Row) -> Result<bool, Fail> {
-    let numbered = numbered(rt.alloc(), row.base, row.block)?;
+// Whether they do, and the gate does not give in.
+fn come_out<R: Threads + Wait + Sync>(
+    rt: &R,
+    alloc: Global,
+    numbered: &Numbered,
+    workers: u32,
+    row: &Row,
+) -> Result<bool, AllocError> {
+    let gate = Holds::new(row.holds);
+    let come_to = come_to(rt, alloc, numbered, workers, row, &gate);
+    let gave_in = gate.gave_in.load(Ordering::SeqCst);
+    drop(gate);
+    Ok(come_to? && !gave_in)
+}
+
+// Whether each of the row's numbers of workers does.
+fn all_come_out<R: Threads + Wait + Sync>(
+    rt: &R,
+    alloc: Global,
+    numbered: &Numbered,
+    row: &Row,
+) -> Result<bool, AllocError> {
     for workers in row.workers {
-        if !come_to(rt, rt.alloc(), &numbered, *workers, row)? {
+        if !come_out(rt, alloc, numbered, *workers, row)? {
             return Ok(false);
         }
     }
     Ok(true)
 }
 
+// Whether the row comes out.
+fn comes_out<R: Threads + Wait + Sync>(rt: &R, alloc: Global, row: &Row) -> Result<bool, Fail> {
+    let numbered = numbered(alloc, row.base, row.block)?;
+    let come_out = all_come_out(rt, alloc, &numbered, row);
+    drop(numbered);
+    Ok(come_out?)
+}
+
 #[test]
 fn workers_overlap(rt: HostRuntime) -> Result<(), Fail> {
     for row in &ROWS {
-        assert!(rt; comes_out(&rt, row)?, "{}", row.block);
+        assert!(rt; comes_out(&rt, rt.alloc(), row)?, "{}", row.block);
     }
     Ok(())
 }
@@ -301,6 +324,6 @@ const TOGETHER: Row = Row {
 
 #[test]
 fn eight_together(rt: HostRuntime) -> Result<(), Fail> {
-    assert!(rt; comes_out(&rt, &TOGETHER)?);
+    assert!(rt; comes_out(&rt, rt.alloc(), &TOGETHER)?);
     Ok(())
 }

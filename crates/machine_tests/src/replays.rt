@@ -16,29 +16,30 @@ use std::alloc::{AllocError, Global};
 use std::process::Abort;
 use std::test::Fail;
 
-// The text of a book's journal.
-fn text_of(alloc: Global, book: &Book<'_>) -> Result<Vec<u8>, AllocError> {
+// Whether the journal of a book has this text.
+fn has_text(alloc: Global, book: &Book<'_>, journal: &str) -> Result<bool, AllocError> {
     let lines = lines_of(alloc, book)?;
-    write_lines(alloc, lines.as_slice(), 1)
+    Ok(write_lines(alloc, lines.as_slice(), 1)?.as_slice() == journal.as_bytes())
 }
 
-// The text of the journal of the book that lines are replayed to, where the block has at most a thousand requests.
-fn replayed_text(
+// Whether lines are replayed to a book whose journal has this text, where the block has at most a thousand requests.
+fn are_replayed<'a>(
     alloc: Global,
-    numbered: &Numbered,
-    base: &IndexedView,
+    numbered: &'a Numbered,
+    base: &'a IndexedView,
     lines: &[Line],
-) -> Result<Option<Vec<u8>>, JournalFault>
+    journal: &str,
+) -> Result<bool, JournalFault>
     requires { IsDataset base.now }
 {
     let block = numbered.block.as_slice();
     if block.len() > 1000 || !are_short(block) {
-        return Ok(None);
+        return Ok(false);
     }
     let book = replay(alloc, numbered.base.terms(), base, block, lines)?;
-    let text = text_of(alloc, &book);
+    let has_text = has_text(alloc, &book, journal);
     drop(book);
-    Ok(Some(text?))
+    Ok(has_text?)
 }
 
 // Whether the journal of a book has this text, and is replayed to a book whose journal has it too.
@@ -51,31 +52,54 @@ fn is_replayed(
 ) -> Result<bool, JournalFault>
     requires { IsDataset base.now }
 {
+    if !has_text(alloc, book, journal)? {
+        return Ok(false);
+    }
     let lines = lines_of(alloc, book)?;
-    let again = replayed_text(alloc, numbered, base, lines.as_slice())?;
-    drop(lines);
-    let text = text_of(alloc, book)?;
-    Ok(text.as_slice() == journal.as_bytes() && again == Some(text))
+    are_replayed(alloc, numbered, base, lines.as_slice(), journal)
 }
 
-// Whether the journal of a walk over an empty base has its text, and is replayed to a book whose journal has it too.
+// Whether the journal of a walk has its text, and is replayed to a book whose journal has it too.
+fn is_walk_replayed<'a>(
+    rt: &impl Abort,
+    alloc: Global,
+    numbered: &'a Numbered,
+    base: &'a IndexedView,
+    walk: &Walk,
+) -> Result<bool, JournalFault>
+    requires { IsDataset base.now }
+{
+    let book = walked(rt, alloc, numbered, base, walk.lines)?;
+    let is_replayed = is_replayed(alloc, numbered, base, &book, walk.journal);
+    drop(book);
+    is_replayed
+}
+
+// The same of a walk over an empty base.
 fn replays(rt: &impl Abort, alloc: Global, base: &IndexedView, walk: &Walk) -> Result<bool, Fail>
     requires { IsDataset base.now }
 {
     let numbered = numbered(alloc, "", walk.block)?;
-    let book = walked(rt, alloc, &numbered, base, walk.lines)?;
-    let is_replayed = is_replayed(alloc, &numbered, base, &book, walk.journal);
-    drop(book);
+    let is_replayed = is_walk_replayed(rt, alloc, &numbered, base, walk);
+    drop(numbered);
     Ok(is_replayed?)
+}
+
+fn check_replays(rt: &impl Abort, alloc: Global, base: &IndexedView) -> Result<(), Fail>
+    requires { IsDataset base.now }
+{
+    for walk in &WALKS {
+        assert!(rt; replays(rt, alloc, base, walk)?, "{}", walk.block);
+    }
+    Ok(())
 }
 
 #[test]
 fn walks_replay(rt: HostRuntime) -> Result<(), Fail> {
     let base = IndexedView::new(rt.alloc(), View::new(rt.alloc()), &[])?;
-    for walk in &WALKS {
-        assert!(rt; replays(&rt, rt.alloc(), &base, walk)?, "{}", walk.block);
-    }
-    Ok(())
+    let checked = check_replays(&rt, rt.alloc(), &base);
+    drop(base);
+    checked
 }
 
 /// A check of a request's first run behind some steps over an empty base, whether it is wanted to pass, and what it is told.
@@ -236,26 +260,45 @@ const CHOICES: [Choice; 11] = [
 ];
 
 // What the check of a choice is told.
-fn told(rt: &impl Abort, alloc: Global, base: &IndexedView, choice: &Choice) -> Result<Told, Fail>
+fn told_of<'a>(
+    rt: &impl Abort,
+    alloc: Global,
+    numbered: &'a Numbered,
+    base: &'a IndexedView,
+    choice: &Choice,
+) -> Result<Told, AllocError>
     requires { IsDataset base.now }
 {
-    let numbered = numbered(alloc, "", choice.block)?;
-    let mut book = walked(rt, alloc, &numbered, base, choice.lines)?;
+    let mut book = walked(rt, alloc, numbered, base, choice.lines)?;
     let reply = book.check_as(alloc, 2, choice.place, 0, choice.passed);
     drop(book);
     Ok(told_by(&reply?))
 }
 
+// The same with the block at its numbers.
+fn told(rt: &impl Abort, alloc: Global, base: &IndexedView, choice: &Choice) -> Result<Told, Fail>
+    requires { IsDataset base.now }
+{
+    let numbered = numbered(alloc, "", choice.block)?;
+    let told = told_of(rt, alloc, &numbered, base, choice);
+    drop(numbered);
+    Ok(told?)
+}
+
+fn check_choices(rt: &impl Abort, alloc: Global, base: &IndexedView) -> Result<(), Fail>
+    requires { IsDataset base.now }
+{
+    for choice in &CHOICES {
+        let told = told(rt, alloc, base, choice)?;
+        assert!(rt; told == choice.told, "{}: {}", choice.block, choice.passed);
+    }
+    Ok(())
+}
+
 #[test]
 fn chosen_checks(rt: HostRuntime) -> Result<(), Fail> {
     let base = IndexedView::new(rt.alloc(), View::new(rt.alloc()), &[])?;
-    for choice in &CHOICES {
-        assert!(rt;
-            told(&rt, rt.alloc(), &base, choice)? == choice.told,
-            "{}: {}",
-            choice.block,
-            choice.passed
-        );
-    }
-    Ok(())
+    let checked = check_choices(&rt, rt.alloc(), &base);
+    drop(base);
+    checked
 }

@@ -277,53 +277,69 @@ const ROWS: [Row; 16] = [
 const MANY: &str = "INSERT DATA { <x:b> <x:p> <x:c> } ; \
     DELETE { ?s <x:p> ?o } INSERT { ?s <x:q> ?o ; <x:q> _:l } WHERE { ?s <x:p> ?o }";
 
-fn is_told(run: &Finished, reply: &Reply, reads: usize) -> bool {
-    run.reply == *reply && run.transcript.len() == reads
+// Whether a run has the reply, as many reads and the delta of a row.
+fn is_told(alloc: Global, terms: &Dict, run: &Finished, row: &Row) -> Result<bool, AllocError> {
+    Ok(
+        run.reply == row.reply
+            && run.transcript.len() == row.reads
+            && told(alloc, terms, &run.delta)?.as_slice() == row.delta.as_bytes(),
+    )
+}
+
+// Whether the run of a row's request over its base comes to what the row says.
+fn is_run(alloc: Global, numbered: &Numbered, row: &Row) -> Result<bool, Stop> {
+    let terms = numbered.base.terms();
+    let run = run(alloc, terms, numbered.block.as_slice(), &mut &numbered.base)?;
+    let is_told = is_told(alloc, terms, &run, row);
+    drop(run);
+    Ok(is_told?)
+}
+
+fn comes_out(alloc: Global, row: &Row) -> Result<bool, Fail> {
+    let numbered = numbered(alloc, row.base, row.request)?;
+    let is_run = is_run(alloc, &numbered, row);
+    drop(numbered);
+    Ok(is_run?)
 }
 
 #[test]
 fn over_a_base(rt: HostRuntime) -> Result<(), Fail> {
-    let alloc = rt.alloc();
     for row in &ROWS {
-        let Numbered { base, block } = numbered(alloc, row.base, row.request)?;
-        let run = run(alloc, base.terms(), &block, &mut &base)?;
-        assert!(rt; is_told(&run, &row.reply, row.reads), "{}", row.request);
-        let delta = told(alloc, base.terms(), &run.delta)?;
-        assert!(rt; delta.as_slice() == row.delta.as_bytes(), "{}", row.request);
+        assert!(rt; comes_out(rt.alloc(), row)?, "{}", row.request);
     }
     Ok(())
 }
 
-// What the run of the only request comes to where the source answers so many reads, and each of them wrongly.
-fn run_on_lies(alloc: Global, numbered: &Numbered, left: usize) -> Result<Finished, Stop> {
+// What the run of the only request is told where the source answers so many reads, and each of them wrongly; and how many reads it made.
+fn told_on_lies(alloc: Global, numbered: &Numbered, left: usize) -> Result<(Reply, usize), Stop> {
     let mut liar = Liar { alloc, left };
-    run(
-        alloc,
-        numbered.base.terms(),
-        numbered.block.as_slice(),
-        &mut liar,
-    )
+    let terms = numbered.base.terms();
+    let run = run(alloc, terms, numbered.block.as_slice(), &mut liar)?;
+    Ok((run.reply, run.transcript.len()))
 }
+
+const TWO: Reply = Reply::Done {
+    added: 2,
+    removed: 0,
+};
 
 #[test]
 fn answers_of_the_wrong_kind(rt: HostRuntime) -> Result<(), Fail> {
     let many = numbered(rt.alloc(), BASE, MANY)?;
-    let through = run_on_lies(rt.alloc(), &many, 100);
-    assert!(rt;
-        matches!(&through, Ok(run) if is_told(run, &Reply::Done { added: 2, removed: 0 }, 3))
-    );
-    let stopped = run_on_lies(rt.alloc(), &many, 2);
-    assert!(rt; matches!(&stopped, Err(Stop::Blocked(3))));
+    let through = told_on_lies(rt.alloc(), &many, 100);
+    let stopped = told_on_lies(rt.alloc(), &many, 2);
+    drop(many);
+    assert!(rt; through == Ok((TWO, 3)));
+    assert!(rt; stopped == Err(Stop::Blocked(3)));
     Ok(())
 }
 
 #[test]
 fn refused_requests_ask_nothing(rt: HostRuntime) -> Result<(), Fail> {
     let none = numbered(rt.alloc(), BASE, "INSERT")?;
-    let refused = run_on_lies(rt.alloc(), &none, 0);
-    assert!(rt;
-        matches!(&refused, Ok(run) if run.reply == Reply::Refused(Refusal::Syntax) && run.transcript.is_empty())
-    );
+    let refused = told_on_lies(rt.alloc(), &none, 0);
+    drop(none);
+    assert!(rt; refused == Ok((Reply::Refused(Refusal::Syntax), 0)));
     Ok(())
 }
 
@@ -335,20 +351,27 @@ fn asked_of_liar(alloc: Global, reads: &[Read<Id>]) -> (Result<(), Stop>, Vec<No
     (asked, notes)
 }
 
+const GRAPH: Read<Id> = Read::GraphIs(Id::Known(3));
+
+// Whether two reads are noted in order.
+fn are_in_order(alloc: Global) -> bool {
+    let (asked, notes) = asked_of_liar(alloc, &[Read::Graphs, GRAPH]);
+    asked == Ok(())
+        && matches!(notes.as_slice(), [first, second] if first.read == Read::Graphs && second.read == GRAPH)
+}
+
+// Whether the third of three reads is not answered, and the two before it are noted with no quads.
+fn are_two_noted(alloc: Global) -> bool {
+    let (asked, notes) = asked_of_liar(alloc, &[GRAPH, Read::Graphs, GRAPH]);
+    asked == Err(Stop::Blocked(3))
+        && notes.len() == 2
+        && notes.as_slice().iter().all(
+            |note| matches!(note.answer.quads(), Some(quads) if quads.is_empty()),
+        )
+}
+
 #[test]
-fn many_reads_are_noted_in_order(rt: HostRuntime) -> Result<(), Fail> {
-    let graph = Read::GraphIs(Id::Known(3));
-    let (asked, notes) = asked_of_liar(rt.alloc(), &[Read::Graphs, graph]);
-    assert!(rt; asked == Ok(()));
-    assert!(rt;
-        matches!(notes.as_slice(), [first, second] if first.read == Read::Graphs && second.read == graph)
-    );
-    let (asked, notes) = asked_of_liar(rt.alloc(), &[graph, Read::Graphs, graph]);
-    assert!(rt; asked == Err(Stop::Blocked(3)));
-    assert!(rt;
-        notes.as_slice().iter().all(
-            |note| matches!(note.answer.quads(), Some(quads) if quads.is_empty())
-        ) && notes.len() == 2
-    );
-    Ok(())
+fn many_reads_are_noted_in_order(rt: HostRuntime) {
+    assert!(rt; are_in_order(rt.alloc()));
+    assert!(rt; are_two_noted(rt.alloc()));
 }

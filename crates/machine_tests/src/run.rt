@@ -3,7 +3,7 @@ ghost use Rattle.std.specs.Prelude.{◌≡◌, ◌<◌, Some, slice_get, IfSome}
 ghost use Rattle.update.specs.Asked.{IsShort};
 ghost use Rattle.book.specs.Run.{IsSoundEvent, Run};
 
-use crate::lines::Step;
+use crate::lines::{Step, Told, told_by};
 use crate::numbers::request_at;
 use block_machine::{Event, Reply};
 use book::Book;
@@ -93,30 +93,50 @@ fn executed<'a>(
     }
 }
 
-// Publishes the run of a turn.
-fn publish_run(
+// What is told of an event of a book.
+fn told_of(
     alloc: Global,
     book: &mut Book<'_>,
-    turn: Turn,
-    run: Finished,
-) -> Result<Reply, AllocError>
-    requires { IsSoundEvent book.old (Event.Publish turn.place turn.incarnation (Some run)) }
+    worker: u32,
+    event: Event,
+) -> Result<Told, AllocError>
+    requires { IsSoundEvent book.old event }
 {
-    let event = Event::Publish(turn.place, turn.incarnation, Some(run));
-    book.step_owned(alloc, turn.worker, event)
+    let reply = book.step_owned(alloc, worker, event)?;
+    Ok(told_by(&reply))
+}
+
+// A book after an event, and what is told of it.
+fn play_event<'a>(
+    alloc: Global,
+    mut book: Book<'a>,
+    worker: u32,
+    event: Event,
+) -> Result<(Book<'a>, Told), AllocError>
+    requires { IsSoundEvent book event }
+{
+    match told_of(alloc, &mut book, worker, event) {
+        Ok(told) => Ok((book, told)),
+        Err(error) => {
+            drop(book);
+            Err(error)
+        }
+    }
 }
 
 // Runs the request of a turn and publishes the run.
-fn publish<'a>(alloc: Global, book: Book<'a>, turn: Turn) -> Result<(Book<'a>, Reply), AllocError> {
+fn publish<'a>(alloc: Global, book: Book<'a>, turn: Turn) -> Result<(Book<'a>, Told), AllocError> {
     let Some(request) = request_at(book.block(), turn.place) else {
-        return Ok((book, Reply::Stale));
+        return Ok((book, Told::Stale));
     };
-    let (mut book, run) = executed(alloc, book, turn, request);
-    let Some(run) = run else {
-        return Ok((book, Reply::Stale));
-    };
-    let reply = publish_run(alloc, &mut book, turn, run);
-    Ok((book, reply?))
+    let (book, run) = executed(alloc, book, turn, request);
+    match run {
+        Some(run) => {
+            let event = Event::Publish(turn.place, turn.incarnation, Some(run));
+            play_event(alloc, book, turn.worker, event)
+        }
+        None => Ok((book, Told::Stale)),
+    }
 }
 
 // The event of a step that publishes no run and reads nothing.
@@ -134,13 +154,13 @@ fn event_of(step: Step) -> Option<Event>
     }
 }
 
-/// A worker's step.
+/// A worker's step, and what it is told.
 pub fn play<'a>(
     alloc: Global,
-    mut book: Book<'a>,
+    book: Book<'a>,
     worker: u32,
     step: Step,
-) -> Result<(Book<'a>, Reply), AllocError> {
+) -> Result<(Book<'a>, Told), AllocError> {
     if let Step::Publish(place, incarnation) = step {
         let turn = Turn {
             worker,
@@ -149,9 +169,8 @@ pub fn play<'a>(
         };
         return publish(alloc, book, turn);
     }
-    let Some(event) = event_of(step) else {
-        return Ok((book, Reply::Stale));
-    };
-    let told = book.step(alloc, worker, &event);
-    Ok((book, told?))
+    match event_of(step) {
+        Some(event) => play_event(alloc, book, worker, event),
+        None => Ok((book, Told::Stale)),
+    }
 }

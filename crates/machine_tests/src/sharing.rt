@@ -3,7 +3,7 @@ ghost use Rattle.std.specs.Prelude.{◌≡◌, ◌+◌, ◌<◌, ◌≤◌, vec_
 ghost use Rattle.reads.specs.Reads.{IsDataset};
 ghost use Rattle.shared.specs.Duty.{IsPassFor};
 
-use crate::alone::publish;
+use crate::alone::published;
 use crate::lines::{Step, Told, told_by};
 use crate::numbers::numbered;
 use crate::topic::Topic;
@@ -14,8 +14,8 @@ use std::alloc::{AllocError, Global};
 use std::sync::Wait;
 use std::test::Fail;
 
-/// A shared book with this many passes.
-pub fn opened<'a>(
+// A shared book with this many passes.
+fn opened<'a>(
     alloc: Global,
     topic: &Topic<'a>,
     seats: u32,
@@ -29,8 +29,8 @@ pub fn opened<'a>(
     SharedBlock::new(alloc, topic.terms, topic.base, topic.block, seats)
 }
 
-/// The last of the passes.
-pub fn last<'a>(shared: &SharedBlock<'a>, topic: &Topic<'a>, passes: &mut Vec<Pass<'a>>) -> Pass<'a>
+// The last of the passes.
+fn last<'a>(shared: &SharedBlock<'a>, topic: &Topic<'a>, passes: &mut Vec<Pass<'a>>) -> Pass<'a>
     requires some { 0 < vec_len passes.old }
     requires each { All (IsPassFor (record { table = shared.now; subject = topic.now }))
         passes.old.items }
@@ -40,6 +40,34 @@ pub fn last<'a>(shared: &SharedBlock<'a>, topic: &Topic<'a>, passes: &mut Vec<Pa
     ensures count { vec_len passes.new + 1 ≡ vec_len passes.old }
 {
     passes.pop().unwrap()
+}
+
+/// A shared book and its only pass.
+pub fn opened_alone<'a>(
+    alloc: Global,
+    topic: &Topic<'a>,
+) -> Result<(SharedBlock<'a>, Pass<'a>), AllocError>
+    requires { IsDataset topic.now.base }
+    ensures { IfOk result (λ r. IsPassFor (record { table = r.0; subject = topic.now }) r.1) }
+{
+    let (shared, mut passes) = opened(alloc, topic, 1)?;
+    let pass = last(&shared, topic, &mut passes);
+    Ok((shared, pass))
+}
+
+/// A shared book and its two passes.
+pub fn opened_by_two<'a>(
+    alloc: Global,
+    topic: &Topic<'a>,
+) -> Result<(SharedBlock<'a>, Pass<'a>, Pass<'a>), AllocError>
+    requires { IsDataset topic.now.base }
+    ensures first { IfOk result (λ r. IsPassFor (record { table = r.0; subject = topic.now }) r.1) }
+    ensures second { IfOk result (λ r. IsPassFor (record { table = r.0; subject = topic.now }) r.2) }
+{
+    let (shared, mut passes) = opened(alloc, topic, 2)?;
+    let second = last(&shared, topic, &mut passes);
+    let first = last(&shared, topic, &mut passes);
+    Ok((shared, first, second))
 }
 
 // What a call that never waits is told, or nothing where it made no event.
@@ -109,9 +137,9 @@ fn goes_through<'a>(
     if !are_told(alloc, shared, topic, &mut pass, &take) {
         return false;
     }
-    match publish(alloc, shared, topic, pass, 0) {
-        Ok((mut pass, Reply::Published)) => are_told(alloc, shared, topic, &mut pass, &AFTER),
-        _ => false,
+    match published(alloc, shared, topic, pass, 0) {
+        Some(mut pass) => are_told(alloc, shared, topic, &mut pass, &AFTER),
+        None => false,
     }
 }
 
@@ -123,13 +151,12 @@ fn front_of_others<'a, R: Wait>(
 ) -> Result<Option<usize>, AllocError>
     requires { IsDataset topic.now.base }
 {
-    let (shared, mut passes) = opened(alloc, topic, 2)?;
-    let second = last(&shared, topic, &mut passes);
-    let mut first = last(&shared, topic, &mut passes);
-    if !goes_through(alloc, &shared, topic, second) {
-        return Ok(None);
-    }
-    Ok(Some(shared.front(rt, &mut first)))
+    let (shared, mut first, second) = opened_by_two(alloc, topic)?;
+    let went = goes_through(alloc, &shared, topic, second);
+    let front = shared.front(rt, &mut first);
+    drop(first);
+    drop(shared);
+    Ok(went.then_some(front))
 }
 
 /// A block of two requests.
@@ -146,6 +173,9 @@ fn calls_that_never_wait(rt: HostRuntime) -> Result<(), Fail> {
         base: &base,
         block: &numbered.block,
     };
-    assert_eq!(rt; front_of_others(&rt, alloc, &topic)?, Some(1));
+    let front = front_of_others(&rt, alloc, &topic);
+    drop(base);
+    drop(numbered);
+    assert!(rt; front? == Some(1));
     Ok(())
 }
