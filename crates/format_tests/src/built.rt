@@ -79,15 +79,25 @@ fn add(dataset: &mut DataSet, alloc: Global, label: u32) -> Result<(), Fail> {
     Ok(dataset.add(quad)?)
 }
 
-/// A dataset that is built of so many quads, of which the first comes twice, and of an empty graph.
-fn built(alloc: Global, count: u32) -> Result<DataSet, AllocError> {
-    let mut builder = DatasetBuilder::new(alloc);
+/// Puts in so many quads, of which the first comes twice, and an empty graph.
+fn fill(builder: &mut DatasetBuilder<'_>, alloc: Global, count: u32) -> Result<(), AllocError> {
     for label in 0..count {
-        add_lent(&mut builder, alloc, label)?;
+        add_lent(builder, alloc, label)?;
     }
     builder.declare(lent(alloc, "x:e")?)?;
-    add_lent(&mut builder, alloc, 0)?;
-    builder.into_dataset()
+    add_lent(builder, alloc, 0)
+}
+
+/// A dataset that is built of these.
+fn built(alloc: Global, count: u32) -> Result<DataSet, AllocError> {
+    let mut builder = DatasetBuilder::new(alloc);
+    match fill(&mut builder, alloc, count) {
+        Ok(()) => builder.into_dataset(),
+        Err(error) => {
+            drop(builder);
+            Err(error)
+        }
+    }
 }
 
 /// The same dataset, put in quad after quad.

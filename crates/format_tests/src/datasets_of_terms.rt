@@ -2,7 +2,7 @@
 use crate::made::{iri, is_iri};
 use datasets::Quad;
 use iris::Iri;
-use nquads::read_bytes;
+use nquads::{BaseFault, read_bytes};
 use std::alloc::{AllocError, Global};
 use std::test::Fail;
 use terms::{Blank, DataSet, Literal, Term, TermTable, canonical, term_text};
@@ -243,14 +243,28 @@ const FIRST: Term = Term::Made {
     rank: 4,
 };
 
-/// The object that a statement of this spelling has.
-fn object_of(alloc: Global, object: &str) -> Result<Term, Fail> {
-    let text = format!(in alloc; "<x:b> <x:p> {object} .")?;
-    let dataset = read_bytes(alloc, text.as_bytes())?;
+/// The object of the first statement of a dataset.
+fn first_object(alloc: Global, dataset: &DataSet) -> Result<Term, Fail> {
     let parts = dataset.parts();
     let quad = parts.quads.first().ok_or("no statement")?;
     let term = parts.terms.get(quad.object as usize).ok_or("no object")?;
     Ok(term.copied(alloc)?)
+}
+
+/// A dataset of one statement with this object.
+fn stated(alloc: Global, object: &str) -> Result<DataSet, BaseFault> {
+    let text = format!(in alloc; "<x:b> <x:p> {object} .")?;
+    let dataset = read_bytes(alloc, text.as_bytes());
+    drop(text);
+    dataset
+}
+
+/// The object that a statement of this spelling has.
+fn object_of(alloc: Global, object: &str) -> Result<Term, Fail> {
+    let dataset = stated(alloc, object)?;
+    let object = first_object(alloc, &dataset);
+    drop(dataset);
+    object
 }
 
 /// Whether an object stands before another.

@@ -163,13 +163,23 @@ fn bad_lines_by_threads(rt: HostRuntime) -> Result<(), BaseFault> {
     check_bad(&rt, rt.alloc(), &BAD_PIECES)
 }
 
+// A line of a quad.
+fn push_line(
+    alloc: Global,
+    text: &mut Vec<u8>,
+    subject: u32,
+    number: u32,
+) -> Result<(), AllocError> {
+    let line = format!(in alloc; "<x:{subject}> <x:p> \"{number}\" .\n")?;
+    text.extend_from_slice(line.as_bytes())
+}
+
 // Lines of so many quads, of which each has another subject, from the last to the first.
 fn falling(alloc: Global, quads: u32) -> Result<Vec<u8>, AllocError> {
     let mut text = Vec::new(alloc);
     for number in 0..quads {
         let subject = quads.saturating_sub(number).saturating_add(100_000);
-        let line = format!(in alloc; "<x:{subject}> <x:p> \"{number}\" .\n")?;
-        text.extend_from_slice(line.as_bytes())?;
+        push_line(alloc, &mut text, subject, number)?;
     }
     Ok(text)
 }

@@ -4,6 +4,7 @@ use crate::texts::TEXTS;
 use meaning::Refusal;
 use rules::{Block, BlockFault, Checked, split, split_by};
 use std::alloc::{AllocError, Global};
+use std::thread::Threads;
 
 /// How many threads check a block.
 const THREADS: [usize; 5] = [0, 1, 2, 3, 8];
@@ -42,44 +43,64 @@ fn are_same(alloc: Global, one: &Block, other: &Block) -> Result<bool, AllocErro
     )
 }
 
+/// Whether so many threads check a block as one does.
+fn is_split_alike<T: Threads + Sync>(
+    rt: &T,
+    alloc: Global,
+    text: &str,
+    by_one: &Block,
+    threads: usize,
+) -> Result<bool, BlockFault> {
+    let by_threads = split_by(rt, alloc, text.as_bytes(), threads)?;
+    let are_same = are_same(alloc, by_one, &by_threads);
+    drop(by_threads);
+    Ok(are_same?)
+}
+
+/// Whether a block that one thread checks has so many requests, and threads check it alike.
+fn are_split_alike<T: Threads + Sync>(
+    rt: &T,
+    alloc: Global,
+    text: &str,
+    count: usize,
+) -> Result<bool, BlockFault> {
+    let by_one = split(alloc, text.as_bytes())?;
+    let mut so = by_one.len() == count;
+    for threads in &THREADS {
+        so = so && is_split_alike(rt, alloc, text, &by_one, *threads)?;
+    }
+    Ok(so)
+}
+
 #[test]
 fn blocks_by_threads(rt: HostRuntime) -> Result<(), BlockFault> {
-    let alloc = rt.alloc();
     for (times, count) in [(0, 0), (1, TEXTS.len() + 1), (30, TEXTS.len() * 30 + 1)] {
-        let text = block_of(alloc, times)?;
-        let by_one = split(alloc, text.as_bytes())?;
-        assert!(rt; by_one.len() == count, "{times}");
-        for threads in &THREADS {
-            let by_threads = split_by(&rt, alloc, text.as_bytes(), *threads)?;
-            assert!(rt;
-                are_same(alloc, &by_one, &by_threads)?,
-                "{times} by {threads}"
-            );
-        }
+        let text = block_of(rt.alloc(), times)?;
+        assert!(rt;
+            are_split_alike(&rt, rt.alloc(), text.as_str(), count)?,
+            "{times}"
+        );
     }
     Ok(())
 }
 
-#[test]
-fn faults_by_threads(rt: HostRuntime) -> Result<(), BlockFault> {
-    let alloc = rt.alloc();
+/// A block of more requests than there may be.
+fn too_many(alloc: Global) -> Result<String, AllocError> {
     let mut many = String::new(alloc);
     for _ in 0..4096 {
         many.push_str("----\n")?;
     }
+    Ok(many)
+}
+
+#[test]
+fn faults_by_threads(rt: HostRuntime) -> Result<(), BlockFault> {
+    let many = too_many(rt.alloc())?;
     for threads in &THREADS {
-        assert!(rt;
-            matches!(
-                split_by(&rt, alloc, &[255], *threads),
-                Err(BlockFault::BadUtf8)
-            )
-        );
-        assert!(rt;
-            matches!(
-                split_by(&rt, alloc, many.as_bytes(), *threads),
-                Err(BlockFault::TooManyRequests)
-            )
-        );
+        let outcome = split_by(&rt, rt.alloc(), &[255], *threads);
+        assert!(rt; matches!(outcome, Err(BlockFault::BadUtf8)));
+        let outcome = split_by(&rt, rt.alloc(), many.as_bytes(), *threads);
+        assert!(rt; matches!(outcome, Err(BlockFault::TooManyRequests)));
     }
     Ok(())
 }

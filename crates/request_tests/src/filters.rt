@@ -161,6 +161,14 @@ fn constant(alloc: Global, dict: &Dict, written: Written) -> Result<Expression<I
     Ok(Expression::Constant(found.unwrap_or(Id::Known(u32::MAX))))
 }
 
+fn boxed_constant(
+    alloc: Global,
+    dict: &Dict,
+    written: Written,
+) -> Result<Box<Expression<Id>>, BlockFault> {
+    Ok(Box::new(alloc, constant(alloc, dict, written)?)?)
+}
+
 /// An operator on an expression and a constant.
 fn applied(
     alloc: Global,
@@ -170,11 +178,23 @@ fn applied(
     right: Written,
 ) -> Result<Expression<Id>, BlockFault> {
     let left = Box::new(alloc, left)?;
-    let right = Box::new(alloc, constant(alloc, dict, right)?)?;
+    let right = boxed_constant(alloc, dict, right)?;
     Ok(Expression::Two(operator, left, right))
 }
 
-/// What that says, where no variable is bound: the effective value.
+/// The effective value of an expression, where no variable is bound.
+fn effect(
+    alloc: Global,
+    dict: &Dict,
+    expression: &Expression<Id>,
+) -> Result<Option<bool>, BlockFault> {
+    let mapping = Mapping::empty(alloc, 1)?;
+    let value = value(alloc, dict, expression, &mapping);
+    drop(mapping);
+    Ok(effective(&value?))
+}
+
+/// What an operator on an expression and a constant says: the effective value.
 fn compared(
     alloc: Global,
     dict: &Dict,
@@ -183,8 +203,21 @@ fn compared(
     right: Written,
 ) -> Result<Option<bool>, BlockFault> {
     let whole = applied(alloc, dict, operator, left, right)?;
-    let mapping = Mapping::empty(alloc, 1)?;
-    Ok(effective(&value(alloc, dict, &whole, &mapping)?))
+    let effect = effect(alloc, dict, &whole);
+    drop(whole);
+    effect
+}
+
+/// What an operator says of two constants of a dictionary.
+fn compared_at(
+    alloc: Global,
+    dict: &Dict,
+    operator: TwoOperator,
+    left: Written,
+    right: Written,
+) -> Result<Option<bool>, BlockFault> {
+    let left = constant(alloc, dict, left)?;
+    compared(alloc, dict, operator, left, right)
 }
 
 /// What an operator says of two constants.
@@ -195,8 +228,9 @@ fn compared_constants(
     right: Written,
 ) -> Result<Option<bool>, BlockFault> {
     let dict = dictionary(alloc, &[left, right])?;
-    let left = constant(alloc, &dict, left)?;
-    compared(alloc, &dict, operator, left, right)
+    let compared = compared_at(alloc, &dict, operator, left, right);
+    drop(dict);
+    compared
 }
 
 fn check_operators(rt: &impl Abort, alloc: Global, rows: &[Two]) -> Result<(), BlockFault> {
@@ -245,6 +279,18 @@ fn function(
     one(alloc, operator, inner)
 }
 
+/// Whether a function of a constant of a dictionary is this term, if it is any.
+fn is_same_at(
+    alloc: Global,
+    dict: &Dict,
+    operator: OneOperator,
+    inner: Written,
+    term: Written,
+) -> Result<Option<bool>, BlockFault> {
+    let found = function(alloc, dict, operator, inner)?;
+    compared(alloc, dict, TwoOperator::SameTerm, found, term)
+}
+
 /// Whether a function of a constant is this term, if it is any.
 fn is_same(
     alloc: Global,
@@ -253,8 +299,9 @@ fn is_same(
     term: Written,
 ) -> Result<Option<bool>, BlockFault> {
     let dict = dictionary(alloc, &[inner, term])?;
-    let found = function(alloc, &dict, operator, inner)?;
-    compared(alloc, &dict, TwoOperator::SameTerm, found, term)
+    let is_same = is_same_at(alloc, &dict, operator, inner, term);
+    drop(dict);
+    is_same
 }
 
 #[test]
@@ -277,6 +324,19 @@ const CHAINS: [(Written, &[(TwoOperator, Written)], Written, Written); 2] = [
     ),
 ];
 
+/// Operators, each with its constant.
+fn links(
+    alloc: Global,
+    dict: &Dict,
+    steps: &[(TwoOperator, Written)],
+) -> Result<Vec<(TwoOperator, Expression<Id>)>, BlockFault> {
+    let mut links = Vec::new(alloc);
+    for (operator, right) in steps {
+        links.push((*operator, constant(alloc, dict, *right)?))?;
+    }
+    Ok(links)
+}
+
 /// `first`, and operators from left to right.
 fn chain(
     alloc: Global,
@@ -284,12 +344,34 @@ fn chain(
     first: Written,
     steps: &[(TwoOperator, Written)],
 ) -> Result<Expression<Id>, BlockFault> {
-    let mut more = Vec::new(alloc);
-    for (operator, right) in steps {
-        more.push((*operator, constant(alloc, dict, *right)?))?;
-    }
-    let first = constant(alloc, dict, first)?;
-    Ok(Expression::Chain(Box::new(alloc, first)?, more))
+    let more = links(alloc, dict, steps)?;
+    let first = boxed_constant(alloc, dict, first)?;
+    Ok(Expression::Chain(first, more))
+}
+
+/// Whether a chain of operators is this number.
+fn is_number(
+    alloc: Global,
+    dict: &Dict,
+    first: Written,
+    steps: &[(TwoOperator, Written)],
+    number: Written,
+) -> Result<bool, BlockFault> {
+    let found = chain(alloc, dict, first, steps)?;
+    Ok(compared(alloc, dict, TwoOperator::SameTerm, found, number)? == Some(true))
+}
+
+/// Whether STR of a chain of operators is this text.
+fn is_text(
+    alloc: Global,
+    dict: &Dict,
+    first: Written,
+    steps: &[(TwoOperator, Written)],
+    text: Written,
+) -> Result<bool, BlockFault> {
+    let found = chain(alloc, dict, first, steps)?;
+    let found = one(alloc, OneOperator::Str, found)?;
+    Ok(compared(alloc, dict, TwoOperator::Equal, found, text)? == Some(true))
 }
 
 /// Whether a chain of operators is the wanted number, and its STR the text of that.
@@ -301,11 +383,10 @@ fn comes_to(
     text: Written,
 ) -> Result<bool, BlockFault> {
     let dict = dictionary(alloc, &[first, ONE, "0", "3", want, text])?;
-    let found = chain(alloc, &dict, first, steps)?;
-    let is_number = compared(alloc, &dict, TwoOperator::SameTerm, found, want)?;
-    let found = one(alloc, OneOperator::Str, chain(alloc, &dict, first, steps)?)?;
-    let is_text = compared(alloc, &dict, TwoOperator::Equal, found, text)?;
-    Ok(is_number == Some(true) && is_text == Some(true))
+    let is_number = is_number(alloc, &dict, first, steps, want);
+    let is_text = is_text(alloc, &dict, first, steps, text);
+    drop(dict);
+    Ok(is_number? && is_text?)
 }
 
 #[test]

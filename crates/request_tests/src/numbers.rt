@@ -36,18 +36,39 @@ const MANY: &str = "\
 /// Its terms are all of the first base, or one of the second.
 const INSERTION: &[u8] = b"INSERT DATA { <x:a> <x:b> <x:c> }";
 
-fn is_numbered(numbered: &Numbered, dataset: &View) -> bool {
+/// Whether a dataset at numbers has the base's quad and its name.
+fn has_quad(dataset: &View) -> bool {
     let quad = Quad {
         subject: Id::Known(2),
         predicate: Id::Known(1),
         object: Id::Known(0),
         graph: Some(Id::Known(3)),
     };
-    numbered.base.terms().len() == 4
-        && matches!(dataset.names(), [Id::Known(3)])
+    matches!(dataset.names(), [Id::Known(3)])
         && dataset.quads().len() == 1
         && dataset.quads().contains(&quad)
-        && matches!(numbered.block.as_slice(), [Err(Refusal::Syntax)])
+}
+
+/// Whether the terms and the block are numbered, and a copy of the dataset has the base's quad.
+fn is_numbered(alloc: Global, numbered: &Numbered) -> Result<bool, AllocError> {
+    let copy = numbered.base.dataset().copied(alloc)?;
+    Ok(
+        numbered.base.terms().len() == 4
+            && matches!(numbered.block.as_slice(), [Err(Refusal::Syntax)])
+            && has_quad(&copy),
+    )
+}
+
+fn compact_copy(alloc: Global, numbered: &Numbered) -> Result<CompactView, AllocError> {
+    let copy = numbered.base.dataset().copied(alloc)?;
+    CompactView::from_view(alloc, copy)
+}
+
+/// Whether the dataset is the same in little room as a copy of it.
+fn is_compacted(alloc: Global, numbered: &Numbered) -> Result<bool, AllocError> {
+    let compact = compact_copy(alloc, numbered)?;
+    let same = numbered.base.dataset().compact(alloc)?;
+    Ok(compact.quads().is_same(&same.quads()) && compact.names() == same.names())
 }
 
 fn base(alloc: Global) -> Result<DataSet, BaseFault> {
@@ -58,11 +79,10 @@ fn base(alloc: Global) -> Result<DataSet, BaseFault> {
 fn comes_to_numbers(alloc: Global, block: Block) -> Result<bool, BaseFault> {
     let dataset = base(alloc)?;
     let numbered = number(&Alone, alloc, dataset, block)?;
-    let copy = numbered.base.dataset().copied(alloc)?;
-    let so = is_numbered(&numbered, &copy);
-    let compact = CompactView::from_view(alloc, copy)?;
-    let same = numbered.base.dataset().compact(alloc)?;
-    Ok(so && compact.quads().is_same(&same.quads()) && compact.names() == same.names())
+    let is_numbered = is_numbered(alloc, &numbered);
+    let is_compacted = is_compacted(alloc, &numbered);
+    drop(numbered);
+    Ok(is_numbered? && is_compacted?)
 }
 
 // To numbers and back.
@@ -108,10 +128,16 @@ fn inserted(numbered: &Numbered) -> Option<Id> {
     }
 }
 
+/// The insertion at numbers, over a base.
+fn numbered_insertion(alloc: Global, base: &str) -> Result<Numbered, Fail> {
+    let block = split(alloc, INSERTION)?;
+    let dataset = read_bytes(alloc, base.as_bytes())?;
+    Ok(number(&Alone, alloc, dataset, block)?)
+}
+
 /// Whether the subject has its number, in a dictionary of so many terms.
 fn has_number(alloc: Global, base: &str, count: usize) -> Result<bool, Fail> {
-    let dataset = read_bytes(alloc, base.as_bytes())?;
-    let numbered = number(&Alone, alloc, dataset, split(alloc, INSERTION)?)?;
+    let numbered = numbered_insertion(alloc, base)?;
     let terms = numbered.base.terms().terms();
     let Some(Id::Known(place)) = inserted(&numbered) else {
         return Ok(false);
