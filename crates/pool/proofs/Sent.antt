@@ -23,14 +23,18 @@ use Rattle.shared.specs.contracts.kept.KeptJournaled.TheImpl as journaled
 use Rattle.shared.specs.contracts.kept.Subject as Subject
 use Rattle.pool.specs.contracts.crew.Crew as Crew
 use Rattle.pool.specs.contracts.lengths.Lengths as Lengths
+use Rattle.pool.specs.contracts.pace.Pace as Pace
 use Rattle.pool.specs.contracts.worker.Workers as Workers
 
 lengths : IsSync Lengths.the_row
 lengths = search (sendable, crosses) depth 40
 
+pace : IsSync Pace.the_row
+pace = search (sendable, crosses) depth 20
+
 module _ (a lent : NamedLft) (T G : RattleType) (y : IsSync T) (z : IsSync G) where
   workers : IsSend (Workers.the_row lent a T G)
-  workers = let s = shared a in let r = requests in let d = dict in let v = indexed_view in let n = lengths in search (sendable, crosses) depth 40
+  workers = let s = shared a in let r = requests in let d = dict in let v = indexed_view in let n = lengths in let p = pace in search (sendable, crosses) depth 20
 
   pub crew : IsSend (Crew.the_row lent a T G)
   crew = let w = workers in let p = passes a in search (sendable, crosses) depth 20
