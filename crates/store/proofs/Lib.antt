@@ -2,3 +2,4 @@ pub mod Loops
 pub mod Holding
 pub mod Places
 pub mod Standing
+pub mod Distinct

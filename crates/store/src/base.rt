@@ -6,7 +6,7 @@ ghost use Rattle.store.specs.Base.{IsBaseOf};
 ghost use Rattle.store.specs.Held.{is_held};
 
 use crate::hands::Hands;
-use crate::numbers::name_numbers;
+use crate::numbers::{distinct, name_numbers};
 use datasets::{Id, Quad, Read};
 use dict::Dict;
 use dict::laws::is_renaming;
@@ -58,7 +58,8 @@ impl Base {
         let parts = dataset.into_parts(alloc)?;
         let (terms, ids) = hands.numbered(alloc, parts.terms, more)?;
         let quads = hands.placed(alloc, ids.as_slice(), parts.quads.as_slice())?;
-        let names = name_numbers(alloc, ids.as_slice(), parts.names.as_slice())?;
+        let places = distinct(parts.names);
+        let names = name_numbers(alloc, ids.as_slice(), places.as_slice())?;
         let indexed = hands.indexed(alloc, quads, names, orders)?;
         Ok(Base {
             alloc,

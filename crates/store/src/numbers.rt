@@ -1,6 +1,6 @@
 //! Terms, quads and names at numbers.
-ghost use Rattle.std.specs.Prelude.{◌≡◌, true, map, IfOk};
-ghost use Rattle.std.specs.List.{list_all};
+ghost use Rattle.std.specs.Prelude.{◌≡◌, ℕ, true, map, IfOk};
+ghost use Rattle.std.specs.List.{list_all, Contains};
 ghost use Rattle.std.specs.Option.{option_map};
 ghost use Rattle.datasets.specs.declared.id.Id.TheVariants.{Known};
 ghost use Rattle.quad_index.specs.Known.{quad_of, known_graph};
@@ -123,6 +123,16 @@ pub(crate) fn quad_numbers_by<T: Threads + Sync>(
         Ok(known) => Ok(QuadList::of_known(known)),
         Err(_) => quad_numbers(alloc, ids, quads),
     }
+}
+
+/// These places, each once: the name of a graph comes with each quad that is in it.
+pub(crate) fn distinct(mut places: Vec<u32>) -> Vec<u32>
+    ensures kept { (place : ℕ) → Contains places.items place → Contains result.items place }
+    ensures only { (place : ℕ) → Contains result.items place → Contains places.items place }
+{
+    places.sort_unstable();
+    places.dedup();
+    places
 }
 
 /// Names by places, at the numbers that stand there.
