@@ -100,8 +100,7 @@ pub(crate) fn texts_of_outcome<W: Runs>(
     let Numbered { base, block } = numbered;
     drop(block);
     let tag = base.tag();
-    let answer = named(alloc, base.into_terms(), &dataset)?;
-    drop(dataset);
+    let answer = named(alloc, base.into_terms(), dataset)?;
     let text = way.text(alloc, &answer, tag)?;
     // Only writing is left. To let each term go would take as long, and the process's end lets all go at once.
     forget(answer);

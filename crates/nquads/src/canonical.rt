@@ -2,6 +2,7 @@
 ghost use Rattle.std.specs.Prelude.{◌≡◌, ◌++◌, ◌||◌, ℕ, true, not, map, filter, nat_eq, IfOk, OnOk};
 ghost use Rattle.std.specs.List.{flat_map, list_any, list_all};
 ghost use Rattle.std.specs.HashSet.{contains};
+ghost use Rattle.std.specs.Thread.{IsSync};
 ghost use Rattle.sets.specs.Sets.{set_of as set_of_lines};
 ghost use Rattle.terms.specs.Term.{text_cmp};
 ghost use Rattle.terms.specs.Canonical.{term_text};
@@ -12,13 +13,13 @@ ghost use Rattle.nquads.specs.Placed.{text_at, graph_text_at, quad_text_at, grap
 use crate::rising::rising_text;
 use crate::rising_pieces::rising_pieces_by;
 use crate::text_line::TextLine;
-use crate::text_order::{names_by_text, quads_by_text, quads_by_text_by};
+use crate::text_order::{in_order_or, names_by_text, quads_by_text, quads_by_text_by};
 use datasets::Quad;
 use rayon::prelude::*;
 use sets::set_of;
 use std::alloc::{AllocError, Global};
 use std::collections::HashSet;
-use std::thread::{Threads, spawn};
+use std::thread::{Threads, join, spawn};
 use terms::laws::{quads_name_their_graphs, sets_pass_alike};
 use terms::{DataSet, Term, term_text};
 
@@ -173,6 +174,32 @@ fn full_graphs(alloc: Global, quads: &[Quad<u32>]) -> Result<HashSet<u32>, Alloc
     Ok(graphs)
 }
 
+/// The texts of terms and the names of the graphs that have a quad, made side by side.
+fn texts_and_full_by<T: Threads + Sync>(
+    rt: &T,
+    alloc: Global,
+    terms: &[Term],
+    quads: &[Quad<u32>],
+    tag: u32,
+) -> Result<(Vec<TextLine>, HashSet<u32>), AllocError>
+    ensures texts { IfOk result (λ r. r.0.items ≡ map (term_text tag) terms.now) }
+    ensures full { IfOk result (λ r. (name : ℕ)
+        → contains nat_eq r.1 name ≡ list_any (is_in_at name) quads.now) }
+{
+    let (texts, full) = join(
+        rt,
+        || -> Result<Vec<TextLine>, AllocError>
+            requires { IsSync T.row }
+            ensures { IfOk result (λ texts. texts.items ≡ map (term_text tag) terms.entry.now) }
+        { texts_of_by(rt, alloc, terms, tag) },
+        || -> Result<HashSet<u32>, AllocError>
+            ensures { IfOk result (λ graphs. (name : ℕ)
+                → contains nat_eq graphs name ≡ list_any (is_in_at name) quads.entry.now) }
+        { full_graphs(alloc, quads) },
+    );
+    Ok((texts?, full?))
+}
+
 /// Adds the lines of the graphs that have no quad.
 fn push_graph_lines(
     alloc: Global,
@@ -278,13 +305,14 @@ fn pieces_of_lines_by<T: Threads + Sync>(
         ++ map (graph_line_at texts.now)
         (filter (λ name. not (contains nat_eq full.now name)) names.now)))) }
 {
-    let quads_in_order = quads_by_text_by(rt, alloc, texts, quads)?;
+    let sorted = quads_by_text_by(rt, alloc, texts, quads)?;
+    let quads_in_order = in_order_or(&sorted, quads);
     let names_in_order = names_by_text(alloc, texts, names)?;
     let found = rising_pieces_by(
         rt,
         alloc,
         texts,
-        &quads_in_order,
+        quads_in_order,
         &names_in_order,
         full,
         threads,
@@ -338,8 +366,7 @@ pub fn canonical_pieces_by<T: Threads + Sync>(
         return canonical_pieces(alloc, dataset, tag);
     }
     let parts = dataset.parts();
-    let texts = texts_of_by(rt, alloc, parts.terms, tag)?;
-    let full = full_graphs(alloc, parts.quads)?;
+    let (texts, full) = texts_and_full_by(rt, alloc, parts.terms, parts.quads, tag)?;
     let pieces = pieces_of_lines_by(
         rt,
         alloc,

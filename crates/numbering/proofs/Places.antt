@@ -14,7 +14,9 @@ use Rattle.datasets.specs.declared.id.Id.TheVariants.{Known, Made}
 use Rattle.datasets.specs.declared.quad.Quad.{Quad}
 use Rattle.dict.specs.Dictionary.{term_of, is_known}
 use Rattle.meaning_laws.specs.Renaming.{renamed_quad, quad_known, option_known}
-use Rattle.numbering.specs.Tables.{StandFor, NamesStandFor}
+use Rattle.quad_index.specs.Known.{known_graph, quad_of}
+use Rattle.quad_index.specs.declared.known.KnownQuad.{KnownQuad}
+use Rattle.numbering.specs.Tables.{StandFor, NamesStandFor, places_of}
 
 -- ---- lists of terms that go on
 
@@ -156,8 +158,41 @@ name_more keep dict old new on placed after done p name made is in_new s =
 
 -- ---- loops over a list
 
+-- what stands behind the end of a list of quads
+abbrev pub no_quad : Quad Id
+no_quad = record { subject = Known 0; predicate = Known 0; object = Known 0; graph = None }
+
 pub loop_next : {A : Type 0} (P : List A → Type 0) (xs : List A) (i : ℕ) (d : A) → i < length xs → P (take i xs ++ slice_index_or xs i d ∷ []) → P (take (i + 1) xs)
 loop_next P xs i d lt h = rw add-one (subst P (sym (take-suc xs i d lt)) h)
 
 pub loop_item : {A : Type 0} (P : List A → Type 0) (xs : List A) (i : ℕ) (x : A) → i < length xs → x ≡ slice_index_or xs i x → P (take i xs ++ x ∷ []) → P (take (i + 1) xs)
 loop_item P xs i x lt is h = loop_next P xs i x lt (subst (λ y. P (take i xs ++ y ∷ [])) is h)
+
+-- ---- quads of known terms
+
+name_stands : (terms : List Term) (name : Option ℕ) → option_known (is_known terms) (known_graph name) ≡ true
+    → (option_map (term_at terms) name ≡ option_map (term_of terms) (known_graph name)) × (is_name_within terms name ≡ true)
+name_stands terms None h = (refl, refl)
+name_stands terms (Some n) h = (refl, h)
+
+quad_stands : (terms : List Term) (q : KnownQuad) → quad_known (is_known terms) (quad_of q) ≡ true
+    → (quad_at terms (places_of q) ≡ renamed_quad (term_of terms) (quad_of q)) × (is_quad_within terms (places_of q) ≡ true)
+quad_stands terms q h =
+    let parts = known_parts terms (quad_of q) h in
+    let name = name_stands terms q.graph parts.3 in (
+      (λ i. record { subject = term_at terms q.subject; predicate = term_at terms q.predicate; object = term_at terms q.object; graph = name.0 i }),
+      and_from (is_within terms q.subject) _ parts.0 (and_from (is_within terms q.predicate) _ parts.1 (and_from (is_within terms q.object) _ parts.2 name.1)),
+    )
+
+-- the number of a known term is its place
+pub known_stand : (terms : List Term) (quads : List KnownQuad) → list_all (quad_known (is_known terms)) (map quad_of quads) ≡ true
+    → StandFor terms terms (map places_of quads) (map quad_of quads)
+known_stand terms [] h = record { each = refl; within = refl }
+known_stand terms (q ∷ qs) h =
+    let parts = and_parts (quad_known (is_known terms) (quad_of q)) _ h in
+    let first = quad_stands terms q parts.0 in
+    let rest = known_stand terms qs parts.1 in
+    record {
+      each = λ i. first.0 i ∷ rest.each i;
+      within = and_from (is_quad_within terms (places_of q)) _ first.1 rest.within;
+    }

@@ -6,6 +6,7 @@ use Rattle.datasets.specs.declared.quad.Quad.{Quad}
 use Rattle.terms.specs.declared.term.Term.{Term}
 use Rattle.terms.specs.Placed.{term_at, quad_at, is_within, is_quad_within}
 use Rattle.dict.specs.Dictionary.{term_of}
+use Rattle.quad_index.specs.declared.known.KnownQuad.{KnownQuad}
 use Rattle.meaning_laws.specs.Renaming.{renamed_quad}
 
 -- quads by places of a table stand for these quads of numbers
@@ -17,3 +18,7 @@ pub record StandFor (terms table : List Term) (placed : List (Quad ℕ)) (quads 
 pub record NamesStandFor (terms table : List Term) (placed : List ℕ) (names : List Id) : Type 0 where
   pub each : map (term_at table) placed ≡ map (term_of terms) names
   pub within : list_all (is_within table) placed ≡ true
+
+-- the places of the terms of a quad of known terms, where these are the terms of a dictionary
+abbrev pub places_of : KnownQuad → Quad ℕ
+places_of q = record { subject = q.subject; predicate = q.predicate; object = q.object; graph = q.graph }

@@ -1,20 +1,21 @@
 //! Datasets of numbers at terms again.
-ghost use Rattle.std.specs.Prelude.{◌≡◌, ◌++◌, ◌∷◌, [], true, OnOk, IfOk, List};
+ghost use Rattle.std.specs.Prelude.{◌≡◌, ◌++◌, ◌∷◌, [], true, OnOk, IfOk, List, map};
 ghost use Rattle.std.specs.List.{list_all};
 ghost use Rattle.std.specs.Option.{option_map};
 ghost use Rattle.datasets.specs.declared.id.Id.{Id};
 ghost use Rattle.datasets.specs.declared.quad.Quad.{Quad};
 ghost use Rattle.datasets.specs.Dataset.{IsDataset};
 ghost use Rattle.dict.specs.Dictionary.{term_of, is_known};
+ghost use Rattle.quad_index.specs.Part.{quads_of_part};
 ghost use Rattle.terms.specs.declared.term.Term.{Term as OneTerm};
 ghost use Rattle.terms.specs.Term.{term_order};
 ghost use Rattle.terms.specs.Placed.{term_at, quad_at, is_within, is_name_within, is_quad_within, GoesOn};
 ghost use Rattle.meaning_laws.specs.Renaming.{renamed, renamed_quad, dataset_known, quad_known, option_known};
-ghost use Rattle.numbering.specs.Tables.{StandFor, NamesStandFor};
+ghost use Rattle.numbering.specs.Tables.{StandFor, NamesStandFor, places_of};
 
 use datasets::Quad;
 use dict::{Dict, Id};
-use quad_sets::QuadSlice;
+use quad_index::{KnownQuad, Part};
 use reads::CompactView;
 use std::alloc::{AllocError, Global};
 use terms::laws::terms_keep_places;
@@ -96,11 +97,11 @@ fn push_quad(
     Ok(())
 }
 
-/// The places of quads' terms.
-fn place_quads(
+/// The places of the terms of quads, one after another.
+fn place_each(
     alloc: Global,
     table: &mut TermTable,
-    quads: &QuadSlice<'_>,
+    quads: &[Quad<Id>],
 ) -> Result<Vec<Quad<u32>>, AllocError>
     requires { list_all (quad_known (is_known table.old)) quads.now ≡ true }
     ensures kept { IfOk result (λ list. GoesOn table.old table.new) }
@@ -109,11 +110,50 @@ fn place_quads(
     terms_keep_places();
     let mut list = Vec::new(alloc);
     list.reserve(quads.len())?;
-    for place in 0..quads.len() {
-        let quad = quads.get(place);
-        push_quad(table, &mut list, &quad)?;
+    for quad in quads {
+        push_quad(table, &mut list, quad)?;
     }
     Ok(list)
+}
+
+/// The places of the terms of a quad of known terms: their numbers.
+fn place_known(quad: &KnownQuad) -> Quad<u32>
+    ensures { result ≡ places_of quad.now }
+{
+    Quad {
+        subject: quad.subject,
+        predicate: quad.predicate,
+        object: quad.object,
+        graph: quad.graph,
+    }
+}
+
+fn place_each_known(alloc: Global, quads: &[KnownQuad]) -> Result<Vec<Quad<u32>>, AllocError>
+    ensures { IfOk result (λ list. list.items ≡ map places_of quads.now) }
+{
+    let mut list = Vec::new(alloc);
+    list.reserve(quads.len())?;
+    for quad in quads {
+        list.push(place_known(quad))?;
+    }
+    Ok(list)
+}
+
+/// The places of quads' terms. No term is looked at where all are known.
+fn place_quads(
+    alloc: Global,
+    table: &mut TermTable,
+    quads: Part<'_>,
+) -> Result<Vec<Quad<u32>>, AllocError>
+    requires { list_all (quad_known (is_known table.old)) (quads_of_part quads) ≡ true }
+    ensures kept { IfOk result (λ list. GoesOn table.old table.new) }
+    ensures stands { IfOk result (λ list. StandFor table.old table.new list.items
+        (quads_of_part quads.entry)) }
+{
+    match quads {
+        Part::Narrow(known) => place_each_known(alloc, known),
+        Part::Wide(quads) => place_each(alloc, table, quads),
+    }
 }
 
 /// Adds the place of a name.
@@ -147,14 +187,16 @@ fn place_names(alloc: Global, table: &mut TermTable, names: &[Id]) -> Result<Vec
 
 /// The dataset of terms that a dataset of numbers stands for: each term once, taken out of the dictionary, and no term made again for a quad.
 /// An error comes only where memory runs out.
-pub fn named(alloc: Global, terms: Dict, view: &CompactView) -> Result<DataSet, AllocError>
-    requires known { dataset_known (is_known terms) view.now ≡ true }
-    requires dataset { IsDataset term_order (renamed (term_of terms) view.now) }
-    ensures { IfOk result (λ d. d ≡ renamed (term_of terms) view.now) }
+pub fn named(alloc: Global, terms: Dict, view: CompactView) -> Result<DataSet, AllocError>
+    requires known { dataset_known (is_known terms) view ≡ true }
+    requires dataset { IsDataset term_order (renamed (term_of terms) view) }
+    ensures { IfOk result (λ d. d ≡ renamed (term_of terms) view) }
 {
     terms_keep_places();
     let mut table = TermTable::from_list(terms.into_terms());
-    let quads = place_quads(alloc, &mut table, &view.quads())?;
-    let names = place_names(alloc, &mut table, view.names())?;
+    let (quads, names) = view.into_parts();
+    let list = quads.into_list();
+    let quads = place_quads(alloc, &mut table, list.lent())?;
+    let names = place_names(alloc, &mut table, names.as_slice())?;
     Ok(DataSet::from_parts(table, quads, names))
 }

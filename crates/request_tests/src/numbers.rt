@@ -90,7 +90,7 @@ fn back(alloc: Global, dataset: DataSet, block: Block) -> Result<DataSet, AllocE
     let _ = dataset.parts();
     let numbered = number(&Alone, alloc, dataset, block)?;
     let dataset = numbered.base.dataset().compact(alloc)?;
-    named(alloc, numbered.base.into_terms(), &dataset)
+    named(alloc, numbered.base.into_terms(), dataset)
 }
 
 fn text_back(alloc: Global, dataset: DataSet, block: Block) -> Result<Vec<u8>, AllocError> {

@@ -125,11 +125,12 @@ pub(crate) fn quad_numbers_by<T: Threads + Sync>(
     }
 }
 
-/// These places, each once: the name of a graph comes with each quad that is in it.
+/// These places, each once: the name of a graph comes with each quad that is in it, and of these mostly many one after another.
 pub(crate) fn distinct(mut places: Vec<u32>) -> Vec<u32>
     ensures kept { (place : ℕ) → Contains places.items place → Contains result.items place }
     ensures only { (place : ℕ) → Contains result.items place → Contains places.items place }
 {
+    places.dedup();
     places.sort_unstable();
     places.dedup();
     places
