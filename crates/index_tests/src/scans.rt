@@ -208,6 +208,30 @@ fn quads_are_put_in_order_by_threads(rt: HostRuntime) -> Result<(), AllocError> 
     Ok(())
 }
 
+// 3,000 quads, of which so many are distinct, the last of these first.
+fn many_quads(alloc: Global, distinct: usize) -> Result<QuadList, AllocError>
+    requires { 0 < distinct }
+{
+    let mut list = QuadList::new(alloc);
+    for i in 0..3000usize {
+        list.push(alloc, &quad_of(2999 - i % distinct))?;
+    }
+    Ok(list)
+}
+
+#[test]
+fn many_quads_stand_in_each_order(rt: HostRuntime) -> Result<(), AllocError> {
+    let alloc = rt.alloc();
+    for distinct in [3000, 1500] {
+        let list = many_quads(alloc, distinct)?;
+        let set = set_of(list.quads(alloc)?);
+        assert!(rt; set.len() == distinct);
+        let index = Index::of_quads(alloc, list, &BESIDE_SPOG)?;
+        assert!(rt; scans_of(alloc, &index, &set, &quad_of(2222))?.are_right);
+    }
+    Ok(())
+}
+
 // 3,000 quads of one predicate, which stand otherwise by their objects than by their subjects.
 fn quads_of_a_predicate(alloc: Global, least: u32) -> Result<Vec<Quad<Id>>, AllocError>
     requires { least < 2 ^ 23 }

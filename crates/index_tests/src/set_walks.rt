@@ -7,7 +7,7 @@ use datasets::{Id, Quad, QuadPattern};
 use quad_index::{BESIDE_SPOG, KnownQuad, Order, QuadList, known_quads, known_set};
 use quad_sets::lists::merged;
 use quad_sets::{QuadSet, QuadSlice};
-use radix::set_by_number;
+use radix::{by_number, set_by_number};
 use sets::set_of;
 use std::alloc::{AllocError, Global};
 
@@ -464,5 +464,14 @@ fn vectors_come_to_sets(rt: HostRuntime) -> Result<(), AllocError> {
     let set = set_of(Vec::from_slice(alloc, &quads)?);
     assert!(rt; has_known_set(alloc, &quads, set.len())?);
     assert!(rt; merged(quads)?.as_slice() == set.as_slice());
+    Ok(())
+}
+
+#[test]
+fn a_list_is_put_by_numbers(rt: HostRuntime) -> Result<(), AllocError> {
+    let alloc = rt.alloc();
+    let list = Vec::from_slice(alloc, &[70_000u32, 5, u32::MAX, 5_000, 0, 70_000])?;
+    let put = by_number(alloc, list, |number: &u32| *number)?;
+    assert!(rt; put.as_slice() == &[0, 5, 5_000, 70_000, 70_000, u32::MAX]);
     Ok(())
 }

@@ -6,6 +6,7 @@
 //! how many entries it looks at.
 #![tactic(auto)]
 
+mod by_numbers;
 mod index;
 mod key;
 mod known;
