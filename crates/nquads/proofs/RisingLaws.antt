@@ -7,8 +7,6 @@ use Rattle.std.specs.declared.cmp.Ordering.{Ordering}
 use Rattle.std.specs.declared.cmp.Ordering.TheVariants.{Less, Equal, Greater}
 use Rattle.std.proofs.lemmas.Bool.{false≢true}
 use Rattle.std.specs.Ordering.{eq_by_cmp, is_lt}
-use Rattle.std.specs.Cmp.{IsTotalOrder}
-use Rattle.std.proofs.lemmas.Cmp.{nat_cmp_total}
 use Rattle.std.proofs.lemmas.List.{append-nil, append_assoc, map-append, take_more}
 use Rattle.std.proofs.lemmas.Grind.{flat_map-append}
 use Rattle.std.proofs.lemmas.List.Sorted.{list_any-IsPermutation, All-permutation}
@@ -26,8 +24,6 @@ use Rattle.terms.specs.TermLaws.{text_total, text_exact}
 use Rattle.nquads.specs.Canonical.{ended, text_of_pieces}
 use Rattle.nquads.specs.declared.rising.Rising.{Rising}
 use Rattle.nquads.specs.declared.rising_pieces.RisingInPieces.{RisingInPieces}
-use Rattle.datasets.specs.Id.{quad_total}
-use Rattle.nquads.specs.Ranks.{ranked, rank_order}
 use Rattle.nquads.specs.Rising.{IsRising, IsRisingInPieces}
 use Rattle.std.specs.Global.{Vec}
 use Rattle.nquads.proofs.CanonicalLaws.{any-map}
@@ -156,14 +152,3 @@ pub kept_next : {A : Type 0} (f : A → List ℕ) (p : A → Bool) (lines : List
 kept_next f p lines xs i x lt is e =
     append_assoc lines (map f (filter p (take i xs))) (f x ∷ [])
     ∙ ap (λ ys. lines ++ ys) (sym (ap (map f) (filter_next p xs i x true lt is e) ∙ map-append f (filter p (take i xs)) (x ∷ [])))
-
--- ---- ranks
-
-pub rank_total : (ranks : List ℕ) → IsTotalOrder (rank_order ranks)
-rank_total ranks =
-    let o = quad_total nat_cmp_total in
-    record {
-      antisymm = λ x y. o.antisymm (ranked ranks x) (ranked ranks y);
-      trans = λ x y z. o.trans (ranked ranks x) (ranked ranks y) (ranked ranks z);
-      congr = λ x y z. o.congr (ranked ranks x) (ranked ranks y) (ranked ranks z);
-    }

@@ -13,9 +13,7 @@ ghost use Rattle.nquads.specs.Placed.{text_at, graph_text_at, quad_text_at, grap
 use crate::rising::rising_text;
 use crate::rising_pieces::rising_pieces_by;
 use crate::text_line::TextLine;
-use crate::text_order::{
-    in_order_or, names_by_text, quads_by_text, ranks_of_texts, ranks_of_texts_by,
-};
+use crate::text_order::{in_order_or, names_by_text, quads_by_text, quads_by_text_by};
 use datasets::Quad;
 use rayon::prelude::*;
 use sets::set_of;
@@ -272,11 +270,9 @@ fn text_of_lines(
         ++ map (graph_line_at texts.now)
         (filter (λ name. not (contains nat_eq full.now name)) names.now)))) }
 {
-    let ranks = ranks_of_texts(alloc, texts)?;
-    let sorted = quads_by_text(alloc, ranks.as_slice(), quads)?;
-    let quads_in_order = in_order_or(&sorted, quads);
+    let quads_in_order = quads_by_text(alloc, texts, quads)?;
     let names_in_order = names_by_text(alloc, texts, names)?;
-    match rising_text(alloc, texts, quads_in_order, &names_in_order, full)? {
+    match rising_text(alloc, texts, &quads_in_order, &names_in_order, full)? {
         Some(text) => Ok(text),
         None => sorted_text(alloc, texts, quads, names, full),
     }
@@ -309,8 +305,7 @@ fn pieces_of_lines_by<T: Threads + Sync>(
         ++ map (graph_line_at texts.now)
         (filter (λ name. not (contains nat_eq full.now name)) names.now)))) }
 {
-    let ranks = ranks_of_texts_by(rt, alloc, texts)?;
-    let sorted = quads_by_text(alloc, ranks.as_slice(), quads)?;
+    let sorted = quads_by_text_by(rt, alloc, texts, quads)?;
     let quads_in_order = in_order_or(&sorted, quads);
     let names_in_order = names_by_text(alloc, texts, names)?;
     let found = rising_pieces_by(
