@@ -14,7 +14,7 @@ ghost use Rattle.quad_index.specs.QuadList.{quads_in};
 
 use crate::key::{Arrangement, Depth, Key, is_before, order_for};
 use crate::known::{
-    KnownQuad, known_quads, known_set_by, known_set_by_numbers, sorted_known, sorted_known_by,
+    KnownQuad, known_quads, known_set, known_set_by, sorted_known, sorted_known_by,
 };
 use crate::known_key::known_beside;
 use crate::looks::Looks;
@@ -129,7 +129,7 @@ impl Order {
             { arrangement = Arrangement.Spog; quads = the_set_of (quad_order id_order) quads }) }
     {
         match quads.into_entries() {
-            Entries::Narrow(known) => Order::of_known_set(known_set_by_numbers(alloc, known)?),
+            Entries::Narrow(known) => Order::of_known_set(known_set(known)),
             Entries::Wide(quads) => Order::of_wide_quads(alloc, quads),
         }
     }

@@ -10,4 +10,4 @@ use Rattle.quad_index.proofs.order.Order.of_quads.Goals as goal
 
 pub of_known_set-requires : goal.of_known_set-requires
 of_known_set-requires c =
-    subst (λ (quads : List (Quad Id)). IsStrictlySortedBy (quad_order id_order) quads) (sym c.in_ok-known_set_by_numbers-in-Narrow.ensures) (sorted-set_of (quad_total id_total) (map quad_of c.in-Narrow.known.items))
+    subst (λ (quads : List (Quad Id)). IsStrictlySortedBy (quad_order id_order) quads) (sym c.known_set.ensures) (sorted-set_of (quad_total id_total) (map quad_of c.in-Narrow.known.items))
