@@ -3,7 +3,6 @@ use Rattle.std.specs.Prelude.{not, nat_eq}
 use Rattle.std.proofs.Common.{List, ◌++◌, ℕ, ap, ◌∙◌, map, filter}
 use Rattle.std.specs.List.{list_all, flat_map}
 use Rattle.sets.specs.Sets.{set_of}
-use Rattle.datasets.specs.declared.quad.Quad.{Quad}
 use Rattle.terms.specs.Term.{text_cmp}
 use Rattle.terms.specs.Placed.{is_within, is_quad_within}
 use Rattle.nquads.specs.Canonical.{ended}
