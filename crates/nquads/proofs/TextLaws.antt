@@ -20,10 +20,3 @@ pub texts_are : {V : Type 0} (items : V → List (List ℕ)) (Q : AllocError →
 texts_are items Q tag terms made (Err e) zipped h = tt
 texts_are items Q tag terms made (Ok v) zipped h =
     h.2 ∙ each_text tag terms h.0 (subst (λ (ms : List (Result (List ℕ) AllocError)). AllZip (IsTextOf tag) terms ms) h.1 zipped)
-
--- what was made of each element of a list gives it back
-pub given_back : {A B : Type 0} (f : B → A) (list : List A) (made : List B) → AllZip (λ x y. f y ≡ x) list made → map f made ≡ list
-given_back f [] [] h = refl
-given_back f [] (y ∷ ys) h = absurd h
-given_back f (x ∷ xs) [] h = absurd h
-given_back f (x ∷ xs) (y ∷ ys) h = let rest = given_back f xs ys h.1 in λ i. h.0 i ∷ rest i

@@ -4,11 +4,9 @@ use Rattle.std.specs.List.{flat_map, AllByRecursion}
 use Rattle.std.specs.List.Sorted.{IsStrictlySortedBy}
 use Rattle.std.specs.declared.cmp.Ordering.TheVariants.{Less}
 use Rattle.terms.specs.Term.{text_cmp}
-use Rattle.datasets.specs.declared.quad.Quad.{Quad}
 use Rattle.nquads.specs.Canonical.{ended, text_of_pieces}
 use Rattle.nquads.specs.declared.rising.Rising.{Rising}
 use Rattle.nquads.specs.declared.rising_pieces.RisingInPieces.{RisingInPieces}
-use Rattle.nquads.specs.declared.text_order.Ranked.{Ranked}
 
 -- these are its lines, each above those before it, and what is above its last line is above them all
 pub record IsRising (lines : List (List ℕ)) (made : Rising) : Type 0 where
@@ -21,7 +19,3 @@ pub record IsRisingInPieces (lines : List (List ℕ)) (made : RisingInPieces) : 
   pub text : text_of_pieces made.pieces.items ≡ flat_map ended lines
   pub rises : IsStrictlySortedBy text_cmp lines
   pub last : (above : List ℕ) → text_cmp made.last.items above ≡ Less → AllByRecursion (λ line. text_cmp line above ≡ Less) lines
-
--- the quad that was given a rank
-abbrev pub quad_in : Ranked → Quad ℕ
-quad_in r = r.quad

@@ -270,9 +270,10 @@ fn text_of_lines(
         ++ map (graph_line_at texts.now)
         (filter (λ name. not (contains nat_eq full.now name)) names.now)))) }
 {
-    let quads_in_order = quads_by_text(alloc, texts, quads)?;
+    let sorted = quads_by_text(alloc, texts, quads)?;
+    let quads_in_order = in_order_or(&sorted, quads);
     let names_in_order = names_by_text(alloc, texts, names)?;
-    match rising_text(alloc, texts, &quads_in_order, &names_in_order, full)? {
+    match rising_text(alloc, texts, quads_in_order, &names_in_order, full)? {
         Some(text) => Ok(text),
         None => sorted_text(alloc, texts, quads, names, full),
     }
