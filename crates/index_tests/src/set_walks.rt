@@ -472,6 +472,7 @@ fn a_list_is_put_by_numbers(rt: HostRuntime) -> Result<(), AllocError> {
     let alloc = rt.alloc();
     let list = Vec::from_slice(alloc, &[70_000u32, 5, u32::MAX, 5_000, 0, 70_000])?;
     let put = by_number(alloc, list, |number: &u32| *number)?;
-    assert!(rt; put.as_slice() == &[0, 5, 5_000, 70_000, 70_000, u32::MAX]);
+    let wanted = [0u32, 5, 5_000, 70_000, 70_000, u32::MAX];
+    assert!(rt; put.as_slice() == wanted.as_slice());
     Ok(())
 }
