@@ -1,9 +1,9 @@
 //! How a request stands.
-ghost use Rattle.std.specs.Prelude.{◌≡◌, ◌||◌, ℕ, max};
+ghost use Rattle.std.specs.Prelude.{◌≡◌, ◌||◌, ℕ, false, max};
 ghost use Rattle.stamp_tree.specs.Standings.{is_due as due_at};
 
 /// When something is to be done for a request.
-#[derive(Clone, Copy)]
+#[derive(Clone, Copy, PartialEq, Eq)]
 pub enum Due {
     /// At once.
     Now,
@@ -52,6 +52,13 @@ fn behind(changed: u64, due: Due) -> Due
     }
 }
 
+/// Whether one stands otherwise than another.
+pub(crate) fn is_other(first: &Standing, second: &Standing) -> bool
+    ensures { result ≡ false → first.now ≡ second.now }
+{
+    first.due != second.due || first.changed != second.changed
+}
+
 /// How two stand, the second behind the first.
 pub(crate) fn joined(first: Standing, second: Standing) -> Standing
     ensures due { (latest : ℕ) → due_at latest result.due
@@ -62,4 +69,16 @@ pub(crate) fn joined(first: Standing, second: Standing) -> Standing
         due: sooner(first.due, behind(first.changed, second.due)),
         changed: first.changed.max(second.changed),
     }
+}
+
+/// Puts down how two stand, the second behind the first. It answers whether that is otherwise than it was.
+pub(crate) fn sum_up(whole: &mut Standing, first: Standing, second: Standing) -> bool
+    ensures due { (latest : ℕ) → due_at latest whole.new.due
+        ≡ (due_at latest first.due || due_at (max latest first.changed) second.due) }
+    ensures changed { whole.new.changed ≡ max first.changed second.changed }
+    ensures same { result ≡ false → whole.new ≡ whole.old }
+{
+    let before = *whole;
+    *whole = joined(first, second);
+    is_other(&before, whole)
 }

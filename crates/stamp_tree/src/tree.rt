@@ -1,9 +1,9 @@
 //! The tree.
-ghost use Rattle.std.specs.Prelude.{◌≡◌, ◌<◌, ◌+◌, ◌^◌, ◌++◌, length, replicate, slice_set, IfOk};
-ghost use Rattle.stamp_tree.specs.Standings.{first_due, StandsFor};
+ghost use Rattle.std.specs.Prelude.{◌≡◌, ◌<◌, ◌+◌, ◌^◌, ◌++◌, false, length, replicate, slice_set, IfOk};
+ghost use Rattle.stamp_tree.specs.Standings.{first_due, StandsFor, StandAlike};
 ghost use Rattle.stamp_tree.specs.Nodes.{standings, IsSummed};
 
-use crate::standing::{Due, Standing, is_due, joined};
+use crate::standing::{Due, Standing, is_due, is_other, joined, sum_up};
 use std::alloc::{AllocError, Global};
 use std::marker::Model;
 
@@ -82,16 +82,29 @@ impl StampTree {
         requires { place < length self.old }
         ensures { self.new ≡ slice_set self.old place standing }
     {
+        self.put(place, standing);
+    }
+
+    // The same. It answers whether they may stand otherwise together: where not, nothing changes above.
+    fn put(&mut self, place: usize, standing: Standing) -> bool
+        requires { place < length self.old }
+        ensures list { self.new ≡ slice_set self.old place standing }
+        ensures alike { result ≡ false → StandAlike self.old self.new }
+    {
         match &mut self.node {
             Node::Empty => unreachable!(),
-            Node::Leaf(leaf) => *leaf = standing,
+            Node::Leaf(leaf) => {
+                let is_other = is_other(leaf, &standing);
+                *leaf = standing;
+                is_other
+            }
             Node::Fork(whole, low, left, right) => {
-                if place < *low {
-                    left.set(place, standing);
+                let is_other = if place < *low {
+                    left.put(place, standing)
                 } else {
-                    right.set(place - *low, standing);
-                }
-                *whole = joined(left.whole(), right.whole());
+                    right.put(place - *low, standing)
+                };
+                is_other && sum_up(whole, left.whole(), right.whole())
             }
         }
     }
