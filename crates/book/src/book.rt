@@ -13,11 +13,11 @@ ghost use Rattle.block_machine.specs.Waiting.{has_work, IsLeastWork};
 ghost use Rattle.book.specs.JournalEntry.{journal_entry_of};
 ghost use Rattle.book.specs.Run.{state_of, setting_of, front_run, kept, IsSoundEvent};
 
-use crate::copies::{copy_of_event, kept_event};
+use crate::copies::copy_of_event;
 use crate::journal_entry::JournalEntry;
 use crate::packed_entry::{PackedEntry, room};
 use block_machine::laws::{front_is_serial, front_is_within, history_goes_on, ready_after};
-use block_machine::{Entry, Event, Machine, Noted, Pass, Reply, Status, scans_of};
+use block_machine::{Event, Machine, Noted, Pass, Reply, Status, scans_of};
 use datasets::Id;
 use delta::Outcome;
 use dict::Dict;
@@ -104,13 +104,7 @@ impl<'a> Book<'a> {
         self.journal.reserve(1)?;
         let room = room(alloc, self.spare.take())?;
         let (reply, told) = self.machine.step(alloc, self.base, worker, &event, scans)?;
-        let event = kept_event(event, &reply);
-        let entry = Entry {
-            worker,
-            event,
-            reply,
-        };
-        let (packed, spare) = PackedEntry::new(JournalEntry::new(entry), room);
+        let (packed, spare) = PackedEntry::new(worker, event, reply, room);
         self.spare = spare;
         match self.journal.push(packed) {
             Ok(()) => Ok(told),
@@ -184,12 +178,7 @@ impl<'a> Book<'a> {
         let (reply, told) = self
             .machine
             .check_as(alloc, self.base, worker, i, n, passed)?;
-        let checked = Entry {
-            worker,
-            event: Event::Check(i, n),
-            reply,
-        };
-        let (packed, spare) = PackedEntry::new(JournalEntry::new(checked), room);
+        let (packed, spare) = PackedEntry::new(worker, Event::Check(i, n), reply, room);
         self.spare = spare;
         match self.journal.push(packed) {
             Ok(()) => Ok(told),

@@ -1,9 +1,12 @@
 //! Entries of a journal in little memory.
 ghost use Rattle.std.specs.Prelude.{◌≡◌, IfSome};
+ghost use Rattle.book.specs.JournalEntry.{journal_entry_of};
 ghost use Rattle.book.specs.PackedEntry.{count_if, entry_of, kept_shown};
+ghost use Rattle.book.specs.Run.{kept};
 
-use crate::journal_entry::{JournalEntry, Kept};
-use block_machine::{Event, Reply};
+use crate::copies::kept_event;
+use crate::journal_entry::{JournalEntry, Kept, count};
+use block_machine::{Entry, Event, Reply};
 use datasets::{Id, Read};
 use quad_index::KnownQuad;
 use reads::presence::{quad_scanned, scan_for};
@@ -109,12 +112,15 @@ fn packed_answer(worker: u32, i: usize, n: u64, read: &Read<Id>, count: u64) -> 
     })
 }
 
-// A step of a request that was not refused, in little memory.
-fn packed_step(worker: u32, event: &Event, reply: &Reply) -> Option<Form>
+// An answered event in little memory: the answer to a read, or a step of a request that was not refused.
+fn packed(worker: u32, event: &Event, reply: &Reply) -> Option<Form>
     ensures { IfSome result (λ form. entry_of form
-        ≡ record { worker = worker; kept = Kept.Other event.now reply.now }) }
+        ≡ journal_entry_of (record { worker = worker; event = kept event.now reply.now; reply = reply.now })) }
 {
     match (event, reply) {
+        (Event::Read(i, n, read), Reply::Answered(answer)) => {
+            packed_answer(worker, *i, *n, read, count(answer))
+        }
         (Event::Take(i), Reply::Taken(n)) => Some(Form::Taken {
             worker,
             request: u32::try_from(*i).ok()?,
@@ -138,29 +144,31 @@ fn packed_step(worker: u32, event: &Event, reply: &Reply) -> Option<Form>
     }
 }
 
-fn packed(entry: &JournalEntry) -> Option<Form>
-    ensures { IfSome result (λ form. entry_of form ≡ entry.now) }
-{
-    match &entry.kept {
-        Kept::Answered(i, n, read, count) => packed_answer(entry.worker, *i, *n, read, *count),
-        Kept::Other(event, reply) => packed_step(entry.worker, event, reply),
-        Kept::Published(_, _, _, _) => None,
-    }
-}
-
 impl PackedEntry {
-    /// This entry, and the room that it does not need.
+    /// What a journal keeps of a worker's event under this reply, and the room that it does not need. An event of the many is not moved.
     pub(crate) fn new(
-        entry: JournalEntry,
+        worker: u32,
+        event: Event,
+        reply: Reply,
         room: Box<JournalEntry>,
     ) -> (PackedEntry, Option<Box<JournalEntry>>)
-        ensures { result.0 ≡ entry }
+        ensures { result.0 ≡ journal_entry_of (record {
+          worker = worker;
+          event =
+              kept event reply;
+          reply = reply;
+        }) }
     {
-        if let Some(form) = packed(&entry) {
+        if let Some(form) = packed(worker, &event, &reply) {
             return (PackedEntry { form }, Some(room));
         }
+        let event = kept_event(event, &reply);
         let mut room = room;
-        *room = entry;
+        *room = JournalEntry::new(Entry {
+            worker,
+            event,
+            reply,
+        });
         let form = Form::Whole(room);
         (PackedEntry { form }, None)
     }

@@ -23,7 +23,7 @@ invariant_of-self-2 c =
     let event : Event = Check c.args.i c.args.n in
     let run : Run = run_of_journal old.terms.now old.base.now old.block.now old.journal.items in
     let items : c.push.new.self.items ≡ old.journal.items ++ journal_entry_of (record { worker = c.args.worker; event = event; reply = reply }) ∷ [] =
-    c.in-Ok.ensures.items ∙ (λ t. c.in_ok-reserve.ensures.items t ++ (c.new-packed.ensures ∙ c.new.ensures) t ∷ []) in
+    c.in-Ok.ensures.items ∙ (λ t. c.in_ok-reserve.ensures.items t ++ c.new-packed.ensures t ∷ []) in
     let size = said_of_book run old.journal.items old.machine c.self.invariant (λ m history s. length s.slots ≡ m.size) c.front_is_within.ensures.slots in
     replayed_more old.terms.now old.base.now old.block.now old.journal.items old.machine c.self.invariant c.args.worker event reply c.in_ok-reply.ensures.allowed c.push.new.self.items items
     size (c.history_goes_on.ensures (setting_of run)) c.check_as.new.self tt c.in_ok-reply.ensures.changed
@@ -35,6 +35,6 @@ returns-clause-entry c =
     let reply = c.in_ok-reply.reply in
     let event : Event = Check c.args.i c.args.n in
     let items : c.push.new.self.items ≡ old.journal.items ++ journal_entry_of (record { worker = c.args.worker; event = event; reply = reply }) ∷ [] =
-    c.in-Ok.ensures.items ∙ (λ t. c.in_ok-reserve.ensures.items t ++ (c.new-packed.ensures ∙ c.new.ensures) t ∷ []) in
+    c.in-Ok.ensures.items ∙ (λ t. c.in_ok-reserve.ensures.items t ++ c.new-packed.ensures t ∷ []) in
     run_more old.terms.now old.base.now old.block.now old.journal.items old.machine c.self.invariant c.args.worker event reply c.in_ok-reply.ensures.allowed c.push.new.self.items items
     ∙ (λ t. record (c.self.view_is t) { history = (c.self.view_is t).history ++ record { worker = c.args.worker; event = event; reply = sym c.in_ok-reply.ensures.same t } ∷ [] })

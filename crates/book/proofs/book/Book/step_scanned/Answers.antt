@@ -21,8 +21,7 @@ invariant_of-self-2 c =
     let reply = c.in_ok-reply.reply in
     let run : Run = run_of_journal old.terms.now old.base.now old.block.now old.journal.items in
     let items : c.push.new.self.items ≡ old.journal.items ++ journal_entry_of (record { worker = c.args.worker; event = kept c.args.event reply; reply = reply }) ∷ [] =
-    c.in-Ok.ensures.items ∙ (λ t. c.in_ok-reserve.ensures.items t ++ (c.new-packed.ensures ∙ c.new.ensures) t ∷ [])
-    ∙ (λ t. old.journal.items ++ journal_entry_of (record { worker = c.args.worker; event = c.kept_event-event.ensures t; reply = reply }) ∷ []) in
+    c.in-Ok.ensures.items ∙ (λ t. c.in_ok-reserve.ensures.items t ++ c.new-packed.ensures t ∷ []) in
     let sound : IsSoundEvent run c.args.event = subst (λ (r : Run). IsSoundEvent r c.args.event) (sym c.self.view_is) c.requires.sound in
     let size = said_of_book run old.journal.items old.machine c.self.invariant (λ m history s. length s.slots ≡ m.size) c.front_is_within.ensures.slots in
     replayed_more old.terms.now old.base.now old.block.now old.journal.items old.machine c.self.invariant c.args.worker c.args.event reply c.in_ok-reply.ensures.allowed c.push.new.self.items items
@@ -34,8 +33,7 @@ returns-clause-entry c =
     let old = c.self.inside in
     let reply = c.in_ok-reply.reply in
     let items : c.push.new.self.items ≡ old.journal.items ++ journal_entry_of (record { worker = c.args.worker; event = kept c.args.event reply; reply = reply }) ∷ [] =
-    c.in-Ok.ensures.items ∙ (λ t. c.in_ok-reserve.ensures.items t ++ (c.new-packed.ensures ∙ c.new.ensures) t ∷ [])
-    ∙ (λ t. old.journal.items ++ journal_entry_of (record { worker = c.args.worker; event = c.kept_event-event.ensures t; reply = reply }) ∷ []) in
+    c.in-Ok.ensures.items ∙ (λ t. c.in_ok-reserve.ensures.items t ++ c.new-packed.ensures t ∷ []) in
     run_more old.terms.now old.base.now old.block.now old.journal.items old.machine c.self.invariant c.args.worker c.args.event reply c.in_ok-reply.ensures.allowed c.push.new.self.items items
     ∙ (λ t. record (c.self.view_is t) { history = (c.self.view_is t).history ++ record { worker = c.args.worker; event = kept c.args.event (sym c.in_ok-reply.ensures.same t); reply = sym c.in_ok-reply.ensures.same t } ∷ [] })
 
