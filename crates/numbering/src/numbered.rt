@@ -5,7 +5,7 @@ ghost use Rattle.numbering.specs.Gathered.{HasTerms};
 ghost use Rattle.numbering.specs.Numbered.{IsNumbered};
 
 use crate::gathered::distinct;
-use crate::lookup::Numbers;
+use crate::lookup::{Numbers, few_of};
 use crate::orders::orders_for;
 use crate::requests::number_requests;
 use datasets::Id;
@@ -44,9 +44,9 @@ pub fn number<H: Hands>(
 {
     let orders = orders_for(alloc, &block)?;
     let terms = terms_of(alloc, &block)?;
-    let count = terms.len();
+    let few = few_of(alloc, terms.as_slice(), dataset.parts().terms.len())?;
     let base = Base::new(hands, alloc, dataset, terms, &orders)?;
-    let numbers = Numbers::new(alloc, base.terms(), count)?;
+    let numbers = Numbers::new(alloc, base.terms(), few)?;
     let block = number_requests(alloc, &numbers, block.into_vec())?;
     drop(numbers);
     Ok(Numbered { base, block })
