@@ -63,8 +63,10 @@ fn joined(
 ) -> Result<Option<Iri>, AllocError>
     ensures { IfOk result (λ found. found ≡ Some (namespace.now ++ local.now)) }
 {
-    let mut text = String::from_str(alloc, namespace.as_str())?;
-    text.push_str(local.as_str())?;
+    let (namespace, local) = (namespace.as_str(), local.as_str());
+    let mut text = String::with_capacity(alloc, namespace.len().saturating_add(local.len()))?;
+    text.push_str(namespace)?;
+    text.push_str(local)?;
     iri_with_local();
     Iri::check(alloc, text.as_str())
 }

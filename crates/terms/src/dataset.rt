@@ -10,6 +10,7 @@ ghost use Rattle.terms.specs.Placed.{term_at, quad_at, is_within, is_name_within
 use crate::table::TermTable;
 use crate::term::Term;
 use datasets::Quad;
+use rayon::prelude::*;
 use std::alloc::{AllocError, Global};
 use std::marker::Model;
 use std::thread::Threads;
@@ -136,11 +137,32 @@ fn quads_of_places(
     Ok(placed)
 }
 
+/// The same, made by several threads.
+fn quads_of_places_by<T: Threads + Sync>(
+    rt: &T,
+    alloc: Global,
+    places: &[u32],
+    quads: &[Quad<u32>],
+) -> Result<Vec<Quad<u32>>, AllocError>
+    requires { list_all (is_quad_within places.now) quads.now ≡ true }
+    ensures { IfOk result (λ placed. placed.items ≡ map (quad_of_places places.now) quads.now) }
+{
+    quads
+        .par_iter()
+        .map(
+            |quad: &Quad<u32>| -> Quad<u32>
+                requires { is_quad_within places.now quad.now ≡ true }
+                ensures { result ≡ quad_of_places places.entry.now quad.now }
+            { quad_of_places(places, quad) },
+        )
+        .collect(rt, alloc)
+}
+
 fn names_of_places(alloc: Global, places: &[u32], names: &[u32]) -> Result<Vec<u32>, AllocError>
     requires { list_all (is_within places.now) names.now ≡ true }
     ensures { IfOk result (λ placed. placed.items ≡ map (slice_index places.now) names.now) }
 {
-    let mut placed = Vec::new(alloc);
+    let mut placed = Vec::with_capacity(alloc, names.len())?;
     for name in names {
         placed.push(places[*name as usize])?;
     }
@@ -204,7 +226,7 @@ fn parts_in_by<T: Threads + Sync>(
         names,
     } = other;
     let places = terms.places_of_by(rt, alloc, others)?;
-    let quads = quads_of_places(alloc, places.as_slice(), quads.as_slice())?;
+    let quads = quads_of_places_by(rt, alloc, places.as_slice(), quads.as_slice())?;
     let names = names_of_places(alloc, places.as_slice(), names.as_slice())?;
     Ok((quads, names))
 }

@@ -29,7 +29,7 @@ fn push_escaped(text: &mut Vec<u8>, byte: u8) -> Result<(), AllocError>
 fn escaped(alloc: Global, lexical: &[u8]) -> Result<Vec<u8>, AllocError>
     ensures { IfOk result (λ text. text.items ≡ flat_map escape lexical.now) }
 {
-    let mut text = Vec::new(alloc);
+    let mut text = Vec::with_capacity(alloc, lexical.len())?;
     for byte in lexical {
         push_escaped(&mut text, *byte)?;
     }
@@ -86,11 +86,21 @@ fn push_number(text: &mut Vec<u8>, letter: u8, number: u32) -> Result<(), AllocE
     text.extend_from_slice(digits.as_bytes())
 }
 
+// How long the text of an IRI or a blank node is. Other texts are made without its help.
+fn likely_len(term: &Term) -> usize {
+    match term {
+        Term::Iri(iri) => iri.as_str().len().saturating_add(2),
+        Term::Blank(blank) => blank.as_str().len().saturating_add(2),
+        Term::Literal(_) => 0,
+        Term::Made { .. } => 0,
+    }
+}
+
 /// The text of a term, where `tag` is the one of the dataset.
 pub fn term_text(alloc: Global, term: &Term, tag: u32) -> Result<Vec<u8>, AllocError>
     ensures { IfOk result (λ text. text.items ≡ term_text tag term.now) }
 {
-    let mut text = Vec::new(alloc);
+    let mut text = Vec::with_capacity(alloc, likely_len(term))?;
     match term {
         Term::Iri(iri) => push_iri(&mut text, iri)?,
         Term::Literal(literal) => return literal_text(alloc, literal),

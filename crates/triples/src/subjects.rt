@@ -18,7 +18,8 @@ fn objects_at<'t, 'a>(
 ) -> Result<(Items<Node<'a>>, &'t [Token<'a>]), Stop>
     ensures { Gives (λ x. (x.0, x.1.now)) result (objects_at tokens.now) }
 {
-    let mut found = Items::new(alloc);
+    // Most often one follows.
+    let mut found = Items::from_vec(Vec::with_capacity(alloc, 1)?);
     let mut rest = tokens;
     let mut goes_on = true;
     while goes_on {
@@ -51,7 +52,8 @@ fn properties_at<'t, 'a>(
 ) -> Result<(Items<Property<'a>>, &'t [Token<'a>]), Stop>
     ensures { Gives (λ x. (x.0, x.1.now)) result (properties_at tokens.now) }
 {
-    let mut found = Items::new(alloc);
+    // Most often one follows.
+    let mut found = Items::from_vec(Vec::with_capacity(alloc, 1)?);
     let mut rest = tokens;
     let mut goes_on = true;
     while goes_on {

@@ -7,7 +7,7 @@ use Rattle.triples.proofs.subjects.objects_at.Goals as goal
 
 pub loop-goes_on-init : goal.loop-goes_on-init
 unfolding objects_at
-loop-goes_on-init c = rw c.new-found.ensures (no_front object_at object_link (many object_at object_link c.args.tokens.now))
+loop-goes_on-init c = rw (c.from_vec-found.ensures ∙ c.in_ok-with_capacity.ensures.items) (no_front object_at object_link (many object_at object_link c.args.tokens.now))
 
 pub loop-goes_on-smaller : goal.loop-goes_on-smaller
 loop-goes_on-smaller c = rw c.kept-rest.ensures (step_smaller object_at object_link objects_consume _ _ _ (c.object_link-next.result.0, c.object_link-next.result.1.now) c.in_ok-object.ensures c.object_link-next.ensures)

@@ -7,7 +7,7 @@ use Rattle.triples.proofs.subjects.properties_at.Goals as goal
 
 pub loop-goes_on-init : goal.loop-goes_on-init
 unfolding properties_at
-loop-goes_on-init c = rw c.new-found.ensures (no_front property_at property_link (many property_at property_link c.args.tokens.now))
+loop-goes_on-init c = rw (c.from_vec-found.ensures ∙ c.in_ok-with_capacity.ensures.items) (no_front property_at property_link (many property_at property_link c.args.tokens.now))
 
 pub loop-goes_on-smaller : goal.loop-goes_on-smaller
 loop-goes_on-smaller c = rw c.kept-rest.ensures (step_smaller property_at property_link properties_consume _ _ _ (c.property_link-next.result.0, c.property_link-next.result.1.now) c.in_ok-property.ensures c.property_link-next.ensures)
