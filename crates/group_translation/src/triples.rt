@@ -240,6 +240,14 @@ fn add_block_quads<'a>(
     add_quads(alloc, &within, found, block.triples.as_slice())
 }
 
+// How many quads blocks have where most subjects have one property, of one object.
+fn likely_count(blocks: &[Block<'_>]) -> usize {
+    blocks.iter().fold(
+        0,
+        |count: usize, block| count.saturating_add(block.triples.len()),
+    )
+}
+
 /// The quads of a template (SPARQL 1.1 Update, 3.1.3), where WITH names a graph or nothing: a quad stands in the graph of its GRAPH, else in that
 /// of WITH, else in the default graph. An error comes only where a growth was refused.
 pub fn template_of<'a>(
@@ -251,7 +259,7 @@ pub fn template_of<'a>(
     ensures { IfOk result (λ found. found ≡ template_of scope.now.prefixes.now
         scope.now.variables.now scope.now.labels.now with.now blocks.now) }
 {
-    let mut found = Items::new(alloc);
+    let mut found = Items::from_vec(Vec::with_capacity(alloc, likely_count(blocks))?);
     for block in blocks {
         add_block_quads(alloc, scope, with, &mut found, block)?;
     }

@@ -9,6 +9,9 @@ use crate::token::Token;
 use iris::laws::runs_are_longest;
 use std::alloc::Global;
 
+/// For how many tokens there is room at first, at most.
+const MOST_ROOM: usize = 64;
+
 /// The longest token at the front of a text, and what follows it.
 fn longest(text: &[u8], edge: usize) -> Result<(Token<'_>, &[u8]), Stop>
     requires { NoneAhead text.now edge }
@@ -21,11 +24,16 @@ fn longest(text: &[u8], edge: usize) -> Result<(Token<'_>, &[u8]), Stop>
     }
 }
 
+// About how many tokens a short text has.
+fn likely_count(text: &[u8]) -> usize {
+    (text.len() / 8).min(MOST_ROOM)
+}
+
 fn tokens_of(alloc: Global, text: &[u8]) -> Result<Vec<Token<'_>>, Stop>
     ensures { IsCut text.now result }
 {
     runs_are_longest();
-    let mut tokens = Vec::new(alloc);
+    let mut tokens = Vec::with_capacity(alloc, likely_count(text))?;
     let mut rest = skip(text);
     let mut edge = rest.len();
     while !rest.is_empty() {

@@ -78,6 +78,8 @@ fn add_subject<'a>(found: &mut Vec<Node<'a>>, same: &SameSubject<'a>) -> Result<
 fn add_triples<'a>(found: &mut Vec<Node<'a>>, triples: &[SameSubject<'a>]) -> Result<(), AllocError>
     ensures { OnOk result (found.new.items ≡ found.old.items ++ nodes_of_triples triples.now) }
 {
+    // Most subjects have one property, of one object.
+    found.reserve(triples.len().saturating_mul(3))?;
     for same in triples {
         add_subject(found, same)?;
     }

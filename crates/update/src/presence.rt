@@ -101,7 +101,7 @@ fn scans_for_untold(
 ) -> Result<Vec<Read<Id>>, AllocError>
     ensures { IfOk result (λ reads. reads.items ≡ the_scans_for_untold known.now quads.now) }
 {
-    let mut reads = Vec::new(alloc);
+    let mut reads = Vec::with_capacity(alloc, quads.len())?;
     for quad in quads {
         push_if(&mut reads, known.tells(quad).is_none(), scan_for(*quad))?;
     }
@@ -181,7 +181,7 @@ pub fn quads_that<S: Source>(
         → found.items ≡ filter (λ q. bool_eq are_there (has (quad_order id_order) d.quads q))
         quads.now) }
 {
-    let mut found = Vec::new(alloc);
+    let mut found = Vec::with_capacity(alloc, quads.len().min(AT_ONCE))?;
     let mut place = 0;
     while place < quads.len() {
         let past = quads.len().min(place.saturating_add(AT_ONCE));

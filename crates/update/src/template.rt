@@ -10,6 +10,9 @@ use dict::{Dict, Id};
 use solution::Mapping;
 use std::alloc::{AllocError, Global};
 
+/// For how many instances there is room at first, at most: of most solutions each template has one.
+const MOST_ROOM: usize = 1024;
+
 /// What numbers the nodes that labels make: the request, its operation, both counted from 0, and the rank of the solution.
 #[derive(Clone, Copy)]
 struct Origin {
@@ -144,7 +147,8 @@ pub fn instances(
     ensures { IfOk result (λ quads. quads.items
         ≡ the_instances (numbers dict.now) request op templates.now found.now) }
 {
-    let mut quads = Vec::new(alloc);
+    let likely = found.len().saturating_mul(templates.len());
+    let mut quads = Vec::with_capacity(alloc, likely.min(MOST_ROOM))?;
     let mut rank: u32 = 0;
     for mapping in found {
         let origin = Origin { request, op, rank };

@@ -7,11 +7,11 @@ use Rattle.lexer.proofs.EdgeLaws.{edge_start}
 use Rattle.lexer.proofs.cut.tokens_of.Goals as goal
 
 pub loop-rest-init : goal.loop-rest-init
-loop-rest-init c = (rw (c.new-tokens.ensures.items, c.skip-rest.ensures) (cut_start c.runs_are_longest.ensures c.args.text.now), edge_start _)
+loop-rest-init c = (rw (c.in_ok-tokens.ensures.items, c.skip-rest.ensures) (cut_start c.runs_are_longest.ensures c.args.text.now), edge_start _)
 
 pub returns-in_err-token : goal.returns-in_err-token
 returns-in_err-token c =
-    let p = err_from_is_err_and c.from_residual.result c.from_residual.ensures.1 in
+    let p = err_from_is_err_and c.from_residual-in_err-token.result c.from_residual-in_err-token.ensures.1 in
     let some : 0 < length c.loop-rest.rest.now = grind (arith, common_steps) in
     is_stuck _ _ _ p.1 (p.2 ∙ c.in_err-token.ensures.none.0) (cut_stuck c.runs_are_longest.ensures _ _ _ c.loop-rest.invariant.0 some c.in_err-token.ensures.none.1)
 

@@ -29,7 +29,7 @@ later_asked : (allowed : Read → Bool) (left lot later : List (Quad Id)) → le
 later_asked allowed left lot later e h = all_back (λ q. allowed (scan_for q) ≡ true) lot later (subst (AskedQuads allowed) e h)
 
 pub returns-in_err-part-clause-goes : goal.returns-in_err-part-clause-goes
-returns-in_err-part-clause-goes g c allowed h = goes_short _ c.from_residual.ensures.1 (c.loop-place.invariant.goes allowed h)
+returns-in_err-part-clause-goes g c allowed h = goes_short _ c.from_residual-in_err-part.ensures.1 (c.loop-place.invariant.goes allowed h)
 
 pub returns-in_err-ask_for_untold-clause-goes : goal.returns-in_err-ask_for_untold-clause-goes
 returns-in_err-ask_for_untold-clause-goes g c allowed h =
