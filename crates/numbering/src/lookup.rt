@@ -14,9 +14,6 @@ use terms::Term;
 /// How many slots a term may stand in.
 const REACH: usize = 16;
 
-/// Terms are few where they are less than one in so many.
-const FEW_PART: usize = 8;
-
 /// What stands in a slot that has no term.
 const EMPTY: u32 = u32::MAX;
 
@@ -62,58 +59,23 @@ fn put_slot(slots: &mut [u32], hash: usize, place: u32) {
     }
 }
 
-// Slots that lead to all terms of a dictionary.
-fn slots_of_all(alloc: Global, dict: &Dict) -> Result<Vec<u32>, AllocError> {
-    let mut slots = vec![in alloc; EMPTY; dict.len().saturating_mul(2)]?;
-    let mut place = 0u32;
-    for term in dict.terms() {
-        put_slot(slots.as_mut_slice(), hash_of(term), place);
-        place = place.saturating_add(1);
-    }
-    Ok(slots)
-}
-
-// Slots that lead to these terms of a dictionary, of which each is searched for once.
-fn slots_of_few(alloc: Global, dict: &Dict, asked: &[Term]) -> Result<Vec<u32>, AllocError> {
-    let mut slots = vec![in alloc; EMPTY; asked.len().saturating_mul(2)]?;
-    for term in asked {
-        if let Some(Id::Known(place)) = dict.id_of(term) {
-            put_slot(slots.as_mut_slice(), hash_of(term), place);
-        }
-    }
-    Ok(slots)
-}
-
-/// Copies of these terms, if they are few beside so many others.
-pub(crate) fn few_of(
-    alloc: Global,
-    terms: &[Term],
-    others: usize,
-) -> Result<Option<Vec<Term>>, AllocError> {
-    if terms.len() >= others / FEW_PART {
-        return Ok(None);
-    }
-    let mut few = Vec::with_capacity(alloc, terms.len())?;
-    for term in terms {
-        few.push(term.copied(alloc)?)?;
-    }
-    Ok(Some(few))
-}
-
 impl<'a> Numbers<'a> {
-    /// The numbers of this dictionary. Where the terms that will be asked for are few beside it, slots lead to them alone. An error comes only
-    /// where memory runs out.
+    /// The numbers of this dictionary. Slots lead to terms of which many may be asked for, by their numbers. An error comes only where memory
+    /// runs out.
     pub(crate) fn new(
         alloc: Global,
         dict: &'a Dict,
-        few: Option<Vec<Term>>,
+        asked: &[Term],
+        numbers: &[Id],
     ) -> Result<Numbers<'a>, AllocError>
         ensures { IfOk result (λ numbers. numbers ≡ dict.entry.now) }
     {
-        let slots = match few {
-            Some(asked) => slots_of_few(alloc, dict, asked.as_slice())?,
-            None => slots_of_all(alloc, dict)?,
-        };
+        let mut slots = vec![in alloc; EMPTY; asked.len().saturating_mul(2)]?;
+        for (term, number) in asked.iter().zip(numbers.iter()) {
+            if let Id::Known(place) = number {
+                put_slot(slots.as_mut_slice(), hash_of(term), *place);
+            }
+        }
         Ok(Numbers { dict, slots })
     }
 

@@ -5,7 +5,7 @@ ghost use Rattle.numbering.specs.Gathered.{HasTerms};
 ghost use Rattle.numbering.specs.Numbered.{IsNumbered};
 
 use crate::gathered::distinct;
-use crate::lookup::{Numbers, few_of};
+use crate::lookup::Numbers;
 use crate::orders::orders_for;
 use crate::requests::number_requests;
 use datasets::Id;
@@ -30,6 +30,17 @@ fn terms_of(alloc: Global, block: &Block) -> Result<Vec<Term>, AllocError>
     distinct(alloc, found.as_slice())
 }
 
+/// The same terms again, in the same memory.
+fn copies_of(alloc: Global, terms: &[Term]) -> Result<Vec<Term>, AllocError>
+    ensures { IfOk result (λ copies. copies.items ≡ terms.now) }
+{
+    let mut copies = Vec::with_capacity(alloc, terms.len())?;
+    for term in terms {
+        copies.push(term.copied(alloc)?)?;
+    }
+    Ok(copies)
+}
+
 /// A base and a block at numbers, by the dictionary of the terms of the base and of the block's accepted requests. The base's terms have
 /// their numbers from the sort that makes the dictionary, into which they go, and the base is kept in the orders that the block can use. A
 /// request at terms is let go as soon as it has its numbers. An error comes only where memory runs out.
@@ -44,9 +55,11 @@ pub fn number<H: Hands>(
 {
     let orders = orders_for(alloc, &block)?;
     let terms = terms_of(alloc, &block)?;
-    let few = few_of(alloc, terms.as_slice(), dataset.parts().terms.len())?;
-    let base = Base::new(hands, alloc, dataset, terms, &orders)?;
-    let numbers = Numbers::new(alloc, base.terms(), few)?;
+    let asked = copies_of(alloc, terms.as_slice())?;
+    let (base, ids) = Base::new(hands, alloc, dataset, terms, &orders)?;
+    let numbers = Numbers::new(alloc, base.terms(), asked.as_slice(), ids.as_slice())?;
+    drop(asked);
+    drop(ids);
     let block = number_requests(alloc, &numbers, block.into_vec())?;
     drop(numbers);
     Ok(Numbered { base, block })

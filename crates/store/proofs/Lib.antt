@@ -3,3 +3,4 @@ pub mod Holding
 pub mod Places
 pub mod Standing
 pub mod Distinct
+pub mod Both

@@ -1,6 +1,9 @@
 //! The base of a block.
-ghost use Rattle.std.specs.Prelude.{◌≡◌, true, IfOk};
+ghost use Rattle.std.specs.Prelude.{◌≡◌, ◌++◌, true, map, filter, IfOk};
 ghost use Rattle.std.specs.List.{list_all};
+ghost use Rattle.sets.specs.Sets.{set_of};
+ghost use Rattle.terms.specs.Term.{term_order};
+ghost use Rattle.dict.specs.Dictionary.{IsDictionary, is_written, is_known, term_of};
 ghost use Rattle.reads.specs.Reads.{IsDataset};
 ghost use Rattle.store.specs.Base.{IsBaseOf};
 ghost use Rattle.store.specs.Held.{is_held};
@@ -38,35 +41,61 @@ impl Model for Base {
     ghost invariant = { λ b. IsDataset b.dataset };
 }
 
+// The dictionary of these terms and of more, and the numbers of both lists.
+fn numbered_both<H: Hands>(
+    hands: &H,
+    alloc: Global,
+    mut terms: Vec<Term>,
+    mut more: Vec<Term>,
+) -> Result<(Dict, Vec<Id>, Vec<Id>), AllocError>
+    requires { H.Ready }
+    ensures terms { IfOk result (λ r. r.0 ≡ set_of term_order
+        (filter is_written (terms.items ++ more.items))) }
+    ensures form { IfOk result (λ r. IsDictionary r.0) }
+    ensures renamed { IfOk result (λ r. map (term_of r.0) r.1.items ≡ terms.items) }
+    ensures known { IfOk result (λ r. list_all (is_known r.0) r.1.items ≡ true) }
+    ensures more_renamed { IfOk result (λ r. map (term_of r.0) r.2.items ≡ more.items) }
+    ensures more_known { IfOk result (λ r. list_all (is_known r.0) r.2.items ≡ true) }
+{
+    let count = terms.len();
+    terms.append(&mut more)?;
+    let (dict, mut ids) = hands.numbered(alloc, terms)?;
+    let others = ids.split_off(count)?;
+    Ok((dict, ids, others))
+}
+
 impl Base {
-    /// The base of a dataset, with the dictionary of its terms and of more, none of which is copied, its quads in these orders beside SPOG. The
-    /// numbers of its terms come of the sort that puts them in order, and who sorts changes nothing in the answer. An error comes only where
-    /// memory runs out.
+    /// The base of a dataset, with the dictionary of its terms and of more, none of which is copied, its quads in these orders beside SPOG, and
+    /// the numbers of those that are more. Numbers come of the sort that puts the terms in order, and who sorts changes nothing in the answer.
+    /// An error comes only where memory runs out.
     pub fn new<H: Hands>(
         hands: &H,
         alloc: Global,
         dataset: DataSet,
         more: Vec<Term>,
         orders: &[Arrangement],
-    ) -> Result<Base, AllocError>
+    ) -> Result<(Base, Vec<Id>), AllocError>
         requires { H.Ready }
-        ensures base { IfOk result (λ base. IsBaseOf dataset base) }
-        ensures held { IfOk result (λ base. list_all (is_held base.terms) more.items ≡ true) }
+        ensures base { IfOk result (λ r. IsBaseOf dataset r.0) }
+        ensures held { IfOk result (λ r. list_all (is_held r.0.terms) more.items ≡ true) }
+        ensures renamed { IfOk result (λ r. map (term_of r.0.terms) r.1.items ≡ more.items) }
+        ensures known { IfOk result (λ r. list_all (is_known r.0.terms) r.1.items ≡ true) }
     {
         is_renaming();
         let tag = tag(alloc, &dataset)?;
         let parts = dataset.into_parts(alloc)?;
-        let (terms, ids) = hands.numbered(alloc, parts.terms, more)?;
+        let (terms, ids, others) = numbered_both(hands, alloc, parts.terms, more)?;
         let quads = hands.placed(alloc, ids.as_slice(), parts.quads.as_slice())?;
         let places = distinct(parts.names);
         let names = name_numbers(alloc, ids.as_slice(), places.as_slice())?;
         let indexed = hands.indexed(alloc, quads, names, orders)?;
-        Ok(Base {
+        let base = Base {
             alloc,
             terms,
             dataset: indexed,
             tag,
-        })
+        };
+        Ok((base, others))
     }
 
     /// Its dictionary.

@@ -1,5 +1,5 @@
 //! Who puts the terms and the quads of a base in order.
-ghost use Rattle.std.specs.Prelude.{◌≡◌, ◌++◌, true, map, filter, IfOk};
+ghost use Rattle.std.specs.Prelude.{◌≡◌, true, map, filter, IfOk};
 ghost use Rattle.std.specs.List.{list_all};
 ghost use Rattle.sets.specs.Sets.{set_of};
 ghost use Rattle.datasets.specs.Id.{id_order};
@@ -18,7 +18,7 @@ use terms::Term;
 
 /// One thread or several, that put terms and quads in order.
 pub trait Hands {
-    ghost use Rattle.std.specs.Prelude.{◌≡◌, ◌++◌, true, map, filter, IfOk};
+    ghost use Rattle.std.specs.Prelude.{◌≡◌, true, map, filter, IfOk};
     ghost use Rattle.std.specs.List.{list_all};
     ghost use Rattle.sets.specs.Sets.{set_of};
     ghost use Rattle.datasets.specs.Id.{id_order};
@@ -31,16 +31,10 @@ pub trait Hands {
     // What it takes of its types.
     ghost Ready: { Type 0 };
 
-    /// The dictionary of these terms and of more, and the numbers of the first list's terms.
-    fn numbered(
-        &self,
-        alloc: Global,
-        terms: Vec<Term>,
-        more: Vec<Term>,
-    ) -> Result<(Dict, Vec<Id>), AllocError>
+    /// The dictionary of these terms, and their numbers.
+    fn numbered(&self, alloc: Global, terms: Vec<Term>) -> Result<(Dict, Vec<Id>), AllocError>
         requires { Ready }
-        ensures terms { IfOk result (λ r. r.0 ≡ set_of term_order
-            (filter is_written (terms.items ++ more.items))) }
+        ensures terms { IfOk result (λ r. r.0 ≡ set_of term_order (filter is_written terms.items)) }
         ensures form { IfOk result (λ r. IsDictionary r.0) }
         ensures renamed { IfOk result (λ r. map (term_of r.0) r.1.items ≡ terms.items) }
         ensures known { IfOk result (λ r. list_all (is_known r.0) r.1.items ≡ true) };
@@ -72,13 +66,8 @@ pub struct Alone;
 impl Hands for Alone {
     ghost Ready = { Unit {0} };
 
-    fn numbered(
-        &self,
-        alloc: Global,
-        terms: Vec<Term>,
-        more: Vec<Term>,
-    ) -> Result<(Dict, Vec<Id>), AllocError> {
-        Dict::numbered(alloc, terms, more)
+    fn numbered(&self, alloc: Global, terms: Vec<Term>) -> Result<(Dict, Vec<Id>), AllocError> {
+        Dict::numbered(alloc, terms, Vec::new(alloc))
     }
 
     fn placed(
@@ -119,13 +108,8 @@ impl<'r, T: Threads + Sync> Hands for Together<'r, T> {
 
     ghost Ready = { IsSync T.row };
 
-    fn numbered(
-        &self,
-        alloc: Global,
-        terms: Vec<Term>,
-        more: Vec<Term>,
-    ) -> Result<(Dict, Vec<Id>), AllocError> {
-        Dict::numbered_by(self.rt, alloc, terms, more)
+    fn numbered(&self, alloc: Global, terms: Vec<Term>) -> Result<(Dict, Vec<Id>), AllocError> {
+        Dict::numbered_by(self.rt, alloc, terms, Vec::new(alloc))
     }
 
     fn placed(

@@ -57,8 +57,8 @@ returns-clause-base g c =
     (ap (λ (xs : List Id). list_all (is_known dict) xs) names_made ∙ ns.1)
     c.in_ok-indexed.ensures.quads c.in_ok-indexed.ensures.names c.in_ok-tag.ensures
 
-pub invariant_of-result : goal.invariant_of-result
-invariant_of-result g c =
+pub invariant_of-base : goal.invariant_of-base
+invariant_of-base g c =
     let dict = c.in_ok-terms.terms in
     let terms = c.in_ok-parts.parts.terms.items in
     let placed = c.in_ok-parts.parts.quads.items in
