@@ -121,8 +121,8 @@ class Work:
 
 
 def build_library(crate, flags, keeps):
-    """Proves and builds a library: over kept work, or where there is none and none is wanted from nothing, with its statements alone, which is faster."""
-    if keeps or crate.has_kept():
+    """Proves and builds a library: over kept work, or where there is none of it or of what it stands on, and none is wanted, from nothing, with its statements alone, which is faster."""
+    if keeps or any(it.has_kept() for it in [*crate.below(), crate]):
         return crate.build_rlib(flags, anew=False)
     # (as under the gate; the toolchain then leaves no stamp itself)
     crate.cuts_libraries = True
