@@ -1,15 +1,16 @@
 //! Reads with their answers, in little memory once the answers are not needed for now.
-ghost use Rattle.std.specs.Prelude.{◌≡◌, ◌↔◌, IsTrue, IfOk};
+ghost use Rattle.std.specs.Prelude.{◌≡◌, ◌↔◌, IsTrue, IfOk, IfSome};
 ghost use Rattle.quad_index.specs.Known.{quad_of};
 ghost use Rattle.reads.specs.Presence.{presence};
 ghost use Rattle.reads.specs.Reads.{says};
+ghost use Rattle.version_overlay.specs.LeanNote.{note_of};
 ghost use Rattle.version_overlay.specs.Settled.{changed_by};
 
 use crate::whole_note::WholeNote;
 use datasets::{Id, Read};
 use delta::Delta;
 use quad_index::KnownQuad;
-use reads::presence::{is_present, presence_answer, scan_for};
+use reads::presence::{is_present, presence_answer, quad_scanned, scan_for};
 use reads::same::{same_bool, same_reads};
 use reads::{Answered, IndexedView, Note};
 use std::alloc::{AllocError, Global};
@@ -54,16 +55,21 @@ fn is_presence(
     Ok(presence_answer(alloc, quad, there)?.is_same(answer))
 }
 
+// The quad that the read asks for alone, and whether it was there: if it asks for one, of known terms, and the answer tells that.
+fn presence_form<'a>(read: &Read<Id>, answer: &Answered) -> Option<Form<'a>>
+    ensures { IfSome result (λ form. note_of form ≡ record
+        { read = read.now; answer = answer.now }) }
+{
+    let quad = quad_scanned(read)?;
+    let there = is_present(&quad, answer)?;
+    Some(Form::Presence(quad, there))
+}
+
 impl<'a> LeanNote<'a> {
-    // The same in as little memory as it can have.
-    fn of_whole(alloc: Global, note: WholeNote<'a>) -> Result<LeanNote<'a>, AllocError>
+    // The same, whatever the read asks for.
+    fn whole(alloc: Global, note: WholeNote<'a>) -> Result<LeanNote<'a>, AllocError>
         ensures { IfOk result (λ lean. lean ≡ note.entry) }
     {
-        if let Some((quad, there)) = note.presence() {
-            return Ok(LeanNote {
-                form: Form::Presence(quad, there),
-            });
-        }
         Ok(LeanNote {
             form: Form::Whole(Box::new(alloc, note)?),
         })
@@ -78,7 +84,10 @@ impl<'a> LeanNote<'a> {
     ) -> Result<LeanNote<'a>, AllocError>
         ensures { IfOk result (λ note. note ≡ record { read = read.now; answer = answer }) }
     {
-        LeanNote::of_whole(alloc, WholeNote::kept(base, read, answer))
+        if let Some(form) = presence_form(read, &answer) {
+            return Ok(LeanNote { form });
+        }
+        LeanNote::whole(alloc, WholeNote::kept(base, read, answer))
     }
 
     /// A read with its answer, which may be forgotten: the read says it of the base after these changes. An error comes only where memory
@@ -93,7 +102,10 @@ impl<'a> LeanNote<'a> {
         requires { answer ≡ says read.now (changed_by changes.items base.now) }
         ensures { IfOk result (λ note. note ≡ record { read = read.now; answer = answer }) }
     {
-        LeanNote::of_whole(alloc, WholeNote::lean(base, read, answer, changes))
+        if let Some(form) = presence_form(read, &answer) {
+            return Ok(LeanNote { form });
+        }
+        LeanNote::whole(alloc, WholeNote::lean(base, read, answer, changes))
     }
 
     /// The read.

@@ -1,7 +1,5 @@
 //! Reads with their answers, where a long answer needn't be kept: it is found again in the base, with the changes that made it.
-ghost use Rattle.std.specs.Prelude.{◌≡◌, IfOk, IfSome};
-ghost use Rattle.quad_index.specs.Known.{quad_of};
-ghost use Rattle.reads.specs.Presence.{scan_for, presence};
+ghost use Rattle.std.specs.Prelude.{◌≡◌, IfOk};
 ghost use Rattle.reads.specs.Reads.{says};
 ghost use Rattle.version_overlay.specs.WholeNote.{listed as the_listed};
 ghost use Rattle.version_overlay.specs.Settled.{changed_by};
@@ -9,8 +7,6 @@ ghost use Rattle.version_overlay.specs.Settled.{changed_by};
 use crate::along::answer_after;
 use datasets::{Id, Read};
 use delta::Delta;
-use quad_index::KnownQuad;
-use reads::presence::{is_present, quad_scanned};
 use reads::{Answered, IndexedView};
 use sets::Items;
 use std::alloc::{AllocError, Global};
@@ -99,19 +95,6 @@ impl<'a> WholeNote<'a> {
         match &self.answer {
             Some(answer) => answer.copied(alloc),
             None => answer_after(alloc, self.base, listed(&self.changes), &self.read),
-        }
-    }
-
-    /// The quad that the read asks for alone, and whether it was there: if it asks for one, of known terms, and the answer is kept.
-    pub fn presence(&self) -> Option<(KnownQuad, bool)>
-        ensures { IfSome result (λ found. record
-            { read = scan_for (quad_of found.0); answer = presence (quad_of found.0) found.1 }
-            ≡ self.now) }
-    {
-        let quad = quad_scanned(&self.read)?;
-        match &self.answer {
-            Some(answer) => Some((quad, is_present(&quad, answer)?)),
-            None => None,
         }
     }
 

@@ -9,18 +9,17 @@ use Rattle.store.specs.Held.{is_held}
 use Rattle.numbering.proofs.Holding.{block_held}
 use Rattle.numbering.proofs.numbered.number.Goals as goal
 
-pub number_requests-requires : goal.number_requests-requires
-number_requests-requires g c =
+pub number_block-numbered-requires : goal.number_block-numbered-requires
+number_block-numbered-requires g c =
     let held = is_held c.in_ok-base.base.terms in
-    ap (λ (ts : List Term). list_all (request_known (is_held ts)) c.into_vec.result.items) (c.in_ok-numbers.ensures ∙ c.terms.ensures)
-    ∙ ap (λ (rs : List (Request Term)). list_all (request_known held) rs) c.into_vec.ensures
+    ap (λ (ts : List Term). list_all (request_known (is_held ts)) c.args.block) c.terms.ensures
     ∙ block_held held c.args.block (c.in_ok-terms.ensures held c.in_ok-base.ensures.held)
 
 pub returns : goal.returns
 returns g c =
-    let requests : List (Request Id) = c.in_ok-block.block.items in
+    let requests : List (Request Id) = c.in_ok-numbered.field-0.items in
     record {
       base = c.in_ok-base.ensures.base;
-      block_is = ap (λ (ts : List Term). map (renamed_request (term_of ts)) requests) (sym (c.in_ok-numbers.ensures ∙ c.terms.ensures)) ∙ c.in_ok-block.ensures.renamed ∙ c.into_vec.ensures;
-      block_known = ap (λ (ts : List Term). list_all (request_known (is_known ts)) requests) (sym (c.in_ok-numbers.ensures ∙ c.terms.ensures)) ∙ c.in_ok-block.ensures.known;
+      block_is = ap (λ (ts : List Term). map (renamed_request (term_of ts)) requests) (sym c.terms.ensures) ∙ c.in_ok-numbered.ensures.renamed;
+      block_known = ap (λ (ts : List Term). list_all (request_known (is_known ts)) requests) (sym c.terms.ensures) ∙ c.in_ok-numbered.ensures.known;
     }
