@@ -59,12 +59,14 @@ impl<'a> Machine<'a> {
             due: Due::Now,
             changed: 0,
         };
+        let standings = StampTree::new(alloc, size, standing)?;
+        let slots = Slots::new(alloc, size, orders)?;
         Ok(Machine {
-            slots: Slots::new(alloc, size, orders)?,
+            slots,
             clock: 0,
             front: 0,
             latest: 0,
-            standings: StampTree::new(alloc, size, standing)?,
+            standings,
         })
     }
 
@@ -140,13 +142,13 @@ impl<'a> Machine<'a> {
     {
         let _committed = self.front();
         let Machine {
-            mut slots,
+            slots,
             front,
+            standings,
             ..
         } = self;
-        // What was committed last is settled too: where some is not, the dataset is widened.
-        slots.settle(alloc, front)?;
-        slots.into_view(alloc, base, front)
+        drop(standings);
+        settled_view(alloc, base, slots, front)
     }
 
     /// The committed requests' replies.
@@ -474,6 +476,27 @@ impl<'a> Machine<'a> {
         i == self.front
             && incarnations::is_executed(self.slots.status(i))
             && incarnations::is_after(self.slots.stamp(i), self.latest)
+    }
+}
+
+// The view of the first requests, which are committed.
+fn settled_view(
+    alloc: Global,
+    base: &IndexedView,
+    mut slots: Slots<'_>,
+    front: usize,
+) -> Result<CompactView, AllocError>
+    requires within { front ≤ length slots }
+    requires committed { (j : ℕ) → j < front → closed (Some (slot_at slots j).status) ≡ true }
+    ensures { IfOk result (λ view. view ≡ view_at base.now slots.entry front) }
+{
+    // What was committed last is settled too: where some is not, the dataset is widened.
+    match slots.settle(alloc, front) {
+        Ok(()) => slots.into_view(alloc, base, front),
+        Err(error) => {
+            drop(slots);
+            Err(error)
+        }
     }
 }
 

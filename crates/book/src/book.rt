@@ -1,10 +1,10 @@
 //! A block's machine with its journal.
-ghost use Rattle.std.specs.Prelude.{◌≡◌, ◌<◌, [], ◌∷◌, ◌++◌, map, ℕ, Some, None, true, false, nat_le, IfSome, IfOk, OnErr};
+ghost use Rattle.std.specs.Prelude.{◌≡◌, ◌<◌, ◌≤◌, [], ◌∷◌, ◌++◌, map, ℕ, Some, None, true, false, nat_le, length, IfSome, IfOk, OnErr};
 ghost use Rattle.reads.specs.Reads.{IsDataset};
 ghost use Rattle.incarnations.specs.Kept.{kept_note_of};
 ghost use Rattle.incarnations.specs.Statuses.{is_closed};
 ghost use Rattle.incarnations.specs.Slots.{transcript_of};
-ghost use Rattle.validate.specs.Below.{slot_at};
+ghost use Rattle.validate.specs.Below.{slot_at, view_at};
 ghost use Rattle.slots.specs.Slots.{status_of};
 ghost use Rattle.block_machine.specs.Machine.{IsAllowed, wanted_reply, is_current};
 ghost use Rattle.block_machine.specs.Scans.{questions_of};
@@ -277,19 +277,23 @@ impl<'a> Book<'a> {
     {
         front_is_within();
         front_is_serial();
-        let told = self.committed_replies(alloc)?;
+        let told = self.committed_replies(alloc);
         let Book {
             base,
             machine,
             journal,
+            spare,
             ..
         } = self;
         drop(journal);
-        let dataset = machine.into_front_view(alloc, base)?;
-        Ok(Outcome {
-            dataset,
-            replies: Items::from_vec(told),
-        })
+        drop(spare);
+        match told {
+            Ok(told) => ended(alloc, base, machine, told),
+            Err(error) => {
+                drop(machine);
+                Err(error)
+            }
+        }
     }
 
     /// What is kept of every event that was answered, in order: each is lawful where those before it lead.
@@ -320,4 +324,23 @@ impl<'a> Book<'a> {
     {
         self.block
     }
+}
+
+// What the committed requests come to, of which these are the replies.
+fn ended(
+    alloc: Global,
+    base: &IndexedView,
+    machine: Machine<'_>,
+    told: Vec<meaning::Reply>,
+) -> Result<Outcome, AllocError>
+    requires { machine.front ≤ length machine.slots }
+    ensures { IfOk result (λ outcome. (outcome.dataset
+        ≡ view_at base.now machine.entry.slots machine.entry.front)
+        × (outcome.replies ≡ told.items)) }
+{
+    let dataset = machine.into_front_view(alloc, base)?;
+    Ok(Outcome {
+        dataset,
+        replies: Items::from_vec(told),
+    })
 }

@@ -50,7 +50,9 @@ fn outcome_of_lines(alloc: Global, numbered: &Numbered, lines: &[Line]) -> Resul
     };
     // (for the proof: it is a history)
     let _journal = book.journal();
-    match book.outcome(alloc) {
+    let made = book.outcome(alloc);
+    drop(book);
+    match made {
         Ok(outcome) => Ok(outcome),
         Err(_) => Err(Fault::Memory),
     }

@@ -25,6 +25,17 @@ const SAMPLED: usize = 64;
 /// The most room that is asked for before it is needed.
 const MOST_ROOM: usize = 1_073_741_824;
 
+/// How many pieces there are for each of several threads, so that none waits for long for the last.
+const PIECES: usize = 2;
+
+/// Into how many pieces a text is parted among so many threads.
+fn pieces_for(threads: usize) -> usize {
+    if threads <= 1 {
+        return 1;
+    }
+    threads.saturating_mul(PIECES)
+}
+
 /// A text in pieces, one behind another, whose lines rise, as far as it is made, and its last line.
 #[derive(Drop)]
 pub(crate) struct RisingInPieces {
@@ -212,7 +223,7 @@ pub(crate) fn rising_pieces_by<T: Threads + Sync>(
         return Ok(None);
     }
     let low = as_piece(alloc, made)?;
-    let Some(high) = rising_quads(rt, alloc, texts, quads, threads)? else {
+    let Some(high) = rising_quads(rt, alloc, texts, quads, pieces_for(threads))? else {
         return Ok(None);
     };
     match behind_quads(alloc, low, high, texts, quads)? {

@@ -60,8 +60,8 @@ fn put_slot(slots: &mut [u32], hash: usize, place: u32) {
 }
 
 impl<'a> Numbers<'a> {
-    /// The numbers of this dictionary. Slots lead to terms of which many may be asked for, by their numbers. An error comes only where memory
-    /// runs out.
+    /// The numbers of this dictionary's terms. The slots lead to the terms that will be asked for, each of which is given with its number. An
+    /// error comes only where memory runs out.
     pub(crate) fn new(
         alloc: Global,
         dict: &'a Dict,

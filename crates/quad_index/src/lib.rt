@@ -7,6 +7,7 @@
 #![tactic(auto)]
 
 mod by_numbers;
+mod by_parts;
 mod index;
 mod key;
 mod known;

@@ -7,6 +7,7 @@ ghost use Rattle.incarnations.specs.Standings.{standing_of};
 ghost use Rattle.validate.specs.Below.{slot_at, view_at};
 ghost use Rattle.validate.specs.Verdicts.{NoteVerdict, ListVerdict};
 ghost use Rattle.validate.specs.Kept.{shown};
+ghost use Rattle.version_overlay.specs.Settled.{changed_by};
 ghost use Rattle.slots.specs.Slots.{status_of, IsAsked, replies_to};
 
 use crate::asked::Asked;
@@ -161,19 +162,25 @@ impl<'a> Slots<'a> {
         ensures { IfOk result (λ view. view ≡ view_at base.now self.entry n) }
     {
         if n != self.kept.low {
-            let view = self.view(alloc, base, n)?;
-            return CompactView::from_view(alloc, view);
+            let made = self.compact_view(alloc, base, n);
+            drop(self);
+            return made;
         }
-        let Kept {
-            slots,
-            settled,
-            spoken,
-            ..
-        } = self.kept;
-        drop(slots);
-        drop(spoken);
-        let dataset = base.compact(alloc)?;
-        settled.into_applied(alloc, dataset)
+        after_settled(alloc, base, settled_of(self.kept))
+    }
+
+    // The same, and nothing is let go.
+    fn compact_view(
+        &self,
+        alloc: Global,
+        base: &IndexedView,
+        n: usize,
+    ) -> Result<CompactView, AllocError>
+        requires { n ≤ length self.now }
+        ensures { IfOk result (λ view. view ≡ view_at base.now self.now n) }
+    {
+        let view = self.view(alloc, base, n)?;
+        CompactView::from_view(alloc, view)
     }
 
     /// The replies of the first `n` requests' last publications.
@@ -349,4 +356,31 @@ fn replies_before(
         }
     }
     Ok(list)
+}
+
+// The settled changes alone: the slots and the hints are let go.
+fn settled_of(kept: Kept<'_>) -> Settled
+    ensures { result ≡ kept.entry.settled }
+{
+    let Kept {
+        slots,
+        settled,
+        spoken,
+        ..
+    } = kept;
+    drop(slots);
+    drop(spoken);
+    settled
+}
+
+// The base after the settled changes.
+fn after_settled(
+    alloc: Global,
+    base: &IndexedView,
+    settled: Settled,
+) -> Result<CompactView, AllocError>
+    ensures { IfOk result (λ view. view ≡ changed_by settled base.now) }
+{
+    let dataset = base.compact(alloc)?;
+    settled.into_applied(alloc, dataset)
 }

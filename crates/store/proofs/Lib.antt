@@ -1,5 +1,6 @@
 pub mod Loops
 pub mod Holding
+pub mod KnownNumbers
 pub mod Places
 pub mod Standing
 pub mod Distinct

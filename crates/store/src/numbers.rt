@@ -1,25 +1,30 @@
 //! Terms, quads and names at numbers.
-ghost use Rattle.std.specs.Prelude.{◌≡◌, ℕ, true, map, IfOk};
+ghost use Rattle.std.specs.Prelude.{◌≡◌, ◌<◌, ℕ, true, length, map, slice_index_or, IfOk};
 ghost use Rattle.std.specs.List.{list_all, Contains};
 ghost use Rattle.std.specs.Option.{option_map};
-ghost use Rattle.datasets.specs.declared.id.Id.TheVariants.{Known};
-ghost use Rattle.quad_index.specs.Known.{quad_of, known_graph};
+ghost use Rattle.datasets.specs.declared.quad.Quad.{Quad};
+ghost use Rattle.quad_index.specs.Known.{quad_of};
+ghost use Rattle.quad_index.specs.declared.known.KnownQuad.{KnownQuad};
 ghost use Rattle.terms.specs.Placed.{is_within, is_name_within, is_quad_within};
 ghost use Rattle.dict.specs.Dictionary.{term_of, is_known};
 ghost use Rattle.store.specs.Held.{is_held};
-ghost use Rattle.store.specs.Tables.{number_at, numbers_at};
+ghost use Rattle.store.specs.Tables.{number_at, numbers_at, is_number as the_is_number, number_of as the_number_of, known_at};
 
 use datasets::Quad;
 use dict::{Dict, Id};
 use quad_index::{KnownQuad, QuadList};
-use rayon::prelude::*;
+use rayon::slice::par_for_each_mut;
 use std::alloc::{AllocError, Global};
 use std::thread::Threads;
 use terms::Term;
 
-/// What stands at a place is not the number of a known term.
-#[derive(Clone, Copy)]
-struct NotKnown;
+/// What a list has before its quads are put in.
+const NO_QUAD: KnownQuad = KnownQuad {
+    subject: 0,
+    predicate: 0,
+    object: 0,
+    graph: None,
+};
 
 /// The number of a term that the dictionary holds.
 pub fn number_term(dict: &Dict, term: &Term) -> Id
@@ -71,34 +76,104 @@ pub(crate) fn quad_numbers(
     Ok(list)
 }
 
-/// The number of a known term, if it stands at a place.
-fn known_number(ids: &[Id], place: u32) -> Result<u32, NotKnown>
-    ensures { IfOk result (λ number. Known number ≡ number_at ids.now place) }
+/// The number of a known term, and 0 for a made node.
+fn number_of(id: Id) -> u32
+    ensures { result ≡ the_number_of id }
 {
-    match ids.get(place as usize) {
-        Some(Id::Known(number)) => Ok(*number),
-        _ => Err(NotKnown),
+    match id {
+        Id::Known(number) => number,
+        Id::Made { .. } => 0,
     }
 }
 
-fn known_name(ids: &[Id], name: Option<u32>) -> Result<Option<u32>, NotKnown>
-    ensures { IfOk result (λ number. known_graph number ≡ option_map (number_at ids.now) name) }
+fn is_number(id: Id) -> bool
+    ensures { result ≡ the_is_number id }
+{
+    matches!(id, Id::Known(_))
+}
+
+/// Whether all are numbers of known terms.
+fn are_numbers(ids: &[Id]) -> bool
+    ensures { result ≡ list_all the_is_number ids.now }
+{
+    ids.iter().all(|id| is_number(*id))
+}
+
+fn known_name(ids: &[Id], name: Option<u32>) -> Option<u32>
+    requires { is_name_within ids.now name ≡ true }
+    ensures { result ≡ option_map (λ place. the_number_of (number_at ids.now place)) name }
 {
     match name {
-        Some(place) => Ok(Some(known_number(ids, place)?)),
-        None => Ok(None),
+        Some(place) => Some(number_of(ids[place as usize])),
+        None => None,
     }
 }
 
-fn known_quad(ids: &[Id], quad: &Quad<u32>) -> Result<KnownQuad, NotKnown>
-    ensures { IfOk result (λ known. quad_of known ≡ numbers_at ids.now quad.now) }
+/// A quad by places, at the numbers of known terms that stand there.
+fn known_quad(ids: &[Id], quad: &Quad<u32>) -> KnownQuad
+    requires { is_quad_within ids.now quad.now ≡ true }
+    ensures { result ≡ known_at ids.now quad.now }
 {
-    Ok(KnownQuad {
-        subject: known_number(ids, quad.subject)?,
-        predicate: known_number(ids, quad.predicate)?,
-        object: known_number(ids, quad.object)?,
-        graph: known_name(ids, quad.graph)?,
-    })
+    KnownQuad {
+        subject: number_of(ids[quad.subject as usize]),
+        predicate: number_of(ids[quad.predicate as usize]),
+        object: number_of(ids[quad.object as usize]),
+        graph: known_name(ids, quad.graph),
+    }
+}
+
+// Puts these quads in, each by one of several threads.
+fn put_known_by<T: Threads + Sync>(rt: &T, ids: &[Id], quads: &[Quad<u32>], known: &mut [KnownQuad])
+    requires within { list_all (is_quad_within ids.now) quads.now ≡ true }
+    requires long { length known.old ≡ length quads.now }
+    ensures long { length known.new ≡ length quads.now }
+    ensures each { (k : ℕ) (d : Quad ℕ) (e : KnownQuad) → k < length quads.now
+        → slice_index_or known.new k e ≡ known_at ids.now (slice_index_or quads.now k d) }
+{
+    par_for_each_mut(
+        rt,
+        known,
+        |place: usize, slot: &mut KnownQuad|
+            requires { (place < length quads.now)
+                × (list_all (is_quad_within ids.now) quads.now ≡ true) }
+            ensures { (d : Quad ℕ) → slot.new ≡ known_at ids.entry.now
+                (slice_index_or quads.entry.now place d) }
+        {
+            *slot = known_quad(ids, &quads[place]);
+        },
+    );
+}
+
+// The same of a list that has as many.
+fn known_put_by<T: Threads + Sync>(
+    rt: &T,
+    ids: &[Id],
+    quads: &[Quad<u32>],
+    mut known: Vec<KnownQuad>,
+) -> Vec<KnownQuad>
+    requires within { list_all (is_quad_within ids.now) quads.now ≡ true }
+    requires long { length known.items ≡ length quads.now }
+    ensures long { length result.items ≡ length quads.now }
+    ensures each { (k : ℕ) (d : Quad ℕ) (e : KnownQuad) → k < length quads.now
+        → slice_index_or result.items k e ≡ known_at ids.now (slice_index_or quads.now k d) }
+{
+    put_known_by(rt, ids, quads, known.as_mut_slice());
+    known
+}
+
+// The same as `quad_numbers`, where all are numbers of known terms.
+fn known_numbers_by<T: Threads + Sync>(
+    rt: &T,
+    alloc: Global,
+    ids: &[Id],
+    quads: &[Quad<u32>],
+) -> Result<Vec<KnownQuad>, AllocError>
+    requires within { list_all (is_quad_within ids.now) quads.now ≡ true }
+    requires numbers { list_all the_is_number ids.now ≡ true }
+    ensures { IfOk result (λ known. map quad_of known.items ≡ map (numbers_at ids.now) quads.now) }
+{
+    let known = vec![in alloc; NO_QUAD; quads.len()]?;
+    Ok(known_put_by(rt, ids, quads, known))
 }
 
 /// The same as `quad_numbers`, where several threads look for the numbers of known terms.
@@ -111,18 +186,11 @@ pub(crate) fn quad_numbers_by<T: Threads + Sync>(
     requires { list_all (is_quad_within ids.now) quads.now ≡ true }
     ensures { IfOk result (λ list. list ≡ map (numbers_at ids.now) quads.now) }
 {
-    let known: Result<Vec<KnownQuad>, NotKnown> = quads
-        .par_iter()
-        .map(
-            |quad: &Quad<u32>| -> Result<KnownQuad, NotKnown>
-                ensures { IfOk result (λ known. quad_of known ≡ numbers_at ids.entry.now quad.now) }
-            { known_quad(ids, quad) },
-        )
-        .collect(rt, alloc)?;
-    match known {
-        Ok(known) => Ok(QuadList::of_known(known)),
-        Err(_) => quad_numbers(alloc, ids, quads),
+    if !are_numbers(ids) {
+        return quad_numbers(alloc, ids, quads);
     }
+    let known = known_numbers_by(rt, alloc, ids, quads)?;
+    Ok(QuadList::of_known(known))
 }
 
 /// These places, each once: the name of a graph comes with each quad that is in it, and of these mostly many one after another.

@@ -10,7 +10,7 @@ ghost use Rattle.terms.specs.Placed.{term_at, quad_at, is_within, is_name_within
 use crate::table::TermTable;
 use crate::term::Term;
 use datasets::Quad;
-use rayon::prelude::*;
+use rayon::slice::par_for_each_mut;
 use std::alloc::{AllocError, Global};
 use std::marker::Model;
 use std::thread::Threads;
@@ -137,25 +137,34 @@ fn quads_of_places(
     Ok(placed)
 }
 
-/// The same, made by several threads.
-fn quads_of_places_by<T: Threads + Sync>(
-    rt: &T,
-    alloc: Global,
-    places: &[u32],
-    quads: &[Quad<u32>],
-) -> Result<Vec<Quad<u32>>, AllocError>
-    requires { list_all (is_quad_within places.now) quads.now ≡ true }
-    ensures { IfOk result (λ placed. placed.items ≡ map (quad_of_places places.now) quads.now) }
+// Each quad becomes that of its places, by several threads.
+fn place_each_by<T: Threads + Sync>(rt: &T, places: &[u32], quads: &mut [Quad<u32>])
+    requires { list_all (is_quad_within places.now) quads.old ≡ true }
+    ensures { quads.new ≡ map (quad_of_places places.now) quads.old }
 {
+    par_for_each_mut(
+        rt,
+        quads,
+        |_place: usize, quad: &mut Quad<u32>|
+            requires { is_quad_within places.now quad.old ≡ true }
+            ensures { quad.new ≡ quad_of_places places.entry.now quad.old }
+        {
+            *quad = quad_of_places(places, quad);
+        },
+    );
+}
+
+/// The same, made by several threads, where the quads lie.
+fn quads_placed_by<T: Threads + Sync>(
+    rt: &T,
+    places: &[u32],
+    mut quads: Vec<Quad<u32>>,
+) -> Vec<Quad<u32>>
+    requires { list_all (is_quad_within places.now) quads.items ≡ true }
+    ensures { result.items ≡ map (quad_of_places places.now) quads.items }
+{
+    place_each_by(rt, places, quads.as_mut_slice());
     quads
-        .par_iter()
-        .map(
-            |quad: &Quad<u32>| -> Quad<u32>
-                requires { is_quad_within places.now quad.now ≡ true }
-                ensures { result ≡ quad_of_places places.entry.now quad.now }
-            { quad_of_places(places, quad) },
-        )
-        .collect(rt, alloc)
 }
 
 fn names_of_places(alloc: Global, places: &[u32], names: &[u32]) -> Result<Vec<u32>, AllocError>
@@ -226,7 +235,7 @@ fn parts_in_by<T: Threads + Sync>(
         names,
     } = other;
     let places = terms.places_of_by(rt, alloc, others)?;
-    let quads = quads_of_places_by(rt, alloc, places.as_slice(), quads.as_slice())?;
+    let quads = quads_placed_by(rt, places.as_slice(), quads);
     let names = names_of_places(alloc, places.as_slice(), names.as_slice())?;
     Ok((quads, names))
 }

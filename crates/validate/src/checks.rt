@@ -1,13 +1,17 @@
 //! The check of one note: whether its read would be answered as before.
 ghost use Rattle.std.specs.Prelude.{◌≡◌, ◌≤◌, ◌↔◌, length, IsTrue, IfOk};
+ghost use Rattle.reads.specs.Reads.{says};
+ghost use Rattle.validate.specs.Below.{view_at};
+ghost use Rattle.validate.specs.Lower.{Leads};
 ghost use Rattle.validate.specs.Verdicts.{NoteVerdict, ListVerdict};
 ghost use Rattle.validate.specs.Kept.{shown, whole, Holds};
 
 use crate::below::{blocker, part_before, touching};
 use crate::candidates::candidates_for;
 use crate::kept::Kept;
+use datasets::{Id, Read};
 use incarnations::Noted;
-use reads::{IndexedView, Scanned};
+use reads::{Answered, IndexedView, Scanned};
 use std::alloc::{AllocError, Global};
 use version_overlay::along::answer_of;
 
@@ -41,14 +45,34 @@ pub fn check(
     if let Some(j) = blocker(kept, kept.low, &list, i, read) {
         return Ok(Verdict::Blocked(j));
     }
-    let scanned = Scanned::new(alloc, base, read)?;
-    let part = part_before(alloc, &scanned, kept, &list, i)?;
-    let now = answer_of(alloc, &scanned, part)?;
+    let now = answer_at(alloc, base, kept, &list, i, read);
+    drop(list);
+    let now = now?;
     if note.note.is_answer(alloc, &now)? {
         Ok(Verdict::Same)
     } else {
         Ok(Verdict::Changed)
     }
+}
+
+// What the read says now at request `i`.
+fn answer_at(
+    alloc: Global,
+    base: &IndexedView,
+    kept: &Kept<'_>,
+    list: &[usize],
+    i: usize,
+    read: &Read<Id>,
+) -> Result<Answered, AllocError>
+    requires holds { Holds kept.now }
+    requires within { i ≤ length kept.now.slots.items }
+    requires leads { Leads (shown kept.now.slots.items) read.now kept.now.low list.now i }
+    ensures { IfOk result (λ answer. answer
+        ≡ says read.now (view_at base.now (shown kept.now.slots.items) i)) }
+{
+    let scanned = Scanned::new(alloc, base, read)?;
+    let part = part_before(alloc, &scanned, kept, list, i)?;
+    answer_of(alloc, &scanned, part)
 }
 
 /// Compares a note's touching list with the list now, at request `i`, from the first request on that was not settled when it was made: no

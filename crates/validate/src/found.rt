@@ -1,6 +1,7 @@
 //! What a read comes to at a request.
 ghost use Rattle.std.specs.Prelude.{◌≡◌, ◌≤◌, length, IfOk};
 ghost use Rattle.reads.specs.Reads.{says};
+ghost use Rattle.version_overlay.specs.Settled.{changed_by};
 ghost use Rattle.validate.specs.Kept.{shown, Holds, IsFound};
 ghost use Rattle.validate.specs.Lower.{Leads};
 ghost use Rattle.validate.specs.Below.{view_at};
@@ -8,6 +9,8 @@ ghost use Rattle.validate.specs.Below.{view_at};
 use crate::below::{blocker, changes_before, part_before, touching};
 use crate::candidates::candidates_for;
 use crate::kept::Kept;
+use datasets::{Id, Read};
+use delta::Delta;
 use incarnations::Noted;
 use reads::{Answered, IndexedView, Scanned};
 use std::alloc::{AllocError, Global};
@@ -76,18 +79,46 @@ fn note_of<'a>(
 {
     let read = scanned.read();
     let Some(part) = part_before(alloc, scanned, kept, list, i)? else {
-        let answer = scanned.answer(alloc)?;
-        let told = answer.copied(alloc)?;
-        let note = LeanNote::lean(alloc, base, read, answer, Vec::new(alloc))?;
-        return Ok((note, told));
+        return lean_and_told(alloc, base, read, scanned.answer(alloc)?, Vec::new(alloc));
     };
-    let answer = part.answer(alloc, read)?;
-    let told = answer.copied(alloc)?;
+    let answer = part.answer(alloc, read);
+    drop(part);
+    let answer = answer?;
     if !is_long(&answer) {
-        let note = LeanNote::kept(alloc, base, read, answer)?;
-        return Ok((note, told));
+        return kept_and_told(alloc, base, read, answer);
     }
     let changes = changes_before(alloc, scanned, kept, list, i)?;
+    lean_and_told(alloc, base, read, answer, changes)
+}
+
+// The note of an answer that is kept, and the answer.
+fn kept_and_told<'a>(
+    alloc: Global,
+    base: &'a IndexedView,
+    read: &Read<Id>,
+    answer: Answered,
+) -> Result<(LeanNote<'a>, Answered), AllocError>
+    ensures note { IfOk result (λ found. found.0 ≡ record { read = read.now; answer = answer }) }
+    ensures answer { IfOk result (λ found. found.1 ≡ answer) }
+{
+    let told = answer.copied(alloc)?;
+    let note = LeanNote::kept(alloc, base, read, answer)?;
+    Ok((note, told))
+}
+
+// The note of an answer that is found again by these changes, and the answer.
+fn lean_and_told<'a>(
+    alloc: Global,
+    base: &'a IndexedView,
+    read: &Read<Id>,
+    answer: Answered,
+    changes: Vec<Delta>,
+) -> Result<(LeanNote<'a>, Answered), AllocError>
+    requires { answer ≡ says read.now (changed_by changes.items base.now) }
+    ensures note { IfOk result (λ found. found.0 ≡ record { read = read.now; answer = answer }) }
+    ensures answer { IfOk result (λ found. found.1 ≡ answer) }
+{
+    let told = answer.copied(alloc)?;
     let note = LeanNote::lean(alloc, base, read, answer, changes)?;
     Ok((note, told))
 }

@@ -1,5 +1,5 @@
 -- What changes make of a dataset, and of the part of it that a read asks for.
-use Rattle.std.proofs.Common.{◌≡◌, ℕ, zero, suc, set, ◌-◌, arith, ◌<◌, ◌≤◌, ◌+◌, ◌==◌, true, false, List, [], ◌∷◌, ◌++◌, length, take, get_or, refl, ap, sym, ◌∙◌}
+use Rattle.std.proofs.Common.{◌≡◌, ℕ, zero, suc, set, ◌-◌, arith, ◌<◌, ◌≤◌, ◌+◌, ◌==◌, false, List, [], ◌∷◌, ◌++◌, length, take, get_or, refl, ap, sym, ◌∙◌}
 use Rattle.std.proofs.lemmas.Bool.{false≢true}
 use Rattle.std.proofs.lemmas.List.{take_more}
 use Rattle.datasets.specs.Id.{id_order}

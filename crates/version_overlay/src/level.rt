@@ -130,8 +130,30 @@ impl Level {
         if coming.as_slice().is_empty() && !is_any_gone(alloc, scanned, pattern, &part, &going)? {
             return Ok(part);
         }
-        let (quads, _names) = part_of(alloc, scanned, part)?.into_parts();
-        let quads = QuadSet::of_changed(alloc, quads.into_list(), &going, &coming.as_slice())?;
+        self.with_coming(alloc, scanned, pattern, part, &coming.as_slice())
+    }
+
+    // The same, where these are the quads that come.
+    fn with_coming(
+        &self,
+        alloc: Global,
+        scanned: &Scanned<'_>,
+        pattern: &QuadPattern<Id>,
+        part: Option<View>,
+        coming: &QuadSlice<'_>,
+    ) -> Result<Option<View>, AllocError>
+        requires scan { scanned.now.read ≡ Read.Scan pattern.now }
+        requires coming { coming.now ≡ filter (matches id_order pattern.now) self.now.present }
+        ensures { IfOk result (λ next. (d : Dataset) → IsRising id_order d
+            → says scanned.now.read (part_or scanned.now.dataset part) ≡ says scanned.now.read d
+            → says scanned.now.read (part_or scanned.now.dataset next)
+            ≡ says scanned.now.read (applied self.now d)) }
+    {
+        let _ = pattern;
+        let (quads, names) = part_of(alloc, scanned, part)?.into_parts();
+        drop(names);
+        let going = self.change.absent();
+        let quads = QuadSet::of_changed(alloc, quads.into_list(), &going, coming)?;
         Ok(Some(View::from_sets(quads, Vec::new(alloc))))
     }
 }

@@ -143,12 +143,19 @@ impl Settled {
     ) -> Result<CompactView, AllocError>
         ensures { IfOk result (λ after. after ≡ changed_by self dataset) }
     {
-        let change = match self.levels.as_slice() {
-            [] => return Ok(dataset),
-            [earlier @ .., last] => joined(alloc, earlier, last)?,
-        };
+        if self.levels.is_empty() {
+            drop(self);
+            return Ok(dataset);
+        }
+        let change = all_joined(alloc, self.levels.as_slice());
         drop(self);
-        change.apply_compact(alloc, dataset)
+        match change {
+            Ok(change) => change.apply_compact(alloc, dataset),
+            Err(error) => {
+                drop(dataset);
+                Err(error)
+            }
+        }
     }
 }
 
@@ -160,6 +167,17 @@ fn says_nothing(delta: &Delta) -> bool
         && delta.absent().is_empty()
         && delta.there().is_empty()
         && delta.gone().is_empty()
+}
+
+// All these changes as one.
+fn all_joined(alloc: Global, levels: &[Level]) -> Result<Delta, AllocError>
+    requires { 1 ≤ length levels.now }
+    ensures { IfOk result (λ change. (d : Dataset) → applied change d ≡ changed_by levels.now d) }
+{
+    match levels {
+        [] => unreachable!(),
+        [earlier @ .., last] => joined(alloc, earlier, last),
+    }
 }
 
 // These changes and then the last one, as one. It begins with the last two, so that an early one is copied once.

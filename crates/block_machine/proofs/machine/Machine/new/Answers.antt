@@ -7,5 +7,5 @@ use Rattle.block_machine.proofs.machine.Machine.new.Goals as goal
 
 pub invariant_of-result : goal.invariant_of-result
 invariant_of-result c =
-    keeps_new c.in_ok-new.field-0 c.args.size c.in_ok-new-2.field-0 c.in_ok-new.ensures
-    (standings_new c.in_ok-new.field-0 c.in_ok-new-2.field-0 c.args.size c.args.size fresh_slot (standing_of fresh_slot) refl refl refl c.in_ok-new.ensures c.in_ok-new-2.ensures)
+    keeps_new c.in_ok-slots.slots c.args.size c.in_ok-standings.standings c.in_ok-slots.ensures
+    (standings_new c.in_ok-slots.slots c.in_ok-standings.standings c.args.size c.args.size fresh_slot (standing_of fresh_slot) refl refl refl c.in_ok-slots.ensures c.in_ok-standings.ensures)
