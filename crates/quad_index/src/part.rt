@@ -14,7 +14,7 @@ use crate::narrow::{known_matching, narrow_set};
 use crate::quad_list::QuadList;
 use datasets::{Id, Quad, QuadPattern};
 use radix::is_set;
-use sets::set_of;
+use sets::{Exact, set_of};
 use std::alloc::{AllocError, Global};
 
 /// Quads one after another, lent: all of known terms, or any.
@@ -30,6 +30,21 @@ fn item_at<T: Copy>(items: &[T], place: usize) -> T
     ensures { result ≡ get_or items.now place result }
 {
     items[place]
+}
+
+// Whether others are the same items, in the same places.
+fn same_items<T: Exact>(items: &[T], others: &[T]) -> bool
+    ensures { IsTrue result ↔ (items.now ≡ others.now) }
+{
+    if items.len() != others.len() {
+        return false;
+    }
+    for place in 0..items.len() {
+        if !items[place].cmp(&others[place]).is_eq() {
+            return false;
+        }
+    }
+    true
 }
 
 impl Part<'_> {
@@ -56,6 +71,16 @@ impl Part<'_> {
 
     /// Whether others are the same quads, in the same places.
     pub fn is_same(&self, other: &Part<'_>) -> bool
+        ensures { IsTrue result ↔ (quads_of_part self.now ≡ quads_of_part other.now) }
+    {
+        match (self, other) {
+            (Part::Narrow(known), Part::Narrow(others)) => same_items(known, others),
+            _ => self.is_same_widened(other),
+        }
+    }
+
+    // The same, where each quad is widened.
+    fn is_same_widened(&self, other: &Part<'_>) -> bool
         ensures { IsTrue result ↔ (quads_of_part self.now ≡ quads_of_part other.now) }
     {
         if self.len() != other.len() {

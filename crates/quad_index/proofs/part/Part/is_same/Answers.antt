@@ -1,55 +1,29 @@
-use Rattle.std.specs.Prelude.{true, false}
-use Rattle.std.proofs.Common.{rules, ◌≡◌, ◌<◌, ℕ, List, [], ◌∷◌, length, get_or, below_more, refl, sym, ap, ◌∙◌, arith}
-use Rattle.std.proofs.lemmas.Bool.{false≢true}
-use Rattle.std.proofs.lemmas.List.{get_or_read, ext_get_or}
+use Rattle.std.proofs.Common.{◌≡◌, List, [], ◌∷◌, length, map, get_or, drop, refl, sym, ap, ◌∙◌, arith}
 use Rattle.std.specs.Cmp.{tied_itself}
-use Rattle.std.specs.Ordering.{eq_by_cmp, is_eq}
-use Rattle.sets.proofs.SetLaws.{exact_by}
-use Rattle.datasets.specs.declared.id.Id.{Id}
-use Rattle.datasets.specs.declared.quad.Quad.{Quad}
-use Rattle.datasets.specs.Id.{id_order, id_total, id_exact, quad_total, quad_exact}
+use Rattle.datasets.specs.Id.{id_order, id_total, quad_total}
 use Rattle.datasets.specs.Dataset.{quad_order}
+use Rattle.quad_index.specs.declared.known.KnownQuad.{KnownQuad}
+use Rattle.quad_index.specs.Known.{quad_of}
+use Rattle.quad_index.specs.KnownOrder.{known_exact}
 use Rattle.quad_index.specs.Part.{quads_of_part}
 use Rattle.quad_index.proofs.part.Part.is_same.Goals as goal
 
-module _ (xs ys : List (Quad Id)) (place : ℕ) (x y : Quad Id) (long : length xs ≡ length ys) (within : place < length xs) (left : x ≡ get_or xs place x) (right : y ≡ get_or ys place y) where
-  same_here : eq_by_cmp (quad_order id_order) x y ≡ true → (d : Quad Id) → get_or xs place d ≡ get_or ys place d
-  same_here e d =
-      sym (get_or_read xs place x within left d)
-      ∙ exact_by (quad_total id_total) (quad_exact id_order id_exact) x y e
-      ∙ get_or_read ys place y (omega (arith, long, within)) right d
+alike : (a b : KnownQuad) → quad_of a ≡ quad_of b → a ≡ b
+alike a b e = known_exact a b (ap (λ q. quad_order id_order (quad_of a) q) (sym e) ∙ tied_itself (quad_total id_total) (quad_of a))
 
-  differs : eq_by_cmp (quad_order id_order) x y ≡ false → xs ≡ ys → false ≡ true
-  differs e same =
-      let one : x ≡ y = get_or_read xs place x within left y ∙ ap (λ zs. get_or zs place y) same ∙ sym right in
-      sym e ∙ ap (eq_by_cmp (quad_order id_order) x) (sym one) ∙ ap is_eq (tied_itself (quad_total id_total) x)
+narrowed : (xs ys : List KnownQuad) → map quad_of xs ≡ map quad_of ys → xs ≡ ys
+narrowed [] [] e = refl
+narrowed [] (y ∷ ys) e = absurd (omega (arith, ap length e))
+narrowed (x ∷ xs) [] e = absurd (omega (arith, ap length e))
+narrowed (x ∷ xs) (y ∷ ys) e =
+    let first = alike x y (ap (λ zs. get_or zs 0 (quad_of x)) e) in
+    let rest = narrowed xs ys (ap (drop 1) e) in
+    λ i. first i ∷ rest i
 
-pub returns-then-not-is_eq : goal.returns-then-not-is_eq
-returns-then-not-is_eq c =
-    let within = c.loop-place-test.true in
-    let other : eq_by_cmp (quad_order id_order) c.get.result c.get-in-loop-place.result ≡ false = search rules in (
-      λ h. absurd (false≢true h),
-      λ same. differs (quads_of_part c.args.self.now) (quads_of_part c.args.other.now) c.loop-place.place c.get.result c.get-in-loop-place.result c.loop-place.invariant.long (omega arith) c.get.ensures c.get-in-loop-place.ensures other same,
-    )
-
-pub loop-place-preserved : goal.loop-place-preserved
-loop-place-preserved c =
-    let within = c.loop-place-test.true in
-    let same : eq_by_cmp (quad_order id_order) c.get.result c.get-in-loop-place.result ≡ true = search rules in
-    record {
-      long = c.loop-place.invariant.long;
-      alike = λ d.
-          below_more (λ k. get_or (quads_of_part c.args.self.now) k d ≡ get_or (quads_of_part c.args.other.now) k d) _ (c.loop-place.invariant.alike d)
-          (same_here (quads_of_part c.args.self.now) (quads_of_part c.args.other.now) c.loop-place.place c.get.result c.get-in-loop-place.result c.loop-place.invariant.long (omega arith) c.get.ensures c.get-in-loop-place.ensures same d);
-    }
-
-same_lists : (xs ys : List (Quad Id)) → length xs ≡ length ys → ((d : Quad Id) (k : ℕ) → k < length xs → get_or xs k d ≡ get_or ys k d) → xs ≡ ys
-same_lists [] [] long alike = refl
-same_lists [] (y ∷ ys) long alike = absurd (omega (arith, long))
-same_lists (x ∷ xs) ys long alike = ext_get_or x (x ∷ xs) ys long (alike x)
-
-pub returns : goal.returns
-returns c = (
-  λ h. same_lists (quads_of_part c.args.self.now) (quads_of_part c.args.other.now) c.loop-place.invariant.long (λ d k lt. c.loop-place.invariant.alike d k (omega arith)),
-  λ h. refl,
-)
+pub returns-in-Narrow-Narrow : goal.returns-in-Narrow-Narrow
+returns-in-Narrow-Narrow c =
+    let known = c.in-Narrow-Narrow.known.now in
+    let others = c.in-Narrow-Narrow.others.now in
+    let left : quads_of_part c.args.self.now ≡ map quad_of known = ap quads_of_part c.in-Narrow-Narrow.is-0 in
+    let right : quads_of_part c.args.other.now ≡ map quad_of others = ap quads_of_part c.in-Narrow-Narrow.is-1 in
+    (λ h. left ∙ ap (map quad_of) (c.same_items.ensures.0 h) ∙ sym right, λ e. c.same_items.ensures.1 (narrowed known others (sym left ∙ e ∙ right)))

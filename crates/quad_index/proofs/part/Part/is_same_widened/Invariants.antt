@@ -2,7 +2,7 @@ use Rattle.std.proofs.Common.{◌≡◌, ◌<◌, ℕ, length, get_or}
 use Rattle.datasets.specs.declared.id.Id.{Id}
 use Rattle.datasets.specs.declared.quad.Quad.{Quad}
 use Rattle.quad_index.specs.Part.{quads_of_part}
-use Rattle.quad_index.proofs.part.Part.is_same.Given as goal
+use Rattle.quad_index.proofs.part.Part.is_same_widened.Given as goal
 
 abbrev pub invariant-loop-place : goal.invariant-loop-place
 invariant-loop-place l = record {
