@@ -15,6 +15,6 @@ returns g c =
     let now = c.par_for_each_mut.new.s in
     let long : length now ≡ length was = c.par_for_each_mut.auto.s in
     let each : (k : ℕ) → k < length now → get_or now k any ≡ get_or (map placed was) k any = λ k lt.
-        let at = (c.par_for_each_mut.ensures k any (omega (arith, lt, long))).1 in
-        sym at.left ∙ at.call ∙ ap placed at.argument_is ∙ sym (get_or-map placed was k any any (omega (arith, lt, long))) in
+    let at = (c.par_for_each_mut.ensures k any (omega (arith, lt, long))).1 in
+    sym at.left ∙ at.call ∙ ap placed at.argument_is ∙ sym (get_or-map placed was k any any (omega (arith, lt, long))) in
     ext_get_or any now (map placed was) (long ∙ sym (length-map was placed)) each
