@@ -87,8 +87,11 @@ pub fn number<H: Hands>(
     let numbered = number_block(alloc, base.terms(), asked.as_slice(), ids.as_slice(), block);
     drop(asked);
     drop(ids);
-    Ok(Numbered {
-        base,
-        block: numbered?,
-    })
+    match numbered {
+        Ok(block) => Ok(Numbered { base, block }),
+        Err(error) => {
+            drop(base);
+            Err(error)
+        }
+    }
 }

@@ -15,11 +15,11 @@ number_block-numbered-requires g c =
     ap (λ (ts : List Term). list_all (request_known (is_held ts)) c.args.block) c.terms.ensures
     ∙ block_held held c.args.block (c.in_ok-terms.ensures held c.in_ok-base.ensures.held)
 
-pub returns : goal.returns
-returns g c =
-    let requests : List (Request Id) = c.in_ok-numbered.field-0.items in
+pub returns-in-Ok : goal.returns-in-Ok
+returns-in-Ok g c =
+    let requests : List (Request Id) = c.in-Ok.block.items in
     record {
       base = c.in_ok-base.ensures.base;
-      block_is = ap (λ (ts : List Term). map (renamed_request (term_of ts)) requests) (sym c.terms.ensures) ∙ c.in_ok-numbered.ensures.renamed;
-      block_known = ap (λ (ts : List Term). list_all (request_known (is_known ts)) requests) (sym c.terms.ensures) ∙ c.in_ok-numbered.ensures.known;
+      block_is = ap (λ (ts : List Term). map (renamed_request (term_of ts)) requests) (sym c.terms.ensures) ∙ c.in-Ok.ensures.renamed;
+      block_known = ap (λ (ts : List Term). list_all (request_known (is_known ts)) requests) (sym c.terms.ensures) ∙ c.in-Ok.ensures.known;
     }

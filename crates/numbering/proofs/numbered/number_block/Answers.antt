@@ -1,6 +1,5 @@
-use Rattle.std.proofs.Common.{◌≡◌, sym, ap, ◌∙◌, List, map, true}
+use Rattle.std.proofs.Common.{sym, ap, ◌∙◌, List, map}
 use Rattle.std.specs.List.{list_all}
-use Rattle.datasets.specs.declared.id.Id.{Id}
 use Rattle.terms.specs.declared.term.Term.{Term}
 use Rattle.dict.specs.Dictionary.{term_of, is_known}
 use Rattle.meaning.specs.Run.{Request}
