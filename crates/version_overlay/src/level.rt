@@ -138,18 +138,17 @@ impl Level {
         &self,
         alloc: Global,
         scanned: &Scanned<'_>,
-        pattern: &QuadPattern<Id>,
+        _pattern: &QuadPattern<Id>,
         part: Option<View>,
         coming: &QuadSlice<'_>,
     ) -> Result<Option<View>, AllocError>
-        requires scan { scanned.now.read ≡ Read.Scan pattern.now }
-        requires coming { coming.now ≡ filter (matches id_order pattern.now) self.now.present }
+        requires scan { scanned.now.read ≡ Read.Scan _pattern.now }
+        requires coming { coming.now ≡ filter (matches id_order _pattern.now) self.now.present }
         ensures { IfOk result (λ next. (d : Dataset) → IsRising id_order d
             → says scanned.now.read (part_or scanned.now.dataset part) ≡ says scanned.now.read d
             → says scanned.now.read (part_or scanned.now.dataset next)
             ≡ says scanned.now.read (applied self.now d)) }
     {
-        let _ = pattern;
         let (quads, names) = part_of(alloc, scanned, part)?.into_parts();
         drop(names);
         let going = self.change.absent();

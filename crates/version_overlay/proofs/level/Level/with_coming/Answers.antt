@@ -15,5 +15,5 @@ returns c d rising alike =
     let order = quad_order id_order in
     let going_is = c.absent-going.ensures.value ∙ ap (λ (x : Delta). x.absent) c.self.view_is in
     let list_is = c.into_list.ensures ∙ c.into_parts-quads.ensures.quads in
-    scan_changed c.args.scanned.now.read c.args.pattern.now c.requires.scan c.args.self.now c.in_ok-part_of.field-0 d (c.in_ok-part_of.ensures ∙ alike) c.from_sets.result
+    scan_changed c.args.scanned.now.read c.args._pattern.now c.requires.scan c.args.self.now c.in_ok-part_of.field-0 d (c.in_ok-part_of.ensures ∙ alike) c.from_sets.result
     (ap (λ (v : View). v.quads) c.from_sets.ensures ∙ c.in_ok-quads.ensures ∙ (λ i. union order (without order (list_is i) (going_is i)) (c.requires.coming i)))
