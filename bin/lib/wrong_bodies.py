@@ -61,7 +61,7 @@ def functions_at(found, crate):
     for file, byte in found:
         line, column = places(texts.get(file, ""))(byte)
         within = [it.function for it in spans.get(file, []) if it.start <= (line, column) < it.end]
-        constant = re.match(r"(?:pub )?const (\w+):", texts.get(file, "").split("\n")[line - 1])
+        constant = re.match(r"(?:pub(?:\(crate\))? )?const (\w+):", texts.get(file, "").split("\n")[line - 1])
         if not within and constant:
             within = [it.function for of_file, own in spans.items() for it in own if re.search(rf"\b{constant[1]}\b", it.text(texts[of_file]))]
         if not within:

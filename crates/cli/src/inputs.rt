@@ -21,6 +21,9 @@ use terms::DataSet;
 /// The most bytes of a block.
 const MOST_BLOCK_BYTES: usize = 268_435_456;
 
+/// So many bytes of a base come while those before them are read by several threads.
+const PORTION_BYTES: u32 = 8_388_608;
+
 /// What the program tells of a base that was not read.
 fn base_fault(fault: BaseFault) -> Fault
     ensures { result ≡ the_base_fault fault }
@@ -82,7 +85,7 @@ pub fn read_base_by<T: Threads + Sync, R: Read>(
         reader.new.failures }
     ensures others { TellsNoOther File.Base result }
 {
-    match nquads::read_by(rt, alloc, reader, threads as usize) {
+    match nquads::read_by(rt, alloc, reader, threads as usize, PORTION_BYTES) {
         Ok(dataset) => Ok(dataset),
         Err(fault) => Err(base_fault(fault)),
     }

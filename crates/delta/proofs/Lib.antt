@@ -1,3 +1,4 @@
 pub mod Equal
 pub mod Asked
 pub mod Composed
+pub mod Spans

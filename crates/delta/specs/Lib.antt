@@ -1,3 +1,4 @@
 pub mod Same
 pub mod Sound
 pub mod Shared
+pub mod GraphSpan

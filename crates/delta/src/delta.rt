@@ -6,8 +6,10 @@ ghost use Rattle.sets.specs.Sets.{has, set_of as the_set_of};
 ghost use Rattle.datasets.specs.Id.{id_order};
 ghost use Rattle.datasets.specs.Dataset.{quad_order, matches};
 ghost use Rattle.reads.specs.Reads.{View as Dataset, says, applied, covers as the_covers, no_change};
+ghost use Rattle.delta.specs.GraphSpan.{AreWithin};
 ghost use Rattle.delta.specs.Same.{delta_eq};
 
+use crate::graph_span::GraphSpan;
 use crate::lists::{has_names, names_after, same_sets};
 use crate::parts::Parts;
 use datasets::{Id, Quad, QuadPattern, Read};
@@ -79,15 +81,49 @@ impl Delta {
         ensures { IfOk result (λ change. change
             ≡ record { present = present; absent = absent; there = there.items; gone = gone.items }) }
     {
+        let span = GraphSpan::new()
+            .with_all(&present.as_slice())
+            .with_all(&absent.as_slice());
+        Delta::within(alloc, present, absent, there, gone, span)
+    }
+
+    // The same, where the quads lie between these graphs.
+    fn within(
+        alloc: Global,
+        present: QuadSet,
+        absent: QuadSet,
+        there: Vec<Id>,
+        gone: Vec<Id>,
+        span: GraphSpan,
+    ) -> Result<Self, AllocError>
+        requires there { IsStrictlySortedBy id_order there.items }
+        requires gone { IsStrictlySortedBy id_order gone.items }
+        requires present { AreWithin span present }
+        requires absent { AreWithin span absent }
+        ensures { IfOk result (λ change. change
+            ≡ record { present = present; absent = absent; there = there.items; gone = gone.items }) }
+    {
         let parts = Parts {
             present,
             absent,
             there,
             gone,
+            span,
         };
         Ok(Delta {
             parts: Some(Arc::new(alloc, parts)?),
         })
+    }
+
+    // Whether any quad that it speaks of matches.
+    fn has_match(&self, pattern: &QuadPattern<Id>) -> bool
+        ensures { result ≡ (list_any (matches id_order pattern.now) self.now.present
+            || list_any (matches id_order pattern.now) self.now.absent) }
+    {
+        match &self.parts {
+            Some(parts) => parts.has_match(pattern),
+            None => false,
+        }
     }
 
     /// The quads that come to be present.
@@ -140,9 +176,7 @@ impl Delta {
         ensures { result ≡ the_covers self.now read.now }
     {
         match read {
-            Read::Scan(pattern) => {
-                self.present().has_match(pattern) || self.absent().has_match(pattern)
-            }
+            Read::Scan(pattern) => self.has_match(pattern),
             Read::GraphIs(name) => is_member(self.there(), name) || is_member(self.gone(), name),
             Read::Graphs => has_names(self.there()) || has_names(self.gone()),
         }
@@ -240,7 +274,8 @@ impl Delta {
         let there = names_after(alloc, own, later.gone(), later.there())?;
         let left = copied_names(alloc, self.gone())?;
         let gone = names_union(left, copied_names(alloc, later.gone())?)?;
-        Delta::from_sets(alloc, present, absent, there, gone)
+        // The more is laid together, the less would it tell between which graphs that lies.
+        Delta::within(alloc, present, absent, there, gone, GraphSpan::Any)
     }
 
     /// The same change again, with the same lists. It takes no memory, and fails only where they have too many owners.

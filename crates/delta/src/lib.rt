@@ -7,6 +7,7 @@
 
 mod delta;
 mod finished;
+mod graph_span;
 pub mod laws;
 mod lists;
 mod parts;

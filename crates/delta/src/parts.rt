@@ -1,10 +1,12 @@
 //! What a change speaks of, as sets.
-ghost use Rattle.std.specs.Prelude.{◌≡◌};
+ghost use Rattle.std.specs.Prelude.{◌≡◌, ◌||◌};
+ghost use Rattle.std.specs.List.{list_any};
 ghost use Rattle.std.specs.List.Sorted.{IsStrictlySortedBy};
 ghost use Rattle.datasets.specs.Id.{id_order};
-ghost use Rattle.datasets.specs.Dataset.{quad_order};
+ghost use Rattle.datasets.specs.Dataset.{quad_order, matches};
 
-use datasets::Id;
+use crate::graph_span::GraphSpan;
+use datasets::{Id, QuadPattern};
 use quad_sets::{QuadSet, QuadSlice};
 use std::marker::Model;
 
@@ -15,6 +17,8 @@ pub struct Parts {
     pub absent: QuadSet,
     pub there: Vec<Id>,
     pub gone: Vec<Id>,
+    /// Between which graphs the quads lie, so that most scans of other graphs need no search.
+    pub span: GraphSpan,
 }
 
 impl Model for Parts {
@@ -27,8 +31,9 @@ impl Model for Parts {
 
     ghost use Rattle.std.specs.List.Sorted.{IsStrictlySortedBy};
     ghost use Rattle.datasets.specs.Id.{id_order};
+    ghost use Rattle.delta.specs.GraphSpan.{AreWithin};
 
-    ghost invariant = { λ p. IsStrictlySortedBy id_order p.there.items × IsStrictlySortedBy id_order p.gone.items };
+    ghost invariant = { λ p. IsStrictlySortedBy id_order p.there.items × IsStrictlySortedBy id_order p.gone.items × AreWithin p.span p.present × AreWithin p.span p.absent };
 }
 
 impl Parts {
@@ -46,6 +51,15 @@ impl Parts {
         ensures set { IsStrictlySortedBy (quad_order id_order) result }
     {
         self.absent.as_slice()
+    }
+
+    /// Whether any quad that it speaks of matches.
+    pub fn has_match(&self, pattern: &QuadPattern<Id>) -> bool
+        ensures { result ≡ (list_any (matches id_order pattern.now) self.now.present
+            || list_any (matches id_order pattern.now) self.now.absent) }
+    {
+        self.span.lets(&pattern.graph)
+            && (self.present().has_match(pattern) || self.absent().has_match(pattern))
     }
 
     /// The graphs that come to be there, by name.

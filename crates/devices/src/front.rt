@@ -1,6 +1,6 @@
 //! The first bytes that a reader gives.
 ghost use Rattle.std.specs.Prelude.{◌≡◌, ◌<◌, ◌+◌, ◌-◌, ◌^◌, IfOk, IfSome, if◌then◌else◌};
-ghost use Rattle.devices.specs.Front.{IsFront, is_device};
+ghost use Rattle.devices.specs.Front.{IsFront, IsFilled, is_device};
 ghost use Rattle.devices.specs.declared.front.ReadFault.TheVariants.{OutOfMemory, Device};
 
 use crate::watched::{Failed, Watched};
@@ -46,6 +46,32 @@ impl From<Failed> for ReadFault {
     }
 }
 
+/// Adds bytes of a reader to those that are there, until it has no more or there are more than the limit. Says whether it has no more.
+/// Nothing is read behind a failed read. `OutOfMemory` may come at any text, `Device` only where a read failed.
+pub fn fill<R: Read>(
+    reader: &mut Watched<R>,
+    bytes: &mut Vec<u8>,
+    limit: usize,
+) -> Result<bool, ReadFault>
+    requires failures { reader.old.failures < 2 ^ 64 - 1 }
+    requires limit { limit < 2 ^ 63 }
+    ensures filled { IfOk result (λ is_all. IsFilled limit (R.remaining reader.old.inner)
+        (R.remaining reader.new.inner) bytes.old.items bytes.new.items is_all) }
+    ensures count { reader.new.failures ≡ (if is_device result then reader.old.failures + 1
+        else reader.old.failures) }
+{
+    let mut buffer = [0u8; 65_536];
+    while bytes.len() <= limit {
+        let count = reader.read(&mut buffer)?;
+        if count == 0 {
+            return Ok(true);
+        }
+        let (given, _) = buffer.split_at(count);
+        bytes.extend_from_slice(given)?;
+    }
+    Ok(false)
+}
+
 /// The first bytes that a reader gives: all of them, or more than the limit. Nothing is read behind a failed read. `OutOfMemory` may come at
 /// any text, `Device` only where a read failed.
 pub fn front_of<R: Read>(
@@ -61,15 +87,7 @@ pub fn front_of<R: Read>(
         else reader.old.failures) }
 {
     let mut bytes = Vec::new(alloc);
-    let mut buffer = [0u8; 65_536];
-    while bytes.len() <= limit {
-        let count = reader.read(&mut buffer)?;
-        if count == 0 {
-            return Ok(bytes);
-        }
-        let (given, _) = buffer.split_at(count);
-        bytes.extend_from_slice(given)?;
-    }
+    fill(reader, &mut bytes, limit)?;
     Ok(bytes)
 }
 

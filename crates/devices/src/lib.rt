@@ -7,5 +7,5 @@
 mod front;
 mod watched;
 
-pub use front::{ReadFault, all_of, front_of};
+pub use front::{ReadFault, all_of, fill, front_of};
 pub use watched::{Failed, Watched};

@@ -1,5 +1,8 @@
-//! Texts that are read in pieces, by several threads.
+//! Texts that are read in portions, and in pieces by several threads.
+ghost use Rattle.std.specs.Prelude.{◌≡◌};
+
 use crate::made::fault_of;
+use crate::slow_devices::Slow;
 use crate::texts::{BAD, TEXTS, is_bad_at};
 use devices::Watched;
 use nquads::{
@@ -10,7 +13,27 @@ use std::process::Abort;
 use std::thread::Threads;
 use terms::DataSet;
 
-const THREADS: [usize; 5] = [0, 1, 2, 3, 8];
+/// So many threads, and portions of more than so many bytes.
+const WAYS: [(usize, u32); 8] = [
+    (0, 1000),
+    (1, 1000),
+    (1, 5),
+    (2, 1000),
+    (2, 0),
+    (3, 1000),
+    (8, 1000),
+    (8, 20),
+];
+
+/// A reader that gives one byte of a text at a time.
+fn slow(text: &[u8]) -> Watched<Slow<'_>>
+    ensures { result.failures ≡ 0 }
+{
+    Watched::new(Slow {
+        rest: text,
+        good_reads: 1_000_000,
+    })
+}
 
 /// Texts that are cut at several places, and the canonical text of what each spells.
 const CUT: [(&str, &str); 9] = [
@@ -102,10 +125,11 @@ fn is_read<T: Threads + Sync>(
     alloc: Global,
     text: &str,
     threads: usize,
+    portion: u32,
     canonical: &str,
 ) -> Result<bool, BaseFault> {
-    let mut reader = Watched::new(text.as_bytes());
-    let dataset = read_by(rt, alloc, &mut reader, threads)?;
+    let mut reader = slow(text.as_bytes());
+    let dataset = read_by(rt, alloc, &mut reader, threads, portion)?;
     let is_told = is_told_alike(rt, alloc, &dataset, threads, canonical);
     drop(dataset);
     Ok(is_told? && reader.failures == 0)
@@ -116,11 +140,11 @@ fn check_table<T: Threads + Sync + Abort>(
     alloc: Global,
     table: &[(&str, &str)],
 ) -> Result<(), BaseFault> {
-    for threads in &THREADS {
+    for (threads, portion) in &WAYS {
         for (text, canonical) in table {
             assert!(rt;
-                is_read(rt, alloc, text, *threads, canonical)?,
-                "{threads} {text:?}"
+                is_read(rt, alloc, text, *threads, *portion, canonical)?,
+                "{threads} {portion} {text:?}"
             );
         }
     }
@@ -148,10 +172,10 @@ fn check_bad<T: Threads + Sync + Abort>(
     alloc: Global,
     table: &[(&[u8], usize)],
 ) -> Result<(), BaseFault> {
-    for threads in &THREADS {
+    for (threads, portion) in &WAYS {
         for (text, number) in table {
-            let outcome = read_by(rt, alloc, &mut Watched::new(*text), *threads);
-            assert!(rt; is_bad_at(outcome, *number)?, "{threads} {text:?}");
+            let outcome = read_by(rt, alloc, &mut slow(text), *threads, *portion);
+            assert!(rt; is_bad_at(outcome, *number)?, "{threads} {portion} {text:?}");
         }
     }
     Ok(())

@@ -3,7 +3,7 @@ ghost use Rattle.std.specs.Prelude.{◌<◌, ◌-◌, ◌^◌};
 
 use crate::made::{TWO_GRAPHS, fault_of, two_graphs};
 use devices::Watched;
-use nquads::{BaseFault, WriteFault, canonical_text, read, write};
+use nquads::{BaseFault, WriteFault, canonical_text, read, read_by, write};
 use std::alloc::{AllocError, Global};
 use std::io;
 use std::io::{Read, Write};
@@ -12,9 +12,9 @@ use terms::DataSet;
 
 /// A reader that gives one byte at a time, and fails at a read that is counted down to.
 #[derive(Drop)]
-struct Slow<'a> {
-    rest: &'a [u8],
-    good_reads: usize,
+pub struct Slow<'a> {
+    pub rest: &'a [u8],
+    pub good_reads: usize,
 }
 
 impl Read for Slow<'_> {
@@ -103,6 +103,21 @@ fn each_read_fails_once(rt: HostRuntime) -> Result<(), Fail> {
             good_reads,
         });
         let outcome = read(rt.alloc(), &mut reader);
+        let fault = fault_of(outcome)?;
+        assert!(rt; matches!(fault, Some(BaseFault::Device)), "{good_reads}");
+        assert_eq!(rt; reader.failures, 1);
+    }
+    Ok(())
+}
+
+#[test]
+fn each_read_fails_once_by_threads(rt: HostRuntime) -> Result<(), Fail> {
+    for good_reads in 0..=TEXT.len() {
+        let mut reader = Watched::new(Slow {
+            rest: TEXT,
+            good_reads,
+        });
+        let outcome = read_by(&rt, rt.alloc(), &mut reader, 2, 5);
         let fault = fault_of(outcome)?;
         assert!(rt; matches!(fault, Some(BaseFault::Device)), "{good_reads}");
         assert_eq!(rt; reader.failures, 1);

@@ -55,10 +55,10 @@ front_within-front bytes rest n h =
 
 -- ---- what is answered
 
-within : (text : List ℕ) (limit : ℕ) → length text ≤ limit → counted_lines limit text ≡ lines text
+pub within : (text : List ℕ) (limit : ℕ) → length text ≤ limit → counted_lines limit text ≡ lines text
 within text limit h = rw (le-leb (length text) limit h) refl
 
-beyond : (text : List ℕ) (limit : ℕ) → limit < length text → counted_lines limit text ≡ ended_lines limit text
+pub beyond : (text : List ℕ) (limit : ℕ) → limit < length text → counted_lines limit text ≡ ended_lines limit text
 beyond text limit h = rw (lt-leb (length text) limit h) refl
 
 longer : (limit : ℕ) (text bytes : List ℕ) → IsFront limit text bytes → limit < length bytes → limit < length text
@@ -92,7 +92,7 @@ module _ (read : LinesAreRead) where
   first_bad_is ls n e = let b = check_lines_bad ls 0 n e in subst (IsFirstBadOf ls) (let same : n - 0 ≡ n = omega arith in same) b.all
 
   -- lines of which none is bad
-  all_good : (ls : List (List ℕ)) (m : ℕ) → first_bad m ls ≡ None → (said : List Line) × AreLines ls said
+  pub all_good : (ls : List (List ℕ)) (m : ℕ) → first_bad m ls ≡ None → (said : List Line) × AreLines ls said
   all_good [] m e = ([], none)
   all_good (l ∷ ls) m e =
       elim (line_of l) as (λ o. line_of l ≡ o → option_map_or (λ said. first_bad (m + 1) ls) o (Some (m + 1)) ≡ None → (said : List Line) × AreLines (l ∷ ls) said) [

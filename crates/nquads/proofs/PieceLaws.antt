@@ -18,7 +18,7 @@ use Rattle.nquads.specs.Pieces.{ArePieces}
 -- ---- the lines of two pieces
 
 -- the lines before what follows the LF, and that there is one where no CR came before
-abbrev Before : (cr : Bool) → ((List ℕ) → List (List ℕ)) → Type 0
+abbrev pub Before : (cr : Bool) → ((List ℕ) → List (List ℕ)) → Type 0
 Before cr all = (before : List (List ℕ)) × ((ys : List ℕ) → all ys ≡ before ++ lines_after false ys) × (cr ≡ false → (first : List ℕ) × (others : List (List ℕ)) × (before ≡ first ∷ others))
 
 -- one byte more in front, by whether it is an LF or a CR
@@ -31,7 +31,7 @@ one_byte false false cr b after inner x y =
     let some = y.2 refl in
     ((b ∷ some.0) ∷ some.1, λ ys. ap (onto_first b) (y.1 ys ∙ ap (λ ls. ls ++ lines_after false ys) some.2), λ e. (b ∷ some.0, some.1, refl))
 
-lines_before : (front : List ℕ) (cr : Bool) → Before cr (λ ys. lines_after cr (front ++ 10 ∷ ys))
+pub lines_before : (front : List ℕ) (cr : Bool) → Before cr (λ ys. lines_after cr (front ++ 10 ∷ ys))
 lines_before [] true = ([], λ ys. refl, λ e. absurd cc)
 lines_before [] false = ([] ∷ [], λ ys. refl, λ e. ([], [], refl))
 lines_before (b ∷ bs) cr =
@@ -40,12 +40,12 @@ lines_before (b ∷ bs) cr =
 -- ---- what they say
 
 module _ where
-  are_both : {xs ys : List (List ℕ)} {s t : List Line} → AreLines xs s → AreLines ys t → AreLines (xs ++ ys) (s ++ t)
+  pub are_both : {xs ys : List (List ℕ)} {s t : List Line} → AreLines xs s → AreLines ys t → AreLines (xs ++ ys) (s ++ t)
   are_both none h = h
   are_both (more is later) h = more is (are_both later h)
 
   -- lines in two parts
-  in_parts : (xs ys : List (List ℕ)) (said : List Line) → AreLines (xs ++ ys) said → (s : List Line) × (t : List Line) × AreLines xs s × AreLines ys t × (said ≡ s ++ t)
+  pub in_parts : (xs ys : List (List ℕ)) (said : List Line) → AreLines (xs ++ ys) said → (s : List Line) × (t : List Line) × AreLines xs s × AreLines ys t × (said ≡ s ++ t)
   in_parts [] ys said h = ([], said, none, h, refl)
   in_parts (x ∷ xs) ys [] h = elim h [ ]
   in_parts (x ∷ xs) ys (l ∷ said) (more is later) =
@@ -72,7 +72,7 @@ module _ (read : LinesAreRead) where
       let e : Some Nothing ≡ Some said = sym ((read [] Nothing).1 empty) ∙ (read [] said).1 is in
       cc
 
-  last_says : (t : List Line) → AreLines ([] ∷ []) t → t ≡ Nothing ∷ []
+  pub last_says : (t : List Line) → AreLines ([] ∷ []) t → t ≡ Nothing ∷ []
   last_says [] h = elim h [ ]
   last_says (l ∷ []) (more is later) = ap (λ x. x ∷ []) (empty_line l is)
   last_says (l ∷ k ∷ t) (more is later) = elim later [ ]

@@ -8,6 +8,7 @@ use Rattle.nquads_lines.specs.declared.stop.Line.{Line}
 use Rattle.nquads_lines.specs.declared.stop.Line.TheVariants.{Nothing, Graph, Statement}
 use Rattle.nquads.specs.declared.fault.BaseFault.{BaseFault}
 use Rattle.nquads.specs.declared.fault.BaseFault.TheVariants as fault
+use Rattle.nquads.specs.declared.reader.ReadText.{ReadText}
 use Rattle.nquads_lines.specs.Reading.{line_of}
 
 -- the dataset with what a line says
@@ -38,3 +39,8 @@ Reads (Err fault.OutOfMemory) read = Unit {0}
 Reads (Err (fault.BadLine n)) read = read ≡ Err n
 Reads (Err fault.TooLong) read = ⊥
 Reads (Err fault.Device) read = ⊥
+
+-- the same of a text that is read with the number of its lines
+abbrev pub ReadsText : Result ReadText BaseFault → Result (Dataset Term) ℕ → Type 0
+ReadsText (Ok text) read = read ≡ Ok text.dataset
+ReadsText (Err e) read = Reads (Err e) read

@@ -8,22 +8,20 @@ ghost use Rattle.nquads.specs.Whole.{Faults};
 ghost use Rattle.nquads_lines.specs.Reading.{line_of};
 
 use crate::fault::BaseFault;
-use crate::pieces::read_pieces;
 use crate::reader::{read_line, read_lines};
 use devices::{Watched, front_of};
 use nquads_lines::first_line;
 use nquads_lines::laws::lines_are_read;
 use std::alloc::Global;
 use std::io::Read;
-use std::thread::{Threads, spawn};
 use terms::DataSet;
 use terms::laws::lists_grow_as_datasets;
 
 /// The most bytes of a base.
-const MOST_BYTES: usize = 1_073_741_824;
+pub(crate) const MOST_BYTES: usize = 1_073_741_824;
 
 /// The front of a text in which each line but the last has its end.
-fn ended_front(bytes: &[u8], limit: usize) -> &[u8]
+pub(crate) fn ended_front(bytes: &[u8], limit: usize) -> &[u8]
     requires long { limit < length bytes.now }
     requires some { 0 < limit }
     ensures { result.now ≡ front_within limit bytes.now }
@@ -60,7 +58,7 @@ fn check_line(alloc: Global, line: &[u8], number: usize) -> Result<(), BaseFault
 }
 
 /// Whether no line but the last is bad, or the first that is.
-fn check_lines(alloc: Global, bytes: &[u8]) -> Result<(), BaseFault>
+pub(crate) fn check_lines(alloc: Global, bytes: &[u8]) -> Result<(), BaseFault>
     ensures { Checks result (first_bad 0 (but_last (lines bytes.now))) }
 {
     let mut number = 0;
@@ -90,27 +88,6 @@ fn answer(alloc: Global, bytes: &[u8], limit: usize) -> Result<DataSet, BaseFaul
     }
 }
 
-/// The same answer, where a text within the limit is read in pieces by so many threads.
-fn answer_by<T: Threads + Sync>(
-    rt: &T,
-    alloc: Global,
-    bytes: &[u8],
-    limit: usize,
-    threads: usize,
-) -> Result<DataSet, BaseFault>
-    requires { 0 < limit }
-    ensures answer { (text : List ℕ) → IsFront limit text bytes.now → IsAnswer limit text result }
-    ensures device { is_device result ≡ false }
-{
-    if 1 < threads && bytes.len() <= limit {
-        if let Ok(dataset) = read_pieces(rt, alloc, bytes, threads) {
-            return Ok(dataset);
-        }
-    }
-    // The first bad line of a piece may not be that of the text, and one table may have room where several have not.
-    answer(alloc, bytes, limit)
-}
-
 fn read_within<R: Read>(
     alloc: Global,
     reader: &mut Watched<R>,
@@ -136,42 +113,4 @@ pub fn read<R: Read>(alloc: Global, reader: &mut Watched<R>) -> Result<DataSet, 
         else reader.old.failures) }
 {
     read_within(alloc, reader, MOST_BYTES)
-}
-
-fn read_within_by<T: Threads + Sync, R: Read>(
-    rt: &T,
-    alloc: Global,
-    reader: &mut Watched<R>,
-    limit: usize,
-    threads: usize,
-) -> Result<DataSet, BaseFault>
-    requires failures { reader.old.failures < 2 ^ 64 - 1 }
-    requires some { 0 < limit }
-    requires limit { limit < 2 ^ 32 }
-    ensures answer { IfSome (R.remaining reader.old.inner) (λ text. IsAnswer limit text result) }
-    ensures count { reader.new.failures ≡ (if is_device result then reader.old.failures + 1
-        else reader.old.failures) }
-{
-    let bytes = front_of(alloc, reader, limit)?;
-    let answer = answer_by(rt, alloc, bytes.as_slice(), limit, threads);
-    if 1 < threads {
-        // Nobody waits until they are let go.
-        let _ = spawn(rt, move || drop(bytes));
-    }
-    answer
-}
-
-/// The same as `read`, by so many threads: the text is read in as many pieces, each by a thread of its own where one can be had.
-pub fn read_by<T: Threads + Sync, R: Read>(
-    rt: &T,
-    alloc: Global,
-    reader: &mut Watched<R>,
-    threads: usize,
-) -> Result<DataSet, BaseFault>
-    requires { reader.old.failures < 2 ^ 64 - 1 }
-    ensures answer { IfSome (R.remaining reader.old.inner) (λ text. IsAnswer (2 ^ 30) text result) }
-    ensures count { reader.new.failures ≡ (if is_device result then reader.old.failures + 1
-        else reader.old.failures) }
-{
-    read_within_by(rt, alloc, reader, MOST_BYTES, threads)
 }

@@ -1,16 +1,17 @@
 //! A text that is read in pieces, by several threads.
-ghost use Rattle.std.specs.Prelude.{◌≡◌, ◌≤◌, ◌<◌, ◌-◌, length, slice_index, IfOk, IfSome};
+ghost use Rattle.std.specs.Prelude.{◌≡◌, ◌≤◌, ◌<◌, ◌+◌, ◌-◌, ◌^◌, length, slice_index, IfOk, IfErr, IfSome};
 ghost use Rattle.std.specs.Thread.{IsSync};
 ghost use Rattle.nquads.specs.Pieces.{ArePieces};
-ghost use Rattle.nquads.specs.Spelled.{Spells};
+ghost use Rattle.nquads.specs.Portions.{IsReadText};
+ghost use Rattle.nquads.specs.declared.fault.BaseFault.TheVariants.{OutOfMemory};
+ghost use Rattle.terms.specs.DataSet.{united as the_united};
 
 use crate::fault::BaseFault;
-use crate::reader::read_bytes;
+use crate::reader::{ReadText, read_counted};
 use nquads_lines::laws::lines_are_read;
 use std::alloc::Global;
 use std::thread::{Threads, join};
-use terms::DataSet;
-use terms::laws::lists_unite;
+use terms::laws::{lists_grow_as_datasets, lists_unite};
 
 /// Where the first LF ends that comes at this place or later.
 fn end_of_lf(bytes: &[u8], from: usize) -> Option<usize>
@@ -42,6 +43,25 @@ fn parted(bytes: &[u8], threads: usize) -> Option<(&[u8], &[u8])>
     Some(bytes.split_at(end))
 }
 
+/// Two pieces as one text.
+pub(crate) fn united<T: Threads + Sync>(
+    rt: &T,
+    first: ReadText,
+    rest: ReadText,
+) -> Result<ReadText, BaseFault>
+    requires { first.ends + rest.ends < 2 ^ 64 }
+    ensures ok { IfOk result (λ read. (read.dataset ≡ the_united first.dataset rest.dataset)
+        × (read.ends ≡ first.ends + rest.ends)) }
+    ensures err { IfErr result (λ e. e ≡ OutOfMemory) }
+{
+    let mut dataset = first.dataset;
+    dataset.unite_by(rt, rest.dataset)?;
+    Ok(ReadText {
+        dataset,
+        ends: first.ends + rest.ends,
+    })
+}
+
 /// The dataset that a text spells, read by so many threads, where they can be had. An error tells no more than that a piece was not read: a
 /// line is bad, or memory ran out.
 pub fn read_pieces<T: Threads + Sync>(
@@ -49,29 +69,29 @@ pub fn read_pieces<T: Threads + Sync>(
     alloc: Global,
     bytes: &[u8],
     threads: usize,
-) -> Result<DataSet, BaseFault>
-    ensures { IfOk result (λ d. Spells bytes.now d) }
+) -> Result<ReadText, BaseFault>
+    requires { length bytes.now < 2 ^ 64 }
+    ensures { IfOk result (IsReadText bytes.now) }
 {
     lines_are_read();
+    lists_grow_as_datasets();
     lists_unite();
     if threads <= 1 {
-        return read_bytes(alloc, bytes);
+        return read_counted(alloc, bytes);
     }
     let Some((first, rest)) = parted(bytes, threads) else {
-        return read_bytes(alloc, bytes);
+        return read_counted(alloc, bytes);
     };
     let (low, high) = join(
         rt,
-        || -> Result<DataSet, BaseFault>
-            requires { IsSync T.row }
-            ensures { IfOk result (λ d. Spells first.entry.now d) }
+        || -> Result<ReadText, BaseFault>
+            requires { IsSync T.row × (length first.now < 2 ^ 64) }
+            ensures { IfOk result (IsReadText first.entry.now) }
         { read_pieces(rt, alloc, first, threads / 2) },
-        || -> Result<DataSet, BaseFault>
-            requires { IsSync T.row }
-            ensures { IfOk result (λ d. Spells rest.entry.now d) }
+        || -> Result<ReadText, BaseFault>
+            requires { IsSync T.row × (length rest.now < 2 ^ 64) }
+            ensures { IfOk result (IsReadText rest.entry.now) }
         { read_pieces(rt, alloc, rest, threads - threads / 2) },
     );
-    let mut dataset = low?;
-    dataset.unite_by(rt, high?)?;
-    Ok(dataset)
+    united(rt, low?, high?)
 }

@@ -1,11 +1,11 @@
 //! The reader.
-ghost use Rattle.std.specs.Prelude.{◌≡◌, ◌+◌, ◌<◌, ◌^◌, IfOk, IsErrOf, IfErr, ℕ, OnOk, OnErr, Some, None, Ok};
+ghost use Rattle.std.specs.Prelude.{◌≡◌, ◌+◌, ◌<◌, ◌^◌, IfOk, IsErrOf, IfErr, ℕ, OnOk, OnErr, Some, None, Ok, length};
 ghost use Rattle.datasets.specs.Dataset.{Dataset};
 ghost use Rattle.terms.specs.declared.term.Term.{Term};
 ghost use Rattle.nquads_lines.specs.Lines.{lines};
 ghost use Rattle.nquads.specs.Spelled.{Spells, IsFirstBad};
 ghost use Rattle.nquads_lines.specs.Reading.{line_of};
-ghost use Rattle.nquads.specs.Whole.{Faults, Reads, read_from, no_quads, keep};
+ghost use Rattle.nquads.specs.Whole.{Faults, Reads, ReadsText, read_from, no_quads, keep};
 
 use crate::fault::BaseFault;
 use dataset_builder::DatasetBuilder;
@@ -38,8 +38,17 @@ pub fn read_line(alloc: Global, line: &[u8], number: usize) -> Result<Line<'_>, 
     }
 }
 
-pub fn read_lines(alloc: Global, bytes: &[u8]) -> Result<DataSet, BaseFault>
-    ensures { Reads result (read_from no_quads 0 (lines bytes.now)) }
+/// A text that was read: what it spells, and how many of its lines have an end.
+#[derive(Drop)]
+pub struct ReadText {
+    pub dataset: DataSet,
+    pub ends: usize,
+}
+
+/// The dataset of a text's lines, and how many they are.
+pub fn read_counted(alloc: Global, bytes: &[u8]) -> Result<ReadText, BaseFault>
+    ensures read { ReadsText result (read_from no_quads 0 (lines bytes.now)) }
+    ensures ends { IfOk result (λ text. text.ends + 1 ≡ length (lines bytes.now)) }
 {
     let mut dataset = DatasetBuilder::new(alloc);
     let mut number = 0;
@@ -50,7 +59,17 @@ pub fn read_lines(alloc: Global, bytes: &[u8]) -> Result<DataSet, BaseFault>
         keep(&mut dataset, read_line(alloc, line, number)?)?;
         rest = after;
     }
-    Ok(dataset.into_dataset()?)
+    Ok(ReadText {
+        dataset: dataset.into_dataset()?,
+        ends: number - 1,
+    })
+}
+
+pub fn read_lines(alloc: Global, bytes: &[u8]) -> Result<DataSet, BaseFault>
+    ensures { Reads result (read_from no_quads 0 (lines bytes.now)) }
+{
+    let text = read_counted(alloc, bytes)?;
+    Ok(text.dataset)
 }
 
 /// The dataset that the bytes spell.

@@ -22,14 +22,14 @@ returns c =
     let there : c.in_ok-there.there.items ≡ union id_order (without id_order first.there later.gone) later.there =
     c.in_ok-there.ensures ∙ (λ i. union id_order (without id_order (own i) (c.gone.ensures.value i)) (c.there-2.ensures.value i)) in
     let gone : c.in_ok-gone.gone.items ≡ union id_order first.gone later.gone = c.in_ok-gone.ensures ∙ (λ i. union id_order (left i) (others i)) in
-    IfOk-weaker c.from_sets.result _ _
+    IfOk-weaker c.within.result _ _
     (λ both f.
     composed first later both (ap (λ (x : Delta). x.present) f ∙ present) (ap (λ (x : Delta). x.absent) f ∙ absent) (ap (λ (x : Delta). x.there) f ∙ there)
     (ap (λ (x : Delta). x.gone) f ∙ gone))
-    c.from_sets.ensures
+    c.within.ensures
 
-pub from_sets-requires-clause-there : goal.from_sets-requires-clause-there
-from_sets-requires-clause-there c = (rises-sets [] _ [] (without id_order c.in_ok-own.own.items c.gone.result.now ++ c.there-2.result.now) refl c.in_ok-there.ensures).names
+pub within-requires-clause-there : goal.within-requires-clause-there
+within-requires-clause-there c = (rises-sets [] _ [] (without id_order c.in_ok-own.own.items c.gone.result.now ++ c.there-2.result.now) refl c.in_ok-there.ensures).names
 
-pub from_sets-requires-clause-gone : goal.from_sets-requires-clause-gone
-from_sets-requires-clause-gone c = (rises-sets [] _ [] (c.in_ok-left.left.items ++ c.in_ok-copied_names.field-0.items) refl c.in_ok-gone.ensures).names
+pub within-requires-clause-gone : goal.within-requires-clause-gone
+within-requires-clause-gone c = (rises-sets [] _ [] (c.in_ok-left.left.items ++ c.in_ok-copied_names.field-0.items) refl c.in_ok-gone.ensures).names

@@ -1,0 +1,381 @@
+//! A text that is read in portions: while several threads read the lines of one, the next one comes.
+ghost use Rattle.std.specs.Prelude.{◌≡◌, ◌≤◌, ◌<◌, ◌+◌, ◌-◌, ◌^◌, ◌++◌, ℕ, List, false, length, slice_index, IfOk, IfErr, IfSome, Option, Err, if◌then◌else◌};
+ghost use Rattle.std.specs.Thread.{IsSync};
+ghost use Rattle.devices.specs.Front.{IsFilled, is_device as is_device_fault};
+ghost use Rattle.nquads.specs.Long.{IsAnswer, front_within, is_device};
+ghost use Rattle.nquads.specs.Pieces.{ArePieces};
+ghost use Rattle.nquads.specs.declared.fault.BaseFault.TheVariants.{OutOfMemory};
+ghost use Rattle.nquads.specs.Portions.{IsReadText, IsFrontRead, IsPartlyRead, DidNotCome, StopsBehind, StopsWithin, ends_of};
+
+use crate::base::{MOST_BYTES, check_lines, ended_front};
+use crate::fault::BaseFault;
+use crate::pieces::{read_pieces, united};
+use crate::reader::{ReadText, read_counted};
+use devices::{ReadFault, Watched, fill};
+use nquads_lines::laws::lines_are_read;
+use std::alloc::Global;
+use std::io::Read;
+use std::thread::{Threads, join_mut};
+use terms::DataSet;
+use terms::laws::{lists_grow_as_datasets, lists_unite};
+
+/// What has come of a text.
+#[derive(Drop)]
+pub struct PartlyRead {
+    /// The lines that were read, if any were.
+    pub front: Option<ReadText>,
+    /// How many bytes they have.
+    pub len: usize,
+    /// The bytes behind them.
+    pub rest: Vec<u8>,
+    /// Whether no more will come.
+    pub is_all: bool,
+    /// Room for the next bytes.
+    pub room: Vec<u8>,
+}
+
+/// Where the last LF ends.
+fn end_of_last_lf(bytes: &[u8]) -> Option<usize>
+    ensures { IfSome result (λ end. (0 < end) × (end ≤ length bytes.now)
+        × (slice_index bytes.now (end - 1) ≡ 10)) }
+{
+    let mut end = bytes.len();
+    while end > 0 {
+        if bytes[end - 1] == b'\n' {
+            return Some(end);
+        }
+        end -= 1;
+    }
+    None
+}
+
+/// The whole lines of a text, which end with the last LF, and what is behind them.
+fn whole_lines(text: &[u8]) -> Option<(&[u8], &[u8])>
+    ensures { IfSome result (λ r. ArePieces text.now r.0.now r.1.now) }
+{
+    let end = end_of_last_lf(text)?;
+    Some(text.split_at(end))
+}
+
+/// How many lines were read.
+fn lines_before(front: &Option<ReadText>) -> usize
+    ensures { result ≡ ends_of front.now }
+{
+    match front {
+        Some(read) => read.ends,
+        None => 0,
+    }
+}
+
+/// Reads a text before which so many lines come, by so many threads.
+fn read_text<T: Threads + Sync>(
+    rt: &T,
+    alloc: Global,
+    text: &[u8],
+    before: usize,
+    threads: usize,
+) -> Result<ReadText, BaseFault>
+    requires { before + length text.now < 2 ^ 64 - 1 }
+    ensures ok { IfOk result (IsReadText text.now) }
+    ensures err { IfErr result (StopsBehind before text.now) }
+{
+    lines_are_read();
+    lists_grow_as_datasets();
+    if 1 < threads {
+        if let Ok(read) = read_pieces(rt, alloc, text, threads) {
+            return Ok(read);
+        }
+    }
+    // The first bad line of a piece may not be that of the text, and one table may have room where several have not.
+    match read_counted(alloc, text) {
+        Ok(read) => Ok(read),
+        Err(BaseFault::BadLine(number)) => Err(BaseFault::BadLine(before + number)),
+        Err(fault) => Err(fault),
+    }
+}
+
+/// The lines that were read, and these behind them.
+fn and_then<T: Threads + Sync>(
+    rt: &T,
+    front: Option<ReadText>,
+    more: ReadText,
+) -> Result<ReadText, BaseFault>
+    requires { ends_of front + more.ends < 2 ^ 64 }
+    ensures ok { IfOk result (λ read. (lines text : List ℕ) → IsFrontRead lines front
+        → IsReadText text more → IsReadText (lines ++ text) read) }
+    ensures ends { IfOk result (λ read. read.ends ≡ ends_of front + more.ends) }
+    ensures err { IfErr result (λ e. e ≡ OutOfMemory) }
+{
+    lines_are_read();
+    lists_unite();
+    match front {
+        Some(front) => united(rt, front, more),
+        None => Ok(more),
+    }
+}
+
+/// Reads whole lines, before which so many come, and fills the room with the next bytes, at once where there are several threads.
+fn read_and_fill<T: Threads + Sync, R: Read>(
+    rt: &T,
+    alloc: Global,
+    lines: &[u8],
+    before: usize,
+    threads: usize,
+    limit: usize,
+    reader: &mut Watched<R>,
+    room: &mut Vec<u8>,
+) -> (Result<ReadText, BaseFault>, Result<bool, ReadFault>)
+    requires failures { reader.old.failures < 2 ^ 64 - 1 }
+    requires limit { limit < 2 ^ 63 }
+    requires few { before + length lines.now < 2 ^ 64 - 1 }
+    ensures ok { IfOk result.0 (IsReadText lines.now) }
+    ensures err { IfErr result.0 (StopsBehind before lines.now) }
+    ensures filled { IfOk result.1 (λ is_all. IsFilled limit (R.remaining reader.old.inner)
+        (R.remaining reader.new.inner) room.old.items room.new.items is_all) }
+    ensures count { reader.new.failures ≡ (if is_device_fault result.1
+        then reader.old.failures + 1 else reader.old.failures) }
+{
+    if threads <= 1 {
+        let read = read_text(rt, alloc, lines, before, threads);
+        return (read, fill(reader, room, limit));
+    }
+    let mut read = || -> Result<ReadText, BaseFault>
+        requires { IsSync T.row × (before + length lines.now < 2 ^ 64 - 1) }
+        ensures { IfOk result (IsReadText lines.entry.now)
+            × IfErr result (StopsBehind before lines.entry.now) }
+    { read_text(rt, alloc, lines, before, threads) };
+    let mut filled = || -> Result<bool, ReadFault>
+        requires { (reader.now.failures < 2 ^ 64 - 1) × (limit < 2 ^ 63) }
+        ensures { IfOk result (λ is_all. IsFilled limit (R.remaining reader.entry.now.inner)
+                (R.remaining reader.exit.now.inner) room.entry.now.items room.exit.now.items is_all)
+            × (reader.exit.now.failures ≡ (if is_device_fault result
+                then reader.entry.now.failures + 1 else reader.entry.now.failures)) }
+    { fill(reader, room, limit) };
+    join_mut(rt, &mut read, &mut filled)
+}
+
+/// What has come of a text of which no line has an end, and more.
+fn begun_further<R: Read>(
+    reader: &mut Watched<R>,
+    read: PartlyRead,
+    portion: usize,
+) -> Result<PartlyRead, BaseFault>
+    requires failures { reader.old.failures < 2 ^ 64 - 1 }
+    requires few { length read.rest.items < 2 ^ 32 }
+    requires portion { portion < 2 ^ 32 }
+    ensures ok { (before : Option (List ℕ))
+        → IsPartlyRead before (R.remaining reader.old.inner) read
+        → IfOk result (IsPartlyRead before (R.remaining reader.new.inner)) }
+    ensures ends { IfOk result (λ after. (after.front ≡ read.front) × (after.len ≡ read.len)) }
+    ensures more { IfOk result (λ after. after.is_all ≡ false
+        → length read.rest.items < length after.rest.items) }
+    ensures err { IfErr result DidNotCome }
+    ensures count { reader.new.failures ≡ (if is_device result then reader.old.failures + 1
+        else reader.old.failures) }
+{
+    let mut read = read;
+    let limit = read.rest.len() + portion;
+    match fill(reader, &mut read.rest, limit) {
+        Ok(is_all) => {
+            read.is_all = is_all;
+            Ok(read)
+        }
+        Err(fault) => {
+            drop(read);
+            Err(fault.into())
+        }
+    }
+}
+
+/// Reads the whole lines of what has come, while more comes.
+fn read_further<T: Threads + Sync, R: Read>(
+    rt: &T,
+    alloc: Global,
+    reader: &mut Watched<R>,
+    read: PartlyRead,
+    threads: usize,
+    portion: usize,
+) -> Result<PartlyRead, BaseFault>
+    requires failures { reader.old.failures < 2 ^ 64 - 1 }
+    requires ends { ends_of read.front ≤ read.len }
+    requires few { read.len + length read.rest.items < 2 ^ 32 }
+    requires portion { portion < 2 ^ 32 }
+    ensures ok { (before : Option (List ℕ))
+        → IsPartlyRead before (R.remaining reader.old.inner) read
+        → IfOk result (IsPartlyRead before (R.remaining reader.new.inner)) }
+    ensures ends { IfOk result (λ after. ends_of after.front ≤ after.len) }
+    ensures len { IfOk result (λ after. after.len ≤ read.len + length read.rest.items) }
+    ensures more { IfOk result (λ after. after.is_all ≡ false
+        → read.len + length read.rest.items < after.len + length after.rest.items) }
+    ensures err { (limit : ℕ) (text : List ℕ)
+        → IsPartlyRead (Some text) (R.remaining reader.old.inner) read
+        → read.len + length read.rest.items ≤ limit
+        → IfErr result (λ e. IsAnswer limit text (Err e)) }
+    ensures count { reader.new.failures ≡ (if is_device result then reader.old.failures + 1
+        else reader.old.failures) }
+{
+    lines_are_read();
+    let PartlyRead {
+        front,
+        len,
+        rest,
+        mut room,
+        is_all,
+    } = read;
+    let Some((lines, begun)) = whole_lines(rest.as_slice()) else {
+        let read = PartlyRead {
+            front,
+            len,
+            rest,
+            room,
+            is_all,
+        };
+        return begun_further(reader, read, portion);
+    };
+    room.clear();
+    room.extend_from_slice(begun)?;
+    let before = lines_before(&front);
+    let limit = begun.len() + portion;
+    let (said, came) = read_and_fill(rt, alloc, lines, before, threads, limit, reader, &mut room);
+    let len = len + lines.len();
+    let is_all = came?;
+    let said = match said {
+        Ok(said) => said,
+        Err(fault) => return Err(fault),
+    };
+    Ok(PartlyRead {
+        front: Some(and_then(rt, front, said)?),
+        len,
+        rest: room,
+        is_all,
+        room: rest,
+    })
+}
+
+/// Reads whole lines as long as more comes, and there is not more than the limit.
+fn read_lines_of<T: Threads + Sync, R: Read>(
+    rt: &T,
+    alloc: Global,
+    reader: &mut Watched<R>,
+    limit: usize,
+    threads: usize,
+    portion: usize,
+) -> Result<PartlyRead, BaseFault>
+    requires failures { reader.old.failures < 2 ^ 64 - 1 }
+    requires limit { limit < 2 ^ 32 }
+    requires portion { portion < 2 ^ 32 }
+    ensures ok { IfOk result (IsPartlyRead (R.remaining reader.old.inner)
+        (R.remaining reader.new.inner)) }
+    ensures ends { IfOk result (λ read. ends_of read.front ≤ read.len) }
+    ensures within { IfOk result (λ read. read.len ≤ limit) }
+    ensures enough { IfOk result (λ read. read.is_all ≡ false
+        → limit < read.len + length read.rest.items) }
+    ensures err { IfSome (R.remaining reader.old.inner)
+        (λ text. IfErr result (λ e. IsAnswer limit text (Err e))) }
+    ensures count { reader.new.failures ≡ (if is_device result then reader.old.failures + 1
+        else reader.old.failures) }
+{
+    let mut rest = Vec::new(alloc);
+    let is_all = fill(reader, &mut rest, portion)?;
+    let mut read = PartlyRead {
+        front: None,
+        len: 0,
+        rest,
+        is_all,
+        room: Vec::new(alloc),
+    };
+    while !read.is_all && read.len + read.rest.len() <= limit {
+        read = match read_further(rt, alloc, reader, read, threads, portion) {
+            Ok(read) => read,
+            Err(fault) => return Err(fault),
+        };
+    }
+    Ok(read)
+}
+
+/// Why a text that is longer than the limit is not read, before which so many lines come.
+fn fault_within(alloc: Global, text: &[u8], before: usize, limit: usize) -> BaseFault
+    requires long { limit < length text.now }
+    requires few { before + length text.now < 2 ^ 64 - 1 }
+    ensures { StopsWithin before limit text.now result }
+{
+    lines_are_read();
+    if limit == 0 {
+        return BaseFault::TooLong;
+    }
+    match check_lines(alloc, ended_front(text, limit)) {
+        Ok(()) => BaseFault::TooLong,
+        Err(BaseFault::BadLine(number)) => BaseFault::BadLine(before + number),
+        Err(fault) => fault,
+    }
+}
+
+/// The answer to a text of which the last bytes have come, or more than the limit.
+fn ended<T: Threads + Sync>(
+    rt: &T,
+    alloc: Global,
+    read: PartlyRead,
+    limit: usize,
+    threads: usize,
+) -> Result<DataSet, BaseFault>
+    requires ends { ends_of read.front ≤ read.len }
+    requires few { read.len + length read.rest.items < 2 ^ 64 - 1 }
+    requires enough { read.is_all ≡ false → limit < read.len + length read.rest.items }
+    requires within { read.len ≤ limit }
+    requires some { 0 < limit }
+    ensures answer { (text : List ℕ) (now : Option (List ℕ)) → IsPartlyRead (Some text) now read
+        → IsAnswer limit text result }
+    ensures device { is_device result ≡ false }
+{
+    lines_are_read();
+    let PartlyRead {
+        front, len, rest, ..
+    } = read;
+    let before = lines_before(&front);
+    if limit < len + rest.len() {
+        return Err(fault_within(alloc, rest.as_slice(), before, limit - len));
+    }
+    let last = match read_text(rt, alloc, rest.as_slice(), before, threads) {
+        Ok(last) => last,
+        Err(fault) => return Err(fault),
+    };
+    let read = and_then(rt, front, last)?;
+    Ok(read.dataset)
+}
+
+fn read_within_by<T: Threads + Sync, R: Read>(
+    rt: &T,
+    alloc: Global,
+    reader: &mut Watched<R>,
+    limit: usize,
+    threads: usize,
+    portion: usize,
+) -> Result<DataSet, BaseFault>
+    requires failures { reader.old.failures < 2 ^ 64 - 1 }
+    requires some { 0 < limit }
+    requires limit { limit < 2 ^ 32 }
+    requires portion { portion < 2 ^ 32 }
+    ensures answer { IfSome (R.remaining reader.old.inner) (λ text. IsAnswer limit text result) }
+    ensures count { reader.new.failures ≡ (if is_device result then reader.old.failures + 1
+        else reader.old.failures) }
+{
+    let read = read_lines_of(rt, alloc, reader, limit, threads, portion)?;
+    ended(rt, alloc, read, limit, threads)
+}
+
+/// The same as `read`, by so many threads, in portions of some more than so many bytes: while the lines of one are read, each part by a thread
+/// of its own where one can be had, the next one comes.
+pub fn read_by<T: Threads + Sync, R: Read>(
+    rt: &T,
+    alloc: Global,
+    reader: &mut Watched<R>,
+    threads: usize,
+    portion: u32,
+) -> Result<DataSet, BaseFault>
+    requires { reader.old.failures < 2 ^ 64 - 1 }
+    ensures answer { IfSome (R.remaining reader.old.inner) (λ text. IsAnswer (2 ^ 30) text result) }
+    ensures count { reader.new.failures ≡ (if is_device result then reader.old.failures + 1
+        else reader.old.failures) }
+{
+    read_within_by(rt, alloc, reader, MOST_BYTES, threads, portion as usize)
+}
