@@ -1,3 +1,4 @@
 pub mod Lacking
 pub mod MappedSets
 pub mod Sorted
+pub mod RunLaws

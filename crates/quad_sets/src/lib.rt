@@ -10,6 +10,7 @@ mod narrow;
 mod near;
 mod quad_set;
 mod quad_slice;
+mod runs;
 
 pub use quad_set::QuadSet;
 pub use quad_slice::QuadSlice;

@@ -4,6 +4,8 @@ ghost use Rattle.std.specs.List.Sorted.{IsStrictlySortedBy};
 ghost use Rattle.sets.specs.Sets.{set_of, union, without};
 
 use crate::near::is_member_near;
+use crate::runs::changed_in_runs;
+use radix::is_set;
 use sets::Exact;
 use std::alloc::AllocError;
 
@@ -48,7 +50,7 @@ fn outside<T: Exact + Copy + Drop>(members: Vec<T>, set: &[T]) -> Vec<T>
     lacking(members, set)
 }
 
-/// The set of the members of a vector that are none of a set's, and of more. It is fastest where all rise.
+/// The set of the members of a vector that are none of a set's, and of more. It is fastest where both lists are sets.
 pub(crate) fn changed<T: Exact + Copy + Drop>(
     members: Vec<T>,
     gone: &[T],
@@ -58,6 +60,9 @@ pub(crate) fn changed<T: Exact + Copy + Drop>(
     ensures { IfOk result (λ after. after.items
         ≡ union T.cmp (without T.cmp members.items gone.now) more.now) }
 {
+    if is_set(members.as_slice()) && is_set(more) {
+        return changed_in_runs(members, gone, more);
+    }
     let mut after = outside(members, gone);
     after.reserve_exact(more.len())?;
     after.extend_from_slice(more)?;

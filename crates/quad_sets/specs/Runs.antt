@@ -1,0 +1,21 @@
+-- The members of a set on both sides of a value.
+use Rattle.std.specs.Prelude.{◌≡◌, ◌<◌, ◌≤◌, ◌++◌, ℕ, List, length}
+use Rattle.std.proofs.Common.{get_or}
+use Rattle.std.specs.List.{AllByRecursion}
+use Rattle.std.specs.declared.cmp.Ordering.{Ordering}
+use Rattle.std.specs.declared.cmp.Ordering.TheVariants.{Less, Equal}
+
+module _ {A : Type 0} (R : A → A → Ordering) where
+  -- so many of the first members are below the value, and the next one is not
+  pub record AreLessTo (v : A) (set : List A) (count : ℕ) : Type 0 where
+    pub within : count ≤ length set
+    pub less : (k : ℕ) (d : A) → k < count → R (get_or set k d) v ≡ Less
+    pub next : (d : A) → count < length set → R (get_or set count d) v ≡ Less → ⊥
+
+  -- the members below a value and those above, where no other is none that equals it
+  pub record IsParted (set : List A) (v : A) (below above : List A) : Type 0 where
+    pub middle : List A
+    pub cut : set ≡ below ++ (middle ++ above)
+    pub less : AllByRecursion (λ x. R x v ≡ Less) below
+    pub same : AllByRecursion (λ x. R x v ≡ Equal) middle
+    pub greater : AllByRecursion (λ x. R v x ≡ Less) above
