@@ -175,7 +175,10 @@ fn check_bad<T: Threads + Sync + Abort>(
     for (threads, portion) in &WAYS {
         for (text, number) in table {
             let outcome = read_by(rt, alloc, &mut slow(text), *threads, *portion);
-            assert!(rt; is_bad_at(outcome, *number)?, "{threads} {portion} {text:?}");
+            assert!(rt;
+                is_bad_at(outcome, *number)?,
+                "{threads} {portion} {text:?}"
+            );
         }
     }
     Ok(())

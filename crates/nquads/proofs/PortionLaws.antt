@@ -205,9 +205,9 @@ taken_behind false front rest k h = take-append-add front rest k
 front_further : (front rest : List ℕ) (k : ℕ) → 1 ≤ k → front_within (length front + k) (front ++ rest) ≡ front ++ front_within k rest
 front_further front rest k h =
     let a : get_or (front ++ rest) (length front + k - 1) 0 ≡ get_or rest (k - 1) 0 =
-      get_or-append_right front rest (length front + k - 1) 0 (omega arith) ∙ ap (λ n. get_or rest n 0) (let e : length front + k - 1 - length front ≡ k - 1 = omega arith in e) in
+    get_or-append_right front rest (length front + k - 1) 0 (omega arith) ∙ ap (λ n. get_or rest n 0) (let e : length front + k - 1 - length front ≡ k - 1 = omega arith in e) in
     let b : get_or (front ++ rest) (length front + k) 0 ≡ get_or rest k 0 =
-      get_or-append_right front rest (length front + k) 0 (omega arith) ∙ ap (λ n. get_or rest n 0) (let e : length front + k - length front ≡ k = omega arith in e) in
+    get_or-append_right front rest (length front + k) 0 (omega arith) ∙ ap (λ n. get_or rest n 0) (let e : length front + k - length front ≡ k = omega arith in e) in
     ap (λ x. take (cond (eqb x 13 && eqb (get_or (front ++ rest) (length front + k) 0) 10) (length front + k - 1) (length front + k)) (front ++ rest)) a
     ∙ ap (λ x. take (cond (eqb (get_or rest (k - 1) 0) 13 && eqb x 10) (length front + k - 1) (length front + k)) (front ++ rest)) b
     ∙ taken_behind (eqb (get_or rest (k - 1) 0) 13 && eqb (get_or rest k 0) 10) front rest k h
@@ -236,12 +236,12 @@ front_behind : (front rest : List ℕ) (k : ℕ) → AreWhole front → front_wi
 front_behind front rest k whole = elim (leb_tells 1 k) [
   | inl h ↦ front_further front rest k h.1
   | inr h ↦ elim whole [
-      | inl e ↦ let none : length front ≡ 0 = ap length e in
-          ap (λ t. front_within (length front + k) (t ++ rest)) e ∙ ap (λ n. front_within n rest) (let same : length front + k ≡ k = omega arith in same) ∙ ap (λ t. t ++ front_within k rest) (sym e)
-      | inr ends ↦ let zero : k ≡ 0 = omega arith in
-          ap (λ n. front_within n (front ++ rest)) (let same : length front + k ≡ length front = omega arith in same) ∙ front_alone front rest ends
-          ∙ sym (append-nil front) ∙ ap (λ t. front ++ t) (sym (ap (λ n. front_within n rest) zero ∙ nothing_within rest))
-    ]
+    | inl e ↦ let none : length front ≡ 0 = ap length e in
+        ap (λ t. front_within (length front + k) (t ++ rest)) e ∙ ap (λ n. front_within n rest) (let same : length front + k ≡ k = omega arith in same) ∙ ap (λ t. t ++ front_within k rest) (sym e)
+    | inr ends ↦ let zero : k ≡ 0 = omega arith in
+        ap (λ n. front_within n (front ++ rest)) (let same : length front + k ≡ length front = omega arith in same) ∙ front_alone front rest ends
+        ∙ sym (append-nil front) ∙ ap (λ t. front ++ t) (sym (ap (λ n. front_within n rest) zero ∙ nothing_within rest))
+  ]
 ]
 
 but_last_behind : (before : List (List ℕ)) (x : List ℕ) (xs : List (List ℕ)) → but_last (before ++ x ∷ xs) ≡ before ++ but_last (x ∷ xs)
@@ -284,10 +284,10 @@ module _ (read : LinesAreRead) where
       let later = lines_cut more ends in
       let here : IsFirstBadOf later.0 m = bad_but_last later.0 m (subst (λ ls. IsFirstBadOf ls m) (ap lines (sym (append-nil more)) ∙ later.1 []) bad) in
       let cut : (ys : List ℕ) → lines ((front ++ more) ++ ys) ≡ (before.before ++ later.0) ++ lines ys =
-        λ ys. ap lines (append_assoc front more ys) ∙ before.cut (more ++ ys) ∙ ap (λ t. before.before ++ t) (later.1 ys) ∙ sym (append_assoc before.before later.0 (lines ys)) in
+      λ ys. ap lines (append_assoc front more ys) ∙ before.cut (more ++ ys) ∙ ap (λ t. before.before ++ t) (later.1 ys) ∙ sym (append_assoc before.before later.0 (lines ys)) in
       let found : (ls : List (List ℕ)) → IsFirstBadOf ((before.before ++ later.0) ++ ls) (ends_of text + m) =
-        λ ls. subst (IsFirstBadOf ((before.before ++ later.0) ++ ls)) (ap (λ n. n + m) before.number)
-          (bad_in_front (before.before ++ later.0) ls (length before.before + m) (bad_behind before.before later.0 before.said m before.each here)) in
+      λ ls. subst (IsFirstBadOf ((before.before ++ later.0) ++ ls)) (ap (λ n. n + m) before.number)
+      (bad_in_front (before.before ++ later.0) ls (length before.before + m) (bad_behind before.before later.0 before.said m before.each here)) in
       let k = limit - length (front ++ more) in
       let same : length (front ++ more) + k ≡ limit = omega arith in
       elim (leb_tells (length ((front ++ more) ++ rest)) limit) [
@@ -312,9 +312,11 @@ module _ (read : LinesAreRead) where
   answer_beyond limit k front last later text (fault.BadLine n) over before said each number counted stops =
       subst (λ ls. IsFirstBadOf ls n) (sym (beyond ((front ++ last) ++ later) limit over ∙ counted))
       (subst (IsFirstBadOf (before ++ ended_lines k last)) (ap (λ n. n + stops.0) number ∙ sym stops.1) (bad_behind before (ended_lines k last) said stops.0 each stops.2))
-  answer_beyond limit k front last later text fault.TooLong over before said each number counted stops =
-      (over, λ n b. no_bad_in b.front b.bad b.after (said ++ stops.0) b.here
-        (subst (λ ls. AreLines ls (said ++ stops.0)) (sym counted ∙ b.cut) (are_both each stops.1)))
+  answer_beyond limit k front last later text fault.TooLong over before said each number counted stops = (
+    over,
+    λ n b. no_bad_in b.front b.bad b.after (said ++ stops.0) b.here
+        (subst (λ ls. AreLines ls (said ++ stops.0)) (sym counted ∙ b.cut) (are_both each stops.1)),
+  )
   answer_beyond limit k front last later text fault.Device over before said each number counted stops = absurd stops
 
   -- what comes last, and is too much
@@ -326,8 +328,8 @@ module _ (read : LinesAreRead) where
       let longer : length ((front ++ last) ++ later) ≡ length front + length last + length later = length-append (front ++ last) later ∙ ap (λ n. n + length later) (length-append front last) in
       let over : limit < length ((front ++ last) ++ later) = omega arith in
       let counted : ended_lines limit ((front ++ last) ++ later) ≡ before.before ++ ended_lines k last =
-        ap (ended_lines limit) whole ∙ ap (λ n. ended_lines n (front ++ (last ++ later))) (sym same) ∙ ended_further front (last ++ later) before.before k (whole_front front text is) before.cut
-        ∙ ap (λ t. before.before ++ but_last (lines t)) (front_within-front last later k many) in
+      ap (ended_lines limit) whole ∙ ap (λ n. ended_lines n (front ++ (last ++ later))) (sym same) ∙ ended_further front (last ++ later) before.before k (whole_front front text is) before.cut
+      ∙ ap (λ t. before.before ++ but_last (lines t)) (front_within-front last later k many) in
       answer_beyond limit k front last later text f over before.before before.said before.each before.number counted stops
 
 -- ---- what has come
@@ -344,7 +346,7 @@ pub further_begun : (before old new : Option (List ℕ)) (limit : ℕ) (read : P
 further_begun before old new limit read rest is_all is filled = record {
   front = is.front;
   taken = subst (Consumes before new) (append_assoc is.front read.rest.items filled.given ∙ ap (λ t. is.front ++ t) (sym filled.cut))
-    (given_behind before old new (is.front ++ read.rest.items) filled.given is.taken filled.taken);
+      (given_behind before old new (is.front ++ read.rest.items) filled.given is.taken filled.taken);
   said = is.said;
   count = is.count;
   all = filled.all;
@@ -361,8 +363,8 @@ pub further_read : (before old new : Option (List ℕ)) (limit : ℕ) (read : Pa
     → IsPartlyRead before new (record { front = Some both; len = read.len + length lines; rest = rest; is_all = is_all; room = room })
 further_read before old new limit read lines begun both rest room is_all is pieces filled said =
     let cut : (is.front ++ read.rest.items) ++ filled.given ≡ (is.front ++ lines) ++ rest.items =
-      ap (λ t. (is.front ++ t) ++ filled.given) pieces.2 ∙ ap (λ t. t ++ filled.given) (sym (append_assoc is.front lines begun)) ∙ append_assoc (is.front ++ lines) begun filled.given
-      ∙ ap (λ t. (is.front ++ lines) ++ t) (sym filled.cut) in
+    ap (λ t. (is.front ++ t) ++ filled.given) pieces.2 ∙ ap (λ t. t ++ filled.given) (sym (append_assoc is.front lines begun)) ∙ append_assoc (is.front ++ lines) begun filled.given
+    ∙ ap (λ t. (is.front ++ lines) ++ t) (sym filled.cut) in
     let number : read.len ≡ length is.front = is.count in
     let all : length (is.front ++ lines) ≡ length is.front + length lines = length-append is.front lines in
     record {
@@ -381,7 +383,7 @@ module _ (read : LinesAreRead) where
   further_fault limit text (Some later) had lines begun fault.OutOfMemory is pieces few stops = tt
   further_fault limit text (Some later) had lines begun (fault.BadLine n) is pieces few stops =
       let cut : text ≡ (is.front ++ lines) ++ (begun ++ later) =
-        is.taken ∙ ap (λ t. (is.front ++ t) ++ later) pieces.2 ∙ ap (λ t. t ++ later) (sym (append_assoc is.front lines begun)) ∙ append_assoc (is.front ++ lines) begun later in
+      is.taken ∙ ap (λ t. (is.front ++ t) ++ later) pieces.2 ∙ ap (λ t. t ++ later) (sym (append_assoc is.front lines begun)) ∙ append_assoc (is.front ++ lines) begun later in
       let number : had.len ≡ length is.front = is.count in
       let all : length (is.front ++ lines) ≡ length is.front + length lines = length-append is.front lines in
       let parts : length had.rest.items ≡ length lines + length begun = parts_length had.rest.items lines begun pieces in

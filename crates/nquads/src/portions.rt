@@ -147,9 +147,9 @@ fn read_and_fill<T: Threads + Sync, R: Read>(
     let mut filled = || -> Result<bool, ReadFault>
         requires { (reader.now.failures < 2 ^ 64 - 1) × (limit < 2 ^ 63) }
         ensures { IfOk result (λ is_all. IsFilled limit (R.remaining reader.entry.now.inner)
-                (R.remaining reader.exit.now.inner) room.entry.now.items room.exit.now.items is_all)
+            (R.remaining reader.exit.now.inner) room.entry.now.items room.exit.now.items is_all)
             × (reader.exit.now.failures ≡ (if is_device_fault result
-                then reader.entry.now.failures + 1 else reader.entry.now.failures)) }
+            then reader.entry.now.failures + 1 else reader.entry.now.failures)) }
     { fill(reader, room, limit) };
     join_mut(rt, &mut read, &mut filled)
 }
@@ -329,7 +329,10 @@ fn ended<T: Threads + Sync>(
 {
     lines_are_read();
     let PartlyRead {
-        front, len, rest, ..
+        front,
+        len,
+        rest,
+        ..
     } = read;
     let before = lines_before(&front);
     if limit < len + rest.len() {

@@ -118,7 +118,7 @@ module _ {A : Type 0} {R : A → A → Ordering} (o : IsTotalOrder R) where
         less = subst (AllByRecursion (λ x. R x v ≡ Less)) (sym f) (all_taken (λ x. R x v ≡ Less) count set are.less are.within);
         same = tt;
         greater = greater_behind v back (sorted_behind R front back (subst (IsStrictlySortedBy R) whole s))
-          (λ x xs e. is_greater v x (R x v) refl (λ h. let r = dropped_is count set x xs (sym b ∙ e) in are.next x r.0 (ap (λ y. R y v) (r.1 x) ∙ h)) (others x xs e));
+            (λ x xs e. is_greater v x (R x v) refl (λ h. let r = dropped_is count set x xs (sym b ∙ e) in are.next x r.0 (ap (λ y. R y v) (r.1 x) ∙ h)) (others x xs e));
       }
 
 module _ {A : Type 0} {R : A → A → Ordering} (o : IsTotalOrder R) where
@@ -147,7 +147,7 @@ module _ {A : Type 0} {R : A → A → Ordering} (o : IsTotalOrder R) where
       let others : List A = (middle ++ above) ++ v ∷ vs in
       ap (with R x) (least_each v vs middle above xs less.1 (sorted_tail R x xs s) same greater high)
       ∙ least_first R x (xs ++ set_of R others)
-        (all_joined (λ y. R x y ≡ Less) xs (set_of R others) (sorted_head R x xs s) (all_set_of (λ y. R x y ≡ Less) R others (below_each x v vs middle above less.0 same greater high)))
+      (all_joined (λ y. R x y ≡ Less) xs (set_of R others) (sorted_head R x xs s) (all_set_of (λ y. R x y ≡ Less) R others (below_each x v vs middle above less.0 same greater high)))
 
   module _ (exact : (x y : A) → R x y ≡ Equal → x ≡ y) where
     value_first : (v : A) (vs above : List A) → AllByRecursion (λ y. R v y ≡ Less) above → AllByRecursion (λ y. R v y ≡ Less) vs → set_of R (above ++ v ∷ vs) ≡ v ∷ set_of R (above ++ vs)
@@ -155,7 +155,7 @@ module _ {A : Type 0} {R : A → A → Ordering} (o : IsTotalOrder R) where
         same_set o exact (set_of R (above ++ v ∷ vs)) (v ∷ set_of R (above ++ vs)) (sorted-set_of o (above ++ v ∷ vs))
         (sorted-cons R v (set_of R (above ++ vs)) (all_set_of (λ y. R v y ≡ Less) R (above ++ vs) (all_joined (λ y. R v y ≡ Less) above vs greater high)) (sorted-set_of o (above ++ vs)))
         (λ q. has-set_of o q (above ++ v ∷ vs) ∙ list_any-append (eq_by_cmp R q) above (v ∷ vs) ∙ or_swap (has R above q) (eq_by_cmp R q v) (has R vs q)
-          ∙ ap (λ b. eq_by_cmp R q v || b) (sym (has-set_of o q (above ++ vs) ∙ list_any-append (eq_by_cmp R q) above vs)))
+        ∙ ap (λ b. eq_by_cmp R q v || b) (sym (has-set_of o q (above ++ vs) ∙ list_any-append (eq_by_cmp R q) above vs)))
 
     -- of equal members there is one
     one_of : (v : A) (middle others set : List A) → AllByRecursion (λ y. R y v ≡ Equal) middle → set_of R others ≡ v ∷ set → set_of R (middle ++ others) ≡ v ∷ set
@@ -182,7 +182,7 @@ module _ {A : Type 0} {R : A → A → Ordering} (o : IsTotalOrder R) where
 
 module _ {A : Type 0} (R : A → A → Ordering) where
   pub sorted_left : {E Z : Type 0} (r : Result (Vec A Z) E) (front set list gone : List A) → front ≡ [] → list ≡ set → IsStrictlySortedBy R set
-    → IfOk r (λ after. after.items ≡ front ++ without R list gone) → IfOk r (λ after. IsStrictlySortedBy R after.items)
+      → IfOk r (λ after. after.items ≡ front ++ without R list gone) → IfOk r (λ after. IsStrictlySortedBy R after.items)
   sorted_left (Ok after) front set list gone e h s is =
       subst (IsStrictlySortedBy R) (sym (is ∙ ap (λ t. t ++ without R list gone) e ∙ ap (λ t. without R t gone) h)) (IsStrictlySortedBy-filter R (λ x. not (has R gone x)) set s)
   sorted_left (Err e') front set list gone e h s is = tt

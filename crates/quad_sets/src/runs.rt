@@ -32,7 +32,11 @@ fn parted<'a, T: Exact>(set: &'a [T], value: &T) -> (&'a [T], &'a [T])
 }
 
 /// The members of a set that are none of another's.
-fn left<T: Exact + Copy + Drop>(set: &[T], gone: &[T], mut list: Vec<T>) -> Result<Vec<T>, AllocError>
+fn left<T: Exact + Copy + Drop>(
+    set: &[T],
+    gone: &[T],
+    mut list: Vec<T>,
+) -> Result<Vec<T>, AllocError>
     requires set { IsStrictlySortedBy T.cmp set.now }
     requires gone { IsStrictlySortedBy T.cmp gone.now }
     ensures { IfOk result (λ after. after.items ≡ list.items ++ without T.cmp set.now gone.now) }
@@ -50,7 +54,11 @@ fn left<T: Exact + Copy + Drop>(set: &[T], gone: &[T], mut list: Vec<T>) -> Resu
 }
 
 /// The members of two sets.
-fn united<T: Exact + Copy + Drop>(set: &[T], more: &[T], mut list: Vec<T>) -> Result<Vec<T>, AllocError>
+fn united<T: Exact + Copy + Drop>(
+    set: &[T],
+    more: &[T],
+    mut list: Vec<T>,
+) -> Result<Vec<T>, AllocError>
     requires set { IsStrictlySortedBy T.cmp set.now }
     requires more { IsStrictlySortedBy T.cmp more.now }
     ensures { IfOk result (λ after. after.items ≡ list.items ++ union T.cmp set.now more.now) }

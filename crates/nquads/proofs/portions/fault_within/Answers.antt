@@ -9,8 +9,8 @@ pub overflow_add-result : goal.overflow_add-result
 overflow_add-result c =
     let text = c.args.text.now in
     let number : c.in-Err-BadLine.number ≤ length text + 1 =
-      few_within c.args.limit text c.in-Err-BadLine.number
-      (within_bad c.lines_are_read.ensures c.args.limit text c.ended_front.result.now c.in-Err-BadLine.field-0 c.in-Err-BadLine.number c.ended_front.ensures c.in-Err-BadLine.field-0-is c.in-Err-BadLine.ensures) in
+    few_within c.args.limit text c.in-Err-BadLine.number
+    (within_bad c.lines_are_read.ensures c.args.limit text c.ended_front.result.now c.in-Err-BadLine.field-0 c.in-Err-BadLine.number c.ended_front.ensures c.in-Err-BadLine.field-0-is c.in-Err-BadLine.ensures) in
     let few : c.args.before + length text < 2 ^ 64 - 1 = c.requires.few in
     omega arith
 
@@ -21,7 +21,7 @@ pub returns-in-Err-BadLine : goal.returns-in-Err-BadLine
 returns-in-Err-BadLine c = (
   c.in-Err-BadLine.number,
   refl,
-  within_bad c.lines_are_read.ensures c.args.limit c.args.text.now c.ended_front.result.now c.in-Err-BadLine.field-0 c.in-Err-BadLine.number c.ended_front.ensures c.in-Err-BadLine.field-0-is c.in-Err-BadLine.ensures
+  within_bad c.lines_are_read.ensures c.args.limit c.args.text.now c.ended_front.result.now c.in-Err-BadLine.field-0 c.in-Err-BadLine.number c.ended_front.ensures c.in-Err-BadLine.field-0-is c.in-Err-BadLine.ensures,
 )
 
 pub returns-then-limit-eq0 : goal.returns-then-limit-eq0

@@ -26,11 +26,11 @@ returns-clause-ok g c = λ before is.
     let pieces : ArePieces c.args.read.rest.items c.in-Some.lines.now c.in-Some.begun.now = subst (λ t. ArePieces t c.in-Some.lines.now c.in-Some.begun.now) c.as_slice.ensures.value c.in-Some.ensures in
     let limit : ℕ = length c.in-Some.begun.now + c.args.portion in
     let filled = IfOk-at_ok (IsFilled limit (g.R.Read.remaining c.args.reader.now.inner) (g.R.Read.remaining c.read_and_fill-said.new.reader.inner) c.extend_from_slice.new.self.items c.read_and_fill-said.new.room.items)
-      c.in_ok-is_all.was c.read_and_fill-said.ensures.filled in
+    c.in_ok-is_all.was c.read_and_fill-said.ensures.filled in
     further_read before (g.R.Read.remaining c.args.reader.now.inner) (g.R.Read.remaining c.read_and_fill-said.new.reader.inner) limit c.args.read c.in-Some.lines.now c.in-Some.begun.now c.in_ok-and_then.field-0
     c.read_and_fill-said.new.room c.args.read.rest c.in_ok-is_all.is_all is pieces
     (filled_behind limit (g.R.Read.remaining c.args.reader.now.inner) (g.R.Read.remaining c.read_and_fill-said.new.reader.inner) c.clear.new.self.items c.extend_from_slice.new.self.items c.in-Some.begun.now c.read_and_fill-said.new.room.items
-      c.in_ok-is_all.is_all c.clear.ensures.items c.in_ok-extend_from_slice.ensures.items filled)
+    c.in_ok-is_all.is_all c.clear.ensures.items c.in_ok-extend_from_slice.ensures.items filled)
     (λ front h. c.in_ok-and_then.ensures.ok front c.in-Some.lines.now h (IfOk-at_ok (IsReadText c.in-Some.lines.now) c.in-Ok.is c.read_and_fill-said.ensures.ok))
 
 pub returns-clause-ends : goal.returns-clause-ends

@@ -9,8 +9,8 @@ pub overflow_add-result : goal.overflow_add-result
 overflow_add-result g c =
     let text = c.args.text.now in
     let number : c.in-Err-BadLine.number ≤ length text + 1 =
-      bad_within text c.in-Err-BadLine.number (whole_bad c.lines_are_read.ensures text c.in-Err-BadLine.number
-      (subst (λ f. Reads (Err f) (read_from no_quads 0 (lines text))) c.in-Err-BadLine.field-0-is c.in-Err-BadLine.ensures.read)) in
+    bad_within text c.in-Err-BadLine.number (whole_bad c.lines_are_read.ensures text c.in-Err-BadLine.number
+    (subst (λ f. Reads (Err f) (read_from no_quads 0 (lines text))) c.in-Err-BadLine.field-0-is c.in-Err-BadLine.ensures.read)) in
     let few : c.args.before + length text < 2 ^ 64 - 1 = c.requires in
     omega arith
 
@@ -25,5 +25,5 @@ returns-in-Err-BadLine-clause-err g c = (
   c.in-Err-BadLine.number,
   refl,
   whole_bad c.lines_are_read.ensures c.args.text.now c.in-Err-BadLine.number
-  (subst (λ f. Reads (Err f) (read_from no_quads 0 (lines c.args.text.now))) c.in-Err-BadLine.field-0-is c.in-Err-BadLine.ensures.read)
+      (subst (λ f. Reads (Err f) (read_from no_quads 0 (lines c.args.text.now))) c.in-Err-BadLine.field-0-is c.in-Err-BadLine.ensures.read),
 )

@@ -14,7 +14,7 @@ returns-in_err-read_line c =
     rw (p.1, p.2)
     (record {
       read = subst (λ read. Reads (Err c.in_err-read_line.field-0.0) read) (ap (read_from c.loop-rest.dataset c.loop-rest.number) (sym cut) ∙ c.loop-rest.invariant.read)
-        (stopped c.in_err-read_line.field-0.0 c.first_line.result.0.now (later_lines c.first_line.result.1) c.loop-rest.dataset c.loop-rest.number c.in_err-read_line.ensures.bad);
+          (stopped c.in_err-read_line.field-0.0 c.first_line.result.0.now (later_lines c.first_line.result.1) c.loop-rest.dataset c.loop-rest.number c.in_err-read_line.ensures.bad);
       ends = tt;
     })
 

@@ -12,7 +12,7 @@ loop-value-preserved g c = record {
   rest = sorted_above g.T.Ord.cmp c.loop-value.rest.now c.in-Some.value.now c.parted.result.0.now c.parted.result.1.now c.parted.ensures c.loop-value.invariant.rest;
   gone = sorted_tail g.T.Ord.cmp c.in-Some.value.now c.in-Some.later.now (subst (IsStrictlySortedBy g.T.Ord.cmp) c.in-Some.ensures.cases.0 c.loop-value.invariant.gone);
   done = left_next g.met.T.Ord.total _ c.loop-value.list.items c.loop-value.rest.now c.loop-value.gone.now c.in-Some.later.now c.parted.result.0.now c.parted.result.1.now c.extend_from_slice.new.self.items c.in-Some.value.now
-    c.parted.ensures c.in-Some.ensures.cases.0 c.loop-value.invariant.gone c.in_ok-extend_from_slice.ensures.items c.loop-value.invariant.done;
+      c.parted.ensures c.in-Some.ensures.cases.0 c.loop-value.invariant.gone c.in_ok-extend_from_slice.ensures.items c.loop-value.invariant.done;
 }
 
 pub returns : goal.returns

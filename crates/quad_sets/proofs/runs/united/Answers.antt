@@ -12,7 +12,7 @@ loop-value-preserved g c = record {
   rest = sorted_above g.T.Ord.cmp c.loop-value.rest.now c.in-Some.value.now c.parted.result.0.now c.parted.result.1.now c.parted.ensures c.loop-value.invariant.rest;
   more = sorted_tail g.T.Ord.cmp c.in-Some.value.now c.in-Some.later.now (subst (IsStrictlySortedBy g.T.Ord.cmp) c.in-Some.ensures.cases.0 c.loop-value.invariant.more);
   done = union_next g.met.T.Ord.total g.met.T.Exact.exact _ c.loop-value.list.items c.loop-value.rest.now c.loop-value.more.now c.in-Some.later.now c.parted.result.0.now c.parted.result.1.now c.extend_from_slice.new.self.items c.push.new.self.items
-    c.in-Some.value.now c.loop-value.invariant.rest c.parted.ensures c.in-Some.ensures.cases.0 c.loop-value.invariant.more c.in_ok-extend_from_slice.ensures.items c.in_ok-push.ensures.items c.loop-value.invariant.done;
+      c.in-Some.value.now c.loop-value.invariant.rest c.parted.ensures c.in-Some.ensures.cases.0 c.loop-value.invariant.more c.in_ok-extend_from_slice.ensures.items c.in_ok-push.ensures.items c.loop-value.invariant.done;
 }
 
 pub returns : goal.returns
