@@ -21,7 +21,7 @@ use terms::DataSet;
 /// The most bytes of a block.
 const MOST_BLOCK_BYTES: usize = 268_435_456;
 
-/// So many bytes of a base come while those before them are read by several threads.
+/// So many bytes of a base come at a time where one thread reads them.
 const PORTION_BYTES: u32 = 8_388_608;
 
 /// What the program tells of a base that was not read.
@@ -85,7 +85,13 @@ pub fn read_base_by<T: Threads + Sync, R: Read>(
         reader.new.failures }
     ensures others { TellsNoOther File.Base result }
 {
-    match nquads::read_by(rt, alloc, reader, threads as usize, PORTION_BYTES) {
+    // Several threads would wait for each other at the end of each portion.
+    let portion = if threads <= 1 {
+        PORTION_BYTES
+    } else {
+        u32::MAX
+    };
+    match nquads::read_by(rt, alloc, reader, threads as usize, portion) {
         Ok(dataset) => Ok(dataset),
         Err(fault) => Err(base_fault(fault)),
     }

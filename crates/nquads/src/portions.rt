@@ -1,7 +1,5 @@
-//! A text that is read in portions: while several threads read the lines of one, the next one comes.
+//! A text that is read in portions: once the lines of one are read, the next one comes.
 ghost use Rattle.std.specs.Prelude.{◌≡◌, ◌≤◌, ◌<◌, ◌+◌, ◌-◌, ◌^◌, ◌++◌, ℕ, List, false, length, slice_index, IfOk, IfErr, IfSome, Option, Err, if◌then◌else◌};
-ghost use Rattle.std.specs.Thread.{IsSync};
-ghost use Rattle.devices.specs.Front.{IsFilled, is_device as is_device_fault};
 ghost use Rattle.nquads.specs.Long.{IsAnswer, front_within, is_device};
 ghost use Rattle.nquads.specs.Pieces.{ArePieces};
 ghost use Rattle.nquads.specs.declared.fault.BaseFault.TheVariants.{OutOfMemory};
@@ -11,11 +9,11 @@ use crate::base::{MOST_BYTES, check_lines, ended_front};
 use crate::fault::BaseFault;
 use crate::pieces::{read_pieces, united};
 use crate::reader::{ReadText, read_counted};
-use devices::{ReadFault, Watched, fill};
+use devices::{Watched, fill};
 use nquads_lines::laws::lines_are_read;
 use std::alloc::Global;
 use std::io::Read;
-use std::thread::{Threads, join_mut};
+use std::thread::Threads;
 use terms::DataSet;
 use terms::laws::{lists_grow_as_datasets, lists_unite};
 
@@ -114,46 +112,6 @@ fn and_then<T: Threads + Sync>(
     }
 }
 
-/// Reads whole lines, before which so many come, and fills the room with the next bytes, at once where there are several threads.
-fn read_and_fill<T: Threads + Sync, R: Read>(
-    rt: &T,
-    alloc: Global,
-    lines: &[u8],
-    before: usize,
-    threads: usize,
-    limit: usize,
-    reader: &mut Watched<R>,
-    room: &mut Vec<u8>,
-) -> (Result<ReadText, BaseFault>, Result<bool, ReadFault>)
-    requires failures { reader.old.failures < 2 ^ 64 - 1 }
-    requires limit { limit < 2 ^ 63 }
-    requires few { before + length lines.now < 2 ^ 64 - 1 }
-    ensures ok { IfOk result.0 (IsReadText lines.now) }
-    ensures err { IfErr result.0 (StopsBehind before lines.now) }
-    ensures filled { IfOk result.1 (λ is_all. IsFilled limit (R.remaining reader.old.inner)
-        (R.remaining reader.new.inner) room.old.items room.new.items is_all) }
-    ensures count { reader.new.failures ≡ (if is_device_fault result.1
-        then reader.old.failures + 1 else reader.old.failures) }
-{
-    if threads <= 1 {
-        let read = read_text(rt, alloc, lines, before, threads);
-        return (read, fill(reader, room, limit));
-    }
-    let mut read = || -> Result<ReadText, BaseFault>
-        requires { IsSync T.row × (before + length lines.now < 2 ^ 64 - 1) }
-        ensures { IfOk result (IsReadText lines.entry.now)
-            × IfErr result (StopsBehind before lines.entry.now) }
-    { read_text(rt, alloc, lines, before, threads) };
-    let mut filled = || -> Result<bool, ReadFault>
-        requires { (reader.now.failures < 2 ^ 64 - 1) × (limit < 2 ^ 63) }
-        ensures { IfOk result (λ is_all. IsFilled limit (R.remaining reader.entry.now.inner)
-            (R.remaining reader.exit.now.inner) room.entry.now.items room.exit.now.items is_all)
-            × (reader.exit.now.failures ≡ (if is_device_fault result
-            then reader.entry.now.failures + 1 else reader.entry.now.failures)) }
-    { fill(reader, room, limit) };
-    join_mut(rt, &mut read, &mut filled)
-}
-
 /// What has come of a text of which no line has an end, and more.
 fn begun_further<R: Read>(
     reader: &mut Watched<R>,
@@ -187,7 +145,7 @@ fn begun_further<R: Read>(
     }
 }
 
-/// Reads the whole lines of what has come, while more comes.
+/// Reads the whole lines of what has come, and then more comes.
 fn read_further<T: Threads + Sync, R: Read>(
     rt: &T,
     alloc: Global,
@@ -234,15 +192,13 @@ fn read_further<T: Threads + Sync, R: Read>(
     };
     room.clear();
     room.extend_from_slice(begun)?;
-    let before = lines_before(&front);
-    let limit = begun.len() + portion;
-    let (said, came) = read_and_fill(rt, alloc, lines, before, threads, limit, reader, &mut room);
-    let len = len + lines.len();
-    let is_all = came?;
-    let said = match said {
+    let said = match read_text(rt, alloc, lines, lines_before(&front), threads) {
         Ok(said) => said,
         Err(fault) => return Err(fault),
     };
+    let len = len + lines.len();
+    let limit = begun.len() + portion;
+    let is_all = fill(reader, &mut room, limit)?;
     Ok(PartlyRead {
         front: Some(and_then(rt, front, said)?),
         len,
@@ -362,12 +318,14 @@ fn read_within_by<T: Threads + Sync, R: Read>(
     ensures count { reader.new.failures ≡ (if is_device result then reader.old.failures + 1
         else reader.old.failures) }
 {
+    // No more than what tells that a text is too long.
+    let portion = portion.min(limit);
     let read = read_lines_of(rt, alloc, reader, limit, threads, portion)?;
     ended(rt, alloc, read, limit, threads)
 }
 
-/// The same as `read`, by so many threads, in portions of some more than so many bytes: while the lines of one are read, each part by a thread
-/// of its own where one can be had, the next one comes.
+/// The same as `read`, in portions of some more than so many bytes, so that the text is never held whole. The lines of each are read by so many
+/// threads where they can be had.
 pub fn read_by<T: Threads + Sync, R: Read>(
     rt: &T,
     alloc: Global,
