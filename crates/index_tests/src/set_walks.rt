@@ -392,6 +392,38 @@ fn sets_are_joined_and_parted(rt: HostRuntime) -> Result<(), AllocError> {
     Ok(())
 }
 
+// The set of a thousand quads of which few go, and to which few come.
+fn long_set_changed(alloc: Global) -> Result<QuadSet, AllocError> {
+    let long = QuadSet::of_quads(alloc, quads_of(alloc, &[(0, 1000, false)])?)?;
+    let gone = quads_of(alloc, &[(100, 120, false), (990, 1020, false)])?;
+    let gone = QuadSet::of_quads(alloc, gone)?;
+    let more = quads_of(
+        alloc,
+        &[(5, 10, false), (110, 115, false), (2000, 2010, false)],
+    )?;
+    let more = QuadSet::of_quads(alloc, more)?;
+    QuadSet::changed(alloc, &long.as_slice(), &gone.as_slice(), &more.as_slice())
+}
+
+// Whether that is what plain vectors say.
+fn is_long_set_changed(alloc: Global) -> Result<bool, AllocError> {
+    let rows = [
+        (0, 100, false),
+        (110, 115, false),
+        (120, 990, false),
+        (2000, 2010, false),
+    ];
+    let left = set_of(quads_of(alloc, &rows)?);
+    let changed = long_set_changed(alloc)?;
+    is_set_of(alloc, &changed.as_slice(), &left)
+}
+
+#[test]
+fn long_sets_are_changed(rt: HostRuntime) -> Result<(), AllocError> {
+    assert!(rt; is_long_set_changed(rt.alloc())?);
+    Ok(())
+}
+
 // Whether a part of a set is that of its vector.
 fn is_part(alloc: Global, set: &QuadSlice<'_>, quads: &[Quad<Id>]) -> Result<bool, AllocError> {
     if set.len() < 200 {
