@@ -1,5 +1,5 @@
 //! The first bytes that a reader gives.
-ghost use Rattle.std.specs.Prelude.{◌≡◌, ◌<◌, ◌+◌, ◌-◌, ◌^◌, IfOk, IfSome, if◌then◌else◌};
+ghost use Rattle.std.specs.Prelude.{◌≡◌, ◌<◌, ◌+◌, ◌-◌, ◌^◌, ◌++◌, ℕ, List, IfOk, IfSome, if◌then◌else◌};
 ghost use Rattle.devices.specs.Front.{IsFront, IsFilled, is_device};
 ghost use Rattle.devices.specs.declared.front.ReadFault.TheVariants.{OutOfMemory, Device};
 
@@ -47,7 +47,8 @@ impl From<Failed> for ReadFault {
 }
 
 /// Adds bytes of a reader to those that are there, until it has no more or there are more than the limit. Says whether it has no more.
-/// Nothing is read behind a failed read. `OutOfMemory` may come at any text, `Device` only where a read failed.
+/// Nothing is read behind a failed read. `OutOfMemory` may come at any text, and then bytes that the reader gave may be lost; `Device` comes only
+/// where a read failed. What was there stays in front, also where it fails.
 pub fn fill<R: Read>(
     reader: &mut Watched<R>,
     bytes: &mut Vec<u8>,
@@ -57,6 +58,7 @@ pub fn fill<R: Read>(
     requires limit { limit < 2 ^ 63 }
     ensures filled { IfOk result (λ is_all. IsFilled limit (R.remaining reader.old.inner)
         (R.remaining reader.new.inner) bytes.old.items bytes.new.items is_all) }
+    ensures kept { (given : List ℕ) × (bytes.new.items ≡ bytes.old.items ++ given) }
     ensures count { reader.new.failures ≡ (if is_device result then reader.old.failures + 1
         else reader.old.failures) }
 {

@@ -324,8 +324,8 @@ fn read_within_by<T: Threads + Sync, R: Read>(
     ended(rt, alloc, read, limit, threads)
 }
 
-/// The same as `read`, in portions of some more than so many bytes, so that the text is never held whole. The lines of each are read by so many
-/// threads where they can be had.
+/// The same as `read`, in portions of some more than so many bytes, so that a longer text is not held whole. The lines of each are read by so
+/// many threads where they can be had.
 pub fn read_by<T: Threads + Sync, R: Read>(
     rt: &T,
     alloc: Global,
