@@ -3,6 +3,7 @@ pub mod Looking
 pub mod Mapped
 pub mod Moved
 pub mod Orders
+pub mod Parted
 pub mod Rising
 pub mod Searching
 pub mod Sought

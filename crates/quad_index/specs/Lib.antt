@@ -10,3 +10,4 @@ pub mod Indexed
 pub mod Index
 pub mod QuadList
 pub mod Part
+pub mod Parted
