@@ -16,7 +16,7 @@ use datasets::{Id, Quad, QuadPattern, Read};
 use quad_sets::{QuadSet, QuadSlice};
 use reads::lists::{copied_names, name_if, names_union};
 use reads::same::same_names;
-use reads::{CompactView, View};
+use reads::{CompactView, IndexedView, View};
 use sets::{is_member, set_of};
 use std::alloc::{AllocError, Global};
 use std::marker::Model;
@@ -247,19 +247,19 @@ impl Delta {
         Ok(View::from_sets(quads, names))
     }
 
-    /// The same of a dataset in little memory.
+    /// The same of a dataset in its orders, of which nothing is copied but what stays.
     #[tactic(auto, unfolding(reads::specs::Reads::applied))]
-    pub fn apply_compact(
+    pub fn apply_indexed(
         &self,
         alloc: Global,
-        dataset: CompactView,
+        dataset: &IndexedView,
     ) -> Result<CompactView, AllocError>
-        ensures { IfOk result (λ after. after ≡ applied self.now dataset) }
+        ensures { IfOk result (λ after. after ≡ applied self.now dataset.now) }
     {
-        let (quads, names) = dataset.into_parts();
-        let list = quads.into_list();
-        let quads = QuadSet::of_changed(alloc, list, &self.absent(), &self.present())?;
-        let names = names_after(alloc, names, self.gone(), self.there())?;
+        dataset.rises();
+        let quads = QuadSet::changed(alloc, &dataset.quads(), &self.absent(), &self.present())?;
+        let own = copied_names(alloc, dataset.names())?;
+        let names = names_after(alloc, own, self.gone(), self.there())?;
         Ok(CompactView::from_sets(quads, names))
     }
 

@@ -8,11 +8,13 @@ ghost use Rattle.datasets.specs.Dataset.{quad_order, matches};
 ghost use Rattle.quad_index.specs.Keys.{arrangement_for};
 ghost use Rattle.quad_index.specs.Index.{AllAlike, arrangements_of};
 ghost use Rattle.quad_index.specs.Looks.{IsScan};
+ghost use Rattle.quad_index.specs.Part.{quads_of_part};
 ghost use Rattle.quad_index.specs.QuadList.{quads_in};
 
 use crate::key::{Arrangement, order_for};
 use crate::looks::Looks;
 use crate::order::Order;
+use crate::part::Part;
 use crate::quad_list::{Entries, QuadList};
 use datasets::{Id, Quad, QuadPattern};
 use std::alloc::{AllocError, Global};
@@ -138,6 +140,13 @@ impl Index {
         ensures { IfOk result (λ quads. quads.items ≡ self.now.quads) }
     {
         self.spog.quads(alloc)
+    }
+
+    /// The same, lent.
+    pub fn lent(&self) -> Part<'_>
+        ensures { quads_of_part result ≡ self.now.quads }
+    {
+        self.spog.lent()
     }
 
     /// The same, in little memory where all are of known terms.

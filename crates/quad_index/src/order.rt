@@ -245,6 +245,13 @@ impl Order {
         self.entries.quads(alloc)
     }
 
+    // The same, lent.
+    pub(crate) fn lent(&self) -> Part<'_>
+        ensures { quads_of_part result ≡ self.now.quads }
+    {
+        self.entries.lent()
+    }
+
     // The same, as they are kept.
     pub(crate) fn copied_entries(&self, alloc: Global) -> Result<Entries, AllocError>
         ensures { IfOk result (λ entries. quads_in entries ≡ self.now.quads) }

@@ -4,8 +4,6 @@ ghost use Rattle.std.specs.List.Sorted.{IsStrictlySortedBy};
 ghost use Rattle.sets.specs.Sets.{set_of, union, without};
 
 use crate::near::is_member_near;
-use crate::runs::changed_in_runs;
-use radix::is_set;
 use sets::Exact;
 use std::alloc::AllocError;
 
@@ -50,17 +48,6 @@ fn outside<T: Exact + Copy + Drop>(members: Vec<T>, set: &[T]) -> Vec<T>
     lacking(members, set)
 }
 
-/// Fewer members are not looked at whether they are a set.
-const MANY: usize = 256;
-
-/// Runs between changes have at least so many members in the middle where it is faster to take them over as they lie.
-const LONG_RUN: usize = 4;
-
-// Whether so many members are many, and so many changes few.
-fn are_long_runs(members: usize, changes: usize) -> bool {
-    MANY <= members && changes <= members / LONG_RUN
-}
-
 /// The set of the members of a vector that are none of a set's, and of more. It is fastest where both lists are sets.
 pub(crate) fn changed<T: Exact + Copy + Drop>(
     members: Vec<T>,
@@ -71,10 +58,6 @@ pub(crate) fn changed<T: Exact + Copy + Drop>(
     ensures { IfOk result (λ after. after.items
         ≡ union T.cmp (without T.cmp members.items gone.now) more.now) }
 {
-    let changes = gone.len().saturating_add(more.len());
-    if are_long_runs(members.len(), changes) && is_set(members.as_slice()) && is_set(more) {
-        return changed_in_runs(members, gone, more);
-    }
     let mut after = outside(members, gone);
     after.reserve_exact(more.len())?;
     after.extend_from_slice(more)?;

@@ -9,11 +9,12 @@ ghost use Rattle.quad_index.specs.Known.{quad_of};
 
 use crate::lists::changed;
 use crate::near::is_member_near;
+use crate::runs::changed_in_runs;
 use datasets::{Id, Quad, QuadPattern};
 use quad_index::matching::matches;
 use quad_index::{Arrangement, KnownQuad, part_for};
 use sets::is_member;
-use std::alloc::AllocError;
+use std::alloc::{AllocError, Global};
 
 /// Of a set, a part that has all that the pattern matches.
 pub(crate) fn part_of_known<'a>(
@@ -66,6 +67,23 @@ pub(crate) fn is_near_known(known: &[KnownQuad], place: usize, quad: &Quad<Id>) 
         Some(entry) => is_member_near(known, place, &entry),
         None => (false, place),
     }
+}
+
+/// The set of the quads of a set that are none of another's, and of more, where a run of members between changes is long.
+pub(crate) fn known_changed_in_runs(
+    alloc: Global,
+    quads: &[KnownQuad],
+    gone: &[KnownQuad],
+    more: &[KnownQuad],
+) -> Result<Vec<KnownQuad>, AllocError>
+    requires quads { IsStrictlySortedBy (quad_order id_order) (map quad_of quads.now) }
+    requires gone { IsStrictlySortedBy (quad_order id_order) (map quad_of gone.now) }
+    requires more { IsStrictlySortedBy (quad_order id_order) (map quad_of more.now) }
+    ensures { IfOk result (λ after. map quad_of after.items ≡ union (quad_order id_order)
+        (without (quad_order id_order) (map quad_of quads.now) (map quad_of gone.now))
+        (map quad_of more.now)) }
+{
+    changed_in_runs(alloc, quads, gone, more)
 }
 
 /// The set of the quads that are none of a set's, and of more.

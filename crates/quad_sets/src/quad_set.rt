@@ -1,5 +1,5 @@
 //! Sets of quads, in little memory where that is possible.
-ghost use Rattle.std.specs.Prelude.{◌≡◌, [], IfOk};
+ghost use Rattle.std.specs.Prelude.{◌≡◌, [], IfOk, IfSome};
 ghost use Rattle.std.specs.List.Sorted.{IsStrictlySortedBy};
 ghost use Rattle.sets.specs.Sets.{set_of as the_set_of, union, without};
 ghost use Rattle.datasets.specs.Id.{id_order};
@@ -7,7 +7,7 @@ ghost use Rattle.datasets.specs.Dataset.{quad_order};
 ghost use Rattle.quad_index.specs.QuadList.{quads_in};
 
 use crate::lists::merged;
-use crate::narrow::known_changed;
+use crate::narrow::{known_changed, known_changed_in_runs};
 use crate::quad_slice::QuadSlice;
 use datasets::{Id, Quad};
 use quad_index::{Entries, Index, Part, QuadList, known_quads, known_set, widened_quads};
@@ -35,6 +35,17 @@ impl Model for QuadSet {
     ghost view = { λ s. quads_in s.entries };
 
     ghost invariant = { λ s. IsStrictlySortedBy (quad_order id_order) (quads_in s.entries) };
+}
+
+/// A set of fewer members is not taken over in runs.
+const MANY: usize = 256;
+
+/// Runs between changes have at least so many members in the middle where it is faster to take them over as they lie.
+const LONG_RUN: usize = 4;
+
+// Whether so many members are many, and so many changes few.
+fn are_long_runs(members: usize, changes: usize) -> bool {
+    MANY <= members && changes <= members / LONG_RUN
 }
 
 // The same items, with room for more behind them.
@@ -175,6 +186,30 @@ impl QuadSet {
         }
     }
 
+    // The same as `changed`, if all are of known terms, and so few come and go that they leave long runs of the set as they are.
+    fn changed_in_runs(
+        alloc: Global,
+        quads: &QuadSlice<'_>,
+        gone: &QuadSlice<'_>,
+        more: &QuadSlice<'_>,
+    ) -> Result<Option<QuadSet>, AllocError>
+        ensures { IfOk result (λ found. IfSome found (λ set. set ≡ union (quad_order id_order)
+            (without (quad_order id_order) quads.now gone.now) more.now)) }
+    {
+        if !are_long_runs(quads.len(), gone.len().saturating_add(more.len())) {
+            return Ok(None);
+        }
+        match (quads.entries(), gone.entries(), more.entries()) {
+            (Part::Narrow(known), Part::Narrow(going), Part::Narrow(coming)) => {
+                let after = known_changed_in_runs(alloc, known, going, coming)?;
+                Ok(Some(QuadSet {
+                    entries: Entries::Narrow(after),
+                }))
+            }
+            _ => Ok(None),
+        }
+    }
+
     /// The set of the quads that are none of a set's, and of more. It is fastest where both are of known terms.
     pub fn changed(
         alloc: Global,
@@ -185,6 +220,9 @@ impl QuadSet {
         ensures { IfOk result (λ set. set ≡ union (quad_order id_order)
             (without (quad_order id_order) quads.now gone.now) more.now) }
     {
+        if let Some(set) = QuadSet::changed_in_runs(alloc, quads, gone, more)? {
+            return Ok(set);
+        }
         let list = listed_with_room(alloc, quads, more.len())?;
         QuadSet::of_changed(alloc, list, gone, more)
     }

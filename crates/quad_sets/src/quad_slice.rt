@@ -18,7 +18,7 @@ use crate::quad_set::QuadSet;
 use datasets::{Id, Quad, QuadPattern};
 use quad_index::matching::is_any_in_set;
 use quad_index::{
-    Arrangement, KnownQuad, Looks, Order, Part, QuadList, order_for, part_of_set, widened_quads,
+    Arrangement, Index, KnownQuad, Looks, Order, Part, QuadList, order_for, part_of_set, widened_quads,
 };
 use sets::is_member;
 use std::alloc::{AllocError, Global};
@@ -103,6 +103,14 @@ impl<'a> QuadSlice<'a> {
         ensures { result ≡ list.now }
     {
         QuadSlice::of_entries(list.lent())
+    }
+
+    /// The quads of an index.
+    pub fn of_index(index: &'a Index) -> QuadSlice<'a>
+        ensures { result ≡ index.now.quads }
+    {
+        index.rises();
+        QuadSlice::of_entries(index.lent())
     }
 
     /// What it has.

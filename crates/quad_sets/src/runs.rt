@@ -5,7 +5,7 @@ ghost use Rattle.sets.specs.Sets.{union, without};
 ghost use Rattle.quad_sets.specs.Runs.{AreLessTo, IsParted};
 
 use sets::Exact;
-use std::alloc::AllocError;
+use std::alloc::{AllocError, Global};
 
 /// How many members come before those that are not below a value.
 fn count_below<T: Exact>(set: &[T], value: &T) -> usize
@@ -31,8 +31,8 @@ fn parted<'a, T: Exact>(set: &'a [T], value: &T) -> (&'a [T], &'a [T])
     }
 }
 
-/// The members of a set that are none of another's.
-fn left<T: Exact + Copy + Drop>(
+/// Puts the members of a set that are none of another's behind a list.
+fn push_left<T: Exact + Copy + Drop>(
     set: &[T],
     gone: &[T],
     mut list: Vec<T>,
@@ -53,8 +53,8 @@ fn left<T: Exact + Copy + Drop>(
     Ok(list)
 }
 
-/// The members of two sets.
-fn united<T: Exact + Copy + Drop>(
+/// Puts the members of two sets behind a list.
+fn push_united<T: Exact + Copy + Drop>(
     set: &[T],
     more: &[T],
     mut list: Vec<T>,
@@ -77,34 +77,52 @@ fn united<T: Exact + Copy + Drop>(
 }
 
 /// The members of a set that are none of another's.
-fn outside<T: Exact + Copy + Drop>(set: Vec<T>, gone: &[T]) -> Result<Vec<T>, AllocError>
-    requires set { IsStrictlySortedBy T.cmp set.items }
+fn left<T: Exact + Copy + Drop>(
+    alloc: Global,
+    set: &[T],
+    gone: &[T],
+) -> Result<Vec<T>, AllocError>
+    requires set { IsStrictlySortedBy T.cmp set.now }
     requires gone { IsStrictlySortedBy T.cmp gone.now }
-    ensures value { IfOk result (λ after. after.items ≡ without T.cmp set.items gone.now) }
+    ensures value { IfOk result (λ after. after.items ≡ without T.cmp set.now gone.now) }
     ensures set { IfOk result (λ after. IsStrictlySortedBy T.cmp after.items) }
 {
-    if gone.is_empty() {
-        return Ok(set);
-    }
-    let mut list = Vec::new(*set.allocator());
+    let mut list = Vec::new(alloc);
     list.reserve_exact(set.len())?;
-    left(set.as_slice(), gone, list)
+    push_left(set, gone, list)
+}
+
+/// The members of two sets.
+fn united<T: Exact + Copy + Drop>(
+    alloc: Global,
+    set: &[T],
+    more: &[T],
+) -> Result<Vec<T>, AllocError>
+    requires set { IsStrictlySortedBy T.cmp set.now }
+    requires more { IsStrictlySortedBy T.cmp more.now }
+    ensures { IfOk result (λ after. after.items ≡ union T.cmp set.now more.now) }
+{
+    let mut list = Vec::new(alloc);
+    list.reserve_exact(set.len().saturating_add(more.len()))?;
+    push_united(set, more, list)
 }
 
 /// The set of the members of a set that are none of another's, and of more.
 pub(crate) fn changed_in_runs<T: Exact + Copy + Drop>(
-    set: Vec<T>,
+    alloc: Global,
+    set: &[T],
     gone: &[T],
     more: &[T],
 ) -> Result<Vec<T>, AllocError>
-    requires set { IsStrictlySortedBy T.cmp set.items }
+    requires set { IsStrictlySortedBy T.cmp set.now }
     requires gone { IsStrictlySortedBy T.cmp gone.now }
     requires more { IsStrictlySortedBy T.cmp more.now }
     ensures { IfOk result (λ after. after.items
-        ≡ union T.cmp (without T.cmp set.items gone.now) more.now) }
+        ≡ union T.cmp (without T.cmp set.now gone.now) more.now) }
 {
-    let left = outside(set, gone)?;
-    let mut list = Vec::new(*left.allocator());
-    list.reserve_exact(left.len().saturating_add(more.len()))?;
-    united(left.as_slice(), more, list)
+    if gone.is_empty() {
+        return united(alloc, set, more);
+    }
+    let left = left(alloc, set, gone)?;
+    united(alloc, left.as_slice(), more)
 }

@@ -12,7 +12,7 @@ use crate::lists::copied_names;
 use crate::view::View;
 use datasets::{Id, QuadPattern, Read};
 use quad_index::{Arrangement, Index, QuadList};
-use quad_sets::QuadSet;
+use quad_sets::{QuadSet, QuadSlice};
 use std::alloc::{AllocError, Global};
 use std::marker::Model;
 use std::thread::Threads;
@@ -85,6 +85,13 @@ impl IndexedView {
             quads,
             named: graphs,
         })
+    }
+
+    /// Its quads, lent.
+    pub fn quads(&self) -> QuadSlice<'_>
+        ensures { result ≡ self.now.quads }
+    {
+        QuadSlice::of_index(&self.quads)
     }
 
     /// Its graph names.

@@ -61,8 +61,7 @@ impl<'a> Current<'a> {
     pub(crate) fn into_dataset(self, alloc: Global) -> Result<CompactView, AllocError>
         ensures { IfOk result (λ dataset. dataset ≡ self.entry) }
     {
-        let dataset = self.base.compact(alloc)?;
-        self.changes.into_applied(alloc, dataset)
+        self.changes.into_applied(alloc, self.base)
     }
 }
 

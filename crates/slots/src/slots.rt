@@ -166,7 +166,7 @@ impl<'a> Slots<'a> {
             drop(self);
             return made;
         }
-        after_settled(alloc, base, settled_of(self.kept))
+        settled_of(self.kept).into_applied(alloc, base)
     }
 
     // The same, and nothing is let go.
@@ -371,16 +371,4 @@ fn settled_of(kept: Kept<'_>) -> Settled
     drop(slots);
     drop(spoken);
     settled
-}
-
-// The base after the settled changes.
-fn after_settled(
-    alloc: Global,
-    base: &IndexedView,
-    settled: Settled,
-) -> Result<CompactView, AllocError>
-    ensures { IfOk result (λ view. view ≡ changed_by settled base.now) }
-{
-    let dataset = base.compact(alloc)?;
-    settled.into_applied(alloc, dataset)
 }

@@ -16,7 +16,7 @@ use datasets::{Id, Read};
 use delta::Delta;
 use quad_hints::SeenQuads;
 use quad_index::Arrangement;
-use reads::{CompactView, Scanned, View};
+use reads::{CompactView, IndexedView, Scanned, View};
 use std::alloc::{AllocError, Global};
 use std::marker::Model;
 
@@ -134,28 +134,22 @@ impl Settled {
         }
     }
 
-    /// The same of a dataset in little memory, where they are not needed any more, and are let go as soon as they are one. An error comes only
+    /// The same of a dataset in its orders, where they are not needed any more, and are let go as soon as they are one. An error comes only
     /// where memory runs out.
     pub fn into_applied(
         self,
         alloc: Global,
-        dataset: CompactView,
+        dataset: &IndexedView,
     ) -> Result<CompactView, AllocError>
-        ensures { IfOk result (λ after. after ≡ changed_by self dataset) }
+        ensures { IfOk result (λ after. after ≡ changed_by self dataset.now) }
     {
         if self.levels.is_empty() {
             drop(self);
-            return Ok(dataset);
+            return dataset.compact(alloc);
         }
         let change = all_joined(alloc, self.levels.as_slice());
         drop(self);
-        match change {
-            Ok(change) => change.apply_compact(alloc, dataset),
-            Err(error) => {
-                drop(dataset);
-                Err(error)
-            }
-        }
+        change?.apply_indexed(alloc, dataset)
     }
 }
 

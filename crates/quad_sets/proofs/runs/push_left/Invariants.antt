@@ -1,7 +1,7 @@
 use Rattle.std.proofs.Common.{◌≡◌, ◌++◌, length}
 use Rattle.std.specs.List.Sorted.{IsStrictlySortedBy}
 use Rattle.sets.specs.Sets.{without}
-use Rattle.quad_sets.proofs.runs.left.Given as goal
+use Rattle.quad_sets.proofs.runs.push_left.Given as goal
 
 abbrev pub invariant-loop-value : goal.invariant-loop-value
 invariant-loop-value g l =

@@ -2,7 +2,7 @@ use Rattle.quad_sets.proofs.RunLaws.{sorted_above, union_next, union_last}
 use Rattle.std.proofs.Common.{subst, refl}
 use Rattle.std.specs.List.Sorted.{IsStrictlySortedBy}
 use Rattle.std.proofs.lemmas.Map.Keys.{sorted_tail}
-use Rattle.quad_sets.proofs.runs.united.Goals as goal
+use Rattle.quad_sets.proofs.runs.push_united.Goals as goal
 
 pub loop-value-init : goal.loop-value-init
 loop-value-init g c = record { rest = c.requires.set; more = c.requires.more; done = refl }

@@ -1,7 +1,7 @@
 use Rattle.std.proofs.Common.{◌≡◌, ◌++◌, length}
 use Rattle.std.specs.List.Sorted.{IsStrictlySortedBy}
 use Rattle.sets.specs.Sets.{union}
-use Rattle.quad_sets.proofs.runs.united.Given as goal
+use Rattle.quad_sets.proofs.runs.push_united.Given as goal
 
 abbrev pub invariant-loop-value : goal.invariant-loop-value
 invariant-loop-value g l =
