@@ -14,7 +14,7 @@ ghost use Rattle.block_machine.specs.Machine.{fresh, is_current, can_commit, Che
 use crate::laws::lists_are_enough;
 use delta::Finished;
 use incarnations::{Event, Noted, Pass, Reply, Status};
-use quad_index::Arrangement;
+use quad_lists::Arrangement;
 use reads::{CompactView, IndexedView, Scanned, View};
 use slots::{Asked, Slots};
 use stamp_tree::{Due, StampTree, Standing};

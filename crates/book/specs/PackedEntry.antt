@@ -1,6 +1,6 @@
 -- Entries of a journal in little memory.
 use Rattle.std.specs.Prelude.{ℕ, Bool, true, false}
-use Rattle.quad_index.specs.Known.{quad_of}
+use Rattle.quad_lists.specs.Known.{quad_of}
 use Rattle.reads.specs.Presence.{scan_for}
 use Rattle.incarnations.specs.declared.state.Event.TheVariants.{Take, Begin, Check, Commit}
 use Rattle.incarnations.specs.declared.state.Reply.TheVariants as told

@@ -8,7 +8,7 @@ use crate::copies::kept_event;
 use crate::journal_entry::{JournalEntry, Kept, count};
 use block_machine::{Entry, Event, Reply};
 use datasets::{Id, Read};
-use quad_index::KnownQuad;
+use quad_lists::KnownQuad;
 use reads::presence::{quad_scanned, scan_for};
 use std::alloc::{AllocError, Global};
 use std::marker::Model;

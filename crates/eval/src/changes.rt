@@ -9,7 +9,7 @@ ghost use Rattle.reads.specs.Reads.{View, applied};
 use crate::lacking::names_outside;
 use datasets::{Id, Quad, QuadPattern};
 use delta::Delta;
-use quad_index::QuadList;
+use quad_lists::QuadList;
 use quad_sets::QuadSet;
 use reads::lists::{copied_names, names_union};
 use sets::is_member;

@@ -14,7 +14,7 @@ use crate::changes::quads_after;
 use asking::ask;
 use datasets::{Id, QuadPattern, Read};
 use delta::Delta;
-use quad_index::QuadList;
+use quad_lists::QuadList;
 use quad_sets::QuadSet;
 use reads::{Answered, Note, Source, Stop};
 use std::alloc::{AllocError, Global};

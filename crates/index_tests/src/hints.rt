@@ -2,7 +2,8 @@
 use crate::quads::{fits, pattern_of, quad_of};
 use datasets::{Id, Quad, QuadPattern};
 use quad_hints::Hints;
-use quad_index::{Arrangement, BESIDE_SPOG, OrderSet};
+use quad_index::OrderSet;
+use quad_lists::{Arrangement, BESIDE_SPOG};
 use quad_sets::QuadSet;
 use std::alloc::{AllocError, Global};
 

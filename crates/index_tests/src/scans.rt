@@ -3,7 +3,8 @@ ghost use Rattle.std.specs.Prelude.{◌<◌, ◌^◌};
 
 use crate::quads::{fits, pattern_of, quad_of};
 use datasets::{Id, Quad, QuadPattern};
-use quad_index::{Arrangement, BESIDE_SPOG, Index, Looks, QuadList};
+use quad_index::{Index, Looks};
+use quad_lists::{Arrangement, BESIDE_SPOG, QuadList};
 use sets::set_of;
 use std::alloc::{AllocError, Global};
 

@@ -6,7 +6,7 @@ use delta::{Delta, Finished};
 use dict::{Dict, Id};
 use meaning::{Cause, Refusal, Reply, Request};
 use numbering::Numbered;
-use quad_index::QuadList;
+use quad_lists::QuadList;
 use reads::{Answered, KeptAnswer, Note, Source, Stop};
 use std::alloc::{AllocError, Global};
 use std::test::Fail;

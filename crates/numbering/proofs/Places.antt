@@ -14,8 +14,8 @@ use Rattle.datasets.specs.declared.id.Id.TheVariants.{Known, Made}
 use Rattle.datasets.specs.declared.quad.Quad.{Quad}
 use Rattle.dict.specs.Dictionary.{term_of, is_known}
 use Rattle.meaning_laws.specs.Renaming.{renamed_quad, quad_known, option_known}
-use Rattle.quad_index.specs.Known.{known_graph, quad_of}
-use Rattle.quad_index.specs.declared.known.KnownQuad.{KnownQuad}
+use Rattle.quad_lists.specs.Known.{known_graph, quad_of}
+use Rattle.quad_lists.specs.declared.known.KnownQuad.{KnownQuad}
 use Rattle.numbering.specs.Tables.{StandFor, NamesStandFor, places_of}
 
 -- ---- lists of terms that go on

@@ -6,7 +6,7 @@ use Rattle.datasets.specs.declared.quad.Quad.{Quad}
 use Rattle.terms.specs.declared.term.Term.{Term}
 use Rattle.terms.specs.Placed.{term_at, quad_at, is_within, is_quad_within}
 use Rattle.dict.specs.Dictionary.{term_of}
-use Rattle.quad_index.specs.declared.known.KnownQuad.{KnownQuad}
+use Rattle.quad_lists.specs.declared.known.KnownQuad.{KnownQuad}
 use Rattle.meaning_laws.specs.Renaming.{renamed_quad}
 
 -- quads by places of a table stand for these quads of numbers

@@ -6,7 +6,7 @@ ghost use Rattle.datasets.specs.declared.id.Id.{Id};
 ghost use Rattle.datasets.specs.declared.quad.Quad.{Quad};
 ghost use Rattle.datasets.specs.Dataset.{IsDataset};
 ghost use Rattle.dict.specs.Dictionary.{term_of, is_known};
-ghost use Rattle.quad_index.specs.Part.{quads_of_part};
+ghost use Rattle.quad_lists.specs.Part.{quads_of_part};
 ghost use Rattle.terms.specs.declared.term.Term.{Term as OneTerm};
 ghost use Rattle.terms.specs.Term.{term_order};
 ghost use Rattle.terms.specs.Placed.{term_at, quad_at, is_within, is_name_within, is_quad_within, GoesOn};
@@ -15,7 +15,7 @@ ghost use Rattle.numbering.specs.Tables.{StandFor, NamesStandFor, places_of};
 
 use datasets::Quad;
 use dict::{Dict, Id};
-use quad_index::{KnownQuad, Part};
+use quad_lists::{KnownQuad, Part};
 use reads::CompactView;
 use std::alloc::{AllocError, Global};
 use terms::laws::terms_keep_places;

@@ -1,7 +1,7 @@
 //! Which orders of a base the reads of a block can use. What a request finds doesn't depend on it: where an order is missing, it is only
 //! slower to find.
 use algebra::{GraphOperation, Link, Operation, Place, Plan, TriplePattern};
-use quad_index::Arrangement;
+use quad_lists::Arrangement;
 use rules::Block;
 use std::alloc::{AllocError, Global};
 

@@ -3,13 +3,14 @@ ghost use Rattle.std.specs.Prelude.{◌≡◌, IfOk, IfSome, OnOk, ◌++◌, fil
 ghost use Rattle.std.specs.List.Sorted.{IsPermutation, IsSortedByKey};
 ghost use Rattle.datasets.specs.Id.{id_order};
 ghost use Rattle.datasets.specs.Dataset.{matches as the_matches};
-ghost use Rattle.quad_index.specs.Keys.{key_of, key_order};
-ghost use Rattle.quad_index.specs.Known.{quad_of};
+ghost use Rattle.quad_lists.specs.Keys.{key_of, key_order};
+ghost use Rattle.quad_lists.specs.Known.{quad_of};
 ghost use Rattle.quad_hints.specs.Hint.{hint_of, hints_of as the_hints_of};
 
 use datasets::{Id, Quad, QuadPattern};
-use quad_index::matching::matches;
-use quad_index::{Arrangement, Entry, Key, KnownQuad};
+use quad_index::Entry;
+use quad_lists::matching::matches;
+use quad_lists::{Arrangement, Key, KnownQuad};
 use quad_sets::QuadSlice;
 use std::alloc::{AllocError, Global};
 

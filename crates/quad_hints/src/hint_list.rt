@@ -3,7 +3,7 @@ ghost use Rattle.std.specs.Prelude.{◌≡◌, ◌++◌, IfOk, OnOk, length, fil
 ghost use Rattle.std.specs.List.Sorted.{IsPermutation, IsSortedByKey};
 ghost use Rattle.datasets.specs.Id.{id_order};
 ghost use Rattle.datasets.specs.Dataset.{matches};
-ghost use Rattle.quad_index.specs.Keys.{key_of, key_order};
+ghost use Rattle.quad_lists.specs.Keys.{key_of, key_order};
 ghost use Rattle.quad_hints.specs.Hint.{hints_of as the_hints_of};
 ghost use Rattle.quad_hints.specs.HintList.{hints_in};
 ghost use Rattle.quad_hints.specs.declared.hint.Hint.{Hint as Told};
@@ -13,7 +13,8 @@ use crate::hint::{
     sorted_hints, sorted_known_hints, widened,
 };
 use datasets::{Id, QuadPattern};
-use quad_index::{Arrangement, part_for};
+use quad_index::part_for;
+use quad_lists::Arrangement;
 use quad_sets::QuadSlice;
 use std::alloc::{AllocError, Global};
 

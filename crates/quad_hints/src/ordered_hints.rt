@@ -10,7 +10,8 @@ ghost use Rattle.quad_hints.specs.Hints.{all_entries};
 use crate::hint_list::HintList;
 use crate::sorted_hints::SortedHints;
 use datasets::{Id, QuadPattern};
-use quad_index::{Arrangement, OrderSet, order_for};
+use quad_index::OrderSet;
+use quad_lists::{Arrangement, order_for};
 use std::alloc::{AllocError, Global};
 use std::marker::Model;
 

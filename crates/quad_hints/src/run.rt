@@ -3,13 +3,13 @@ ghost use Rattle.std.specs.Prelude.{◌≡◌, ◌++◌, IfOk, OnOk, filter, map
 ghost use Rattle.std.specs.List.Sorted.{IsPermutation, IsSortedByKey};
 ghost use Rattle.datasets.specs.Id.{id_order};
 ghost use Rattle.datasets.specs.Dataset.{matches};
-ghost use Rattle.quad_index.specs.Keys.{key_of, key_order};
+ghost use Rattle.quad_lists.specs.Keys.{key_of, key_order};
 ghost use Rattle.quad_hints.specs.HintList.{hints_in};
 ghost use Rattle.quad_hints.specs.declared.hint.Hint.{Hint};
 
 use crate::hint_list::HintList;
 use datasets::{Id, QuadPattern};
-use quad_index::Arrangement;
+use quad_lists::Arrangement;
 use std::alloc::{AllocError, Global};
 
 /// Hints sorted in an order.

@@ -10,7 +10,7 @@ ghost use Rattle.quad_hints.specs.Hints.{all_entries};
 use crate::hint_list::HintList;
 use crate::run::{Run, joined};
 use datasets::{Id, QuadPattern};
-use quad_index::Arrangement;
+use quad_lists::Arrangement;
 use std::alloc::{AllocError, Global};
 
 /// The hints of one order, in runs. The last runs of like lengths are joined.

@@ -6,8 +6,8 @@ use Rattle.std.proofs.lemmas.List.{get_or-map, length-map}
 use Rattle.std.proofs.lemmas.List.Sums.{length-filter}
 use Rattle.std.proofs.lemmas.List.Sorted.{sum_by-IsPermutation}
 use Rattle.std.specs.List.Sorted.{IsPermutation}
-use Rattle.quad_index.specs.declared.key.Arrangement.{Arrangement}
-use Rattle.quad_index.specs.declared.key.Arrangement.TheVariants.{Spog}
+use Rattle.quad_lists.specs.declared.key.Arrangement.{Arrangement}
+use Rattle.quad_lists.specs.declared.key.Arrangement.TheVariants.{Spog}
 use Rattle.quad_index.specs.declared.order.Order.{Order}
 use Rattle.quad_index.specs.Index.{arrangements_of}
 use Rattle.quad_index.specs.Looks.{IsScan}

@@ -1,8 +1,8 @@
 pub mod Alike
 pub mod Looking
-pub mod Mapped
 pub mod Moved
 pub mod Orders
+pub mod Parted
 pub mod Parted
 pub mod Rising
 pub mod Searching

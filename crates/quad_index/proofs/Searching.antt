@@ -15,10 +15,10 @@ use Rattle.datasets.specs.Id.{id_total}
 use Rattle.std.specs.Cmp.Derive.{point_total}
 use Rattle.sets.proofs.Filters.{kept_middle}
 use lib.Dec.{ltb}
-use Rattle.quad_index.specs.declared.key.Key.{Key}
-use Rattle.quad_index.specs.declared.key.Depth.{Depth}
-use Rattle.quad_index.specs.declared.key.Depth.TheVariants.{Zero, One, Two, Three, Four}
-use Rattle.quad_index.specs.Keys.{place_order, key_order, order_at, is_before}
+use Rattle.quad_lists.specs.declared.key.Key.{Key}
+use Rattle.quad_lists.specs.declared.key.Depth.{Depth}
+use Rattle.quad_lists.specs.declared.key.Depth.TheVariants.{Zero, One, Two, Three, Four}
+use Rattle.quad_lists.specs.Keys.{place_order, key_order, order_at, is_before}
 
 place_total : IsTotalOrder place_order
 place_total = options_total id_total

@@ -15,11 +15,11 @@ use Rattle.datasets.specs.declared.read.GraphPlace.TheVariants.{Any, Only}
 use Rattle.datasets.specs.declared.read.QuadPattern.{QuadPattern}
 use Rattle.datasets.specs.Dataset.{matches, free_or, in_place}
 use Rattle.datasets.specs.Id.{id_order}
-use Rattle.quad_index.specs.declared.key.Key.{Key}
-use Rattle.quad_index.specs.declared.key.Bounds.{Bounds}
-use Rattle.quad_index.specs.declared.key.Arrangement.{Arrangement}
-use Rattle.quad_index.specs.declared.key.Arrangement.TheVariants.{Spog, Pogs, Ogsp, Gspo, Gpso, Ospg}
-use Rattle.quad_index.specs.Keys.{place_order, order_at, key_of, bound_term, bound_graph, bounds_of, depth_by, bound_or_none, is_sought, arrangement_by, arrangement_for}
+use Rattle.quad_lists.specs.declared.key.Key.{Key}
+use Rattle.quad_lists.specs.declared.key.Bounds.{Bounds}
+use Rattle.quad_lists.specs.declared.key.Arrangement.{Arrangement}
+use Rattle.quad_lists.specs.declared.key.Arrangement.TheVariants.{Spog, Pogs, Ogsp, Gspo, Gpso, Ospg}
+use Rattle.quad_lists.specs.Keys.{place_order, order_at, key_of, bound_term, bound_graph, bounds_of, depth_by, bound_or_none, is_sought, arrangement_by, arrangement_for}
 
 -- a place's term is the one that it is bound to
 agrees : Option (Option Id) → Option Id → Bool

@@ -6,8 +6,8 @@ use Rattle.datasets.specs.Id.{id_order}
 use Rattle.datasets.specs.Dataset.{quad_order}
 use Rattle.datasets.specs.declared.id.Id.{Id}
 use Rattle.datasets.specs.declared.quad.Quad.{Quad}
-use Rattle.quad_index.specs.declared.key.Arrangement.{Arrangement}
-use Rattle.quad_index.specs.declared.key.Arrangement.TheVariants.{Spog}
+use Rattle.quad_lists.specs.declared.key.Arrangement.{Arrangement}
+use Rattle.quad_lists.specs.declared.key.Arrangement.TheVariants.{Spog}
 use Rattle.quad_index.specs.declared.order.Order.{Order}
 
 abbrev pub arrangements_of : List Order → List Arrangement

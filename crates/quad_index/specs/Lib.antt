@@ -1,13 +1,7 @@
-pub mod Keys
 pub mod OrderSet
 pub mod Looks
-pub mod Known
-pub mod KnownOrder
-pub mod KnownKey
 pub mod Rising
 pub mod Sorted
 pub mod Indexed
 pub mod Index
-pub mod QuadList
-pub mod Part
 pub mod Parted

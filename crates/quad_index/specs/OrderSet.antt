@@ -1,7 +1,7 @@
 -- Which orders are kept.
 use Rattle.std.specs.Prelude.{Bool, true}
-use Rattle.quad_index.specs.declared.key.Arrangement.{Arrangement}
-use Rattle.quad_index.specs.declared.key.Arrangement.TheVariants.{Spog, Pogs, Ogsp, Gspo, Gpso, Ospg}
+use Rattle.quad_lists.specs.declared.key.Arrangement.{Arrangement}
+use Rattle.quad_lists.specs.declared.key.Arrangement.TheVariants.{Spog, Pogs, Ogsp, Gspo, Gpso, Ospg}
 use Rattle.quad_index.specs.declared.order_set.OrderSet.{OrderSet}
 
 -- SPOG always is

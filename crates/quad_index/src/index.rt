@@ -5,18 +5,16 @@ ghost use Rattle.std.specs.List.Sorted.{IsPermutation, IsStrictlySortedBy};
 ghost use Rattle.sets.specs.Sets.{set_of as the_set_of};
 ghost use Rattle.datasets.specs.Id.{id_order};
 ghost use Rattle.datasets.specs.Dataset.{quad_order, matches};
-ghost use Rattle.quad_index.specs.Keys.{arrangement_for};
+ghost use Rattle.quad_lists.specs.Keys.{arrangement_for};
 ghost use Rattle.quad_index.specs.Index.{AllAlike, arrangements_of};
 ghost use Rattle.quad_index.specs.Looks.{IsScan};
-ghost use Rattle.quad_index.specs.Part.{quads_of_part};
-ghost use Rattle.quad_index.specs.QuadList.{quads_in};
+ghost use Rattle.quad_lists.specs.Part.{quads_of_part};
+ghost use Rattle.quad_lists.specs.QuadList.{quads_in};
 
-use crate::key::{Arrangement, order_for};
 use crate::looks::Looks;
 use crate::order::Order;
-use crate::part::Part;
-use crate::quad_list::{Entries, QuadList};
 use datasets::{Id, Quad, QuadPattern};
+use quad_lists::{Arrangement, Entries, Part, QuadList, order_for};
 use std::alloc::{AllocError, Global};
 use std::marker::Model;
 use std::thread::Threads;
@@ -31,7 +29,7 @@ pub struct Index {
 
 impl Model for Index {
     ghost use Rattle.std.specs.Prelude.{◌∷◌};
-    ghost use Rattle.quad_index.specs.declared.key.Arrangement.TheVariants.{Spog};
+    ghost use Rattle.quad_lists.specs.declared.key.Arrangement.TheVariants.{Spog};
     ghost use Rattle.quad_index.specs.Indexed.{Indexed};
 
     ghost Value = { Indexed };

@@ -6,21 +6,19 @@ ghost use Rattle.std.specs.List.Sorted.{IsPermutation, IsSortedByKey, IsStrictly
 ghost use Rattle.sets.specs.Sets.{set_of as the_set_of};
 ghost use Rattle.datasets.specs.Id.{id_order};
 ghost use Rattle.datasets.specs.Dataset.{quad_order, matches as the_matches};
-ghost use Rattle.quad_index.specs.Known.{quad_of};
-ghost use Rattle.quad_index.specs.Keys.{arrangement_for, bounds_of as the_bounds_of, is_sought, order_at, key_of, key_order, is_before as the_is_before};
+ghost use Rattle.quad_lists.specs.Known.{quad_of};
+ghost use Rattle.quad_lists.specs.Keys.{arrangement_for, bounds_of as the_bounds_of, is_sought, order_at, key_of, key_order, is_before as the_is_before};
 ghost use Rattle.quad_index.specs.Looks.{IsSearch, IsNarrowed, IsScan};
-ghost use Rattle.quad_index.specs.Part.{quads_of_part};
-ghost use Rattle.quad_index.specs.QuadList.{quads_in};
+ghost use Rattle.quad_lists.specs.Part.{quads_of_part};
+ghost use Rattle.quad_lists.specs.QuadList.{quads_in};
 
-use crate::key::{Arrangement, Depth, Key, is_before, order_for};
-use crate::known::{
-    KnownQuad, known_quads, known_set, known_set_by, sorted_known, sorted_known_by,
-};
-use crate::known_key::known_beside;
 use crate::looks::Looks;
-use crate::part::Part;
-use crate::quad_list::{Entries, QuadList};
+use crate::sorted::{known_set_by, sorted_known, sorted_known_by};
 use datasets::{Id, Quad, QuadPattern};
+use quad_lists::{
+    Arrangement, Depth, Entries, Key, KnownQuad, Part, QuadList, is_before, known_beside,
+    known_quads, known_set, order_for,
+};
 use sets::set_of;
 use std::alloc::{AllocError, Global};
 use std::cmp::Ordering;
@@ -39,7 +37,7 @@ impl Model for Order {
 
     ghost Value = { Sorted };
 
-    ghost use Rattle.quad_index.specs.QuadList.{quads_in};
+    ghost use Rattle.quad_lists.specs.QuadList.{quads_in};
     ghost use Rattle.quad_index.specs.Sorted.{IsOrder};
 
     ghost view = { λ o. record { arrangement = o.arrangement; quads = quads_in o.entries } };

@@ -2,9 +2,9 @@
 ghost use Rattle.std.specs.Prelude.{◌≡◌, ◌∷◌, ◌↔◌, true};
 ghost use Rattle.std.specs.List.{Contains};
 ghost use Rattle.quad_index.specs.OrderSet.{has_order};
-ghost use Rattle.quad_index.specs.declared.key.Arrangement.{Arrangement as Which};
+ghost use Rattle.quad_lists.specs.declared.key.Arrangement.{Arrangement as Which};
 
-use crate::key::Arrangement;
+use quad_lists::Arrangement;
 
 /// SPOG, and which of the orders beside it.
 #[derive(Clone, Copy, Debug)]

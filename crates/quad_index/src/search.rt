@@ -7,12 +7,11 @@ ghost use Rattle.datasets.specs.Id.{id_order};
 ghost use Rattle.datasets.specs.Dataset.{quad_order, matches};
 ghost use Rattle.datasets.specs.declared.id.Id.{Id as Number};
 ghost use Rattle.datasets.specs.declared.quad.Quad.{Quad as Spoken};
-ghost use Rattle.quad_index.specs.Keys.{key_order, key_of, order_at, is_before as the_is_before};
-ghost use Rattle.quad_index.specs.Known.{quad_of};
+ghost use Rattle.quad_lists.specs.Keys.{key_order, key_of, order_at, is_before as the_is_before};
+ghost use Rattle.quad_lists.specs.Known.{quad_of};
 
-use crate::key::{Arrangement, Depth, Key, is_before};
-use crate::known::KnownQuad;
 use datasets::{Id, Quad, QuadPattern};
+use quad_lists::{Arrangement, Depth, Key, KnownQuad, is_before};
 
 /// What has a quad, by which it is sorted and looked for: a quad itself, or one with more beside it.
 pub trait Entry {

@@ -6,7 +6,7 @@ use Rattle.std.proofs.lemmas.List.{map-append}
 use Rattle.std.specs.declared.cmp.Ordering.{Ordering}
 use Rattle.std.specs.Ordering.{eq_by_cmp}
 use Rattle.sets.specs.Sets.{has, set_of, union, without}
-use Rattle.quad_index.proofs.Mapped.{filter-map, map_set}
+use Rattle.quad_lists.proofs.Mapped.{filter-map, map_set}
 
 pub any-map : {A B : Type 0} (p : B → Bool) (f : A → B) (xs : List A) → list_any p (map f xs) ≡ list_any (λ x. p (f x)) xs
 any-map p f [] = refl

@@ -5,14 +5,15 @@ ghost use Rattle.std.specs.List.Sorted.{IsStrictlySortedBy};
 ghost use Rattle.sets.specs.Sets.{has, union, without};
 ghost use Rattle.datasets.specs.Id.{id_order};
 ghost use Rattle.datasets.specs.Dataset.{quad_order, matches as the_matches};
-ghost use Rattle.quad_index.specs.Known.{quad_of};
+ghost use Rattle.quad_lists.specs.Known.{quad_of};
 
 use crate::lists::changed;
 use crate::near::is_member_near;
 use crate::runs::changed_in_runs;
 use datasets::{Id, Quad, QuadPattern};
-use quad_index::matching::matches;
-use quad_index::{Arrangement, KnownQuad, part_for};
+use quad_index::part_for;
+use quad_lists::matching::matches;
+use quad_lists::{Arrangement, KnownQuad};
 use sets::is_member;
 use std::alloc::{AllocError, Global};
 

@@ -4,13 +4,14 @@ ghost use Rattle.std.specs.List.Sorted.{IsStrictlySortedBy};
 ghost use Rattle.sets.specs.Sets.{set_of as the_set_of, union, without};
 ghost use Rattle.datasets.specs.Id.{id_order};
 ghost use Rattle.datasets.specs.Dataset.{quad_order};
-ghost use Rattle.quad_index.specs.QuadList.{quads_in};
+ghost use Rattle.quad_lists.specs.QuadList.{quads_in};
 
 use crate::lists::merged;
 use crate::narrow::{known_changed, known_changed_in_runs};
 use crate::quad_slice::QuadSlice;
 use datasets::{Id, Quad};
-use quad_index::{Entries, Index, Part, QuadList, known_quads, known_set, widened_quads};
+use quad_index::Index;
+use quad_lists::{Entries, Part, QuadList, known_quads, known_set, widened_quads};
 use sets::set_of;
 use std::alloc::{AllocError, Global};
 use std::marker::Model;
@@ -28,7 +29,7 @@ impl Model for QuadSet {
     ghost use Rattle.datasets.specs.declared.quad.Quad.{Quad};
     ghost use Rattle.datasets.specs.Id.{id_order};
     ghost use Rattle.datasets.specs.Dataset.{quad_order};
-    ghost use Rattle.quad_index.specs.QuadList.{quads_in};
+    ghost use Rattle.quad_lists.specs.QuadList.{quads_in};
 
     ghost Value = { List (Quad Id) };
 

@@ -9,17 +9,15 @@ ghost use Rattle.datasets.specs.Dataset.{quad_order, matches as the_matches};
 ghost use Rattle.datasets.specs.declared.id.Id.{Id as Number};
 ghost use Rattle.datasets.specs.declared.quad.Quad.{Quad as Spoken};
 ghost use Rattle.quad_index.specs.Index.{AllAlike, arrangements_of};
-ghost use Rattle.quad_index.specs.Known.{quad_of};
-ghost use Rattle.quad_index.specs.Part.{quads_of_part};
+ghost use Rattle.quad_lists.specs.Known.{quad_of};
+ghost use Rattle.quad_lists.specs.Part.{quads_of_part};
 
 use crate::narrow::{is_among_known, is_any_known, is_near_known, part_of_known};
 use crate::near::is_member_near;
 use crate::quad_set::QuadSet;
 use datasets::{Id, Quad, QuadPattern};
-use quad_index::matching::is_any_in_set;
-use quad_index::{
-    Arrangement, Index, KnownQuad, Looks, Order, Part, QuadList, order_for, part_of_set, widened_quads,
-};
+use quad_index::{Index, Looks, Order, is_any_in_set, part_of_set};
+use quad_lists::{Arrangement, KnownQuad, Part, QuadList, order_for, widened_quads};
 use sets::is_member;
 use std::alloc::{AllocError, Global};
 use std::marker::Model;
@@ -37,7 +35,7 @@ impl<'a> Model for QuadSlice<'a> {
     ghost use Rattle.datasets.specs.declared.quad.Quad.{Quad};
     ghost use Rattle.datasets.specs.Id.{id_order};
     ghost use Rattle.datasets.specs.Dataset.{quad_order};
-    ghost use Rattle.quad_index.specs.Part.{quads_of_part};
+    ghost use Rattle.quad_lists.specs.Part.{quads_of_part};
 
     ghost Value = { List (Quad Id) };
 

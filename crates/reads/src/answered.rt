@@ -7,7 +7,7 @@ ghost use Rattle.reads.specs.Same.{answer_eq};
 
 use crate::same::{same_bool, same_names, same_quads};
 use datasets::Id;
-use quad_index::QuadList;
+use quad_lists::QuadList;
 use std::alloc::{AllocError, Global};
 use std::marker::Model;
 use std::sync::Arc;

@@ -1,11 +1,11 @@
 //! The question whether one quad is there.
 ghost use Rattle.std.specs.Prelude.{◌≡◌, ◌∷◌, [], IsTrue, IfOk, IfSome};
-ghost use Rattle.quad_index.specs.Known.{quad_of};
+ghost use Rattle.quad_lists.specs.Known.{quad_of};
 ghost use Rattle.reads.specs.Presence.{scan_for as the_scan_for, presence};
 
 use crate::answered::{Answered, KeptAnswer};
 use datasets::{GraphPlace, Id, Quad, QuadPattern, Read};
-use quad_index::{KnownQuad, QuadList};
+use quad_lists::{KnownQuad, QuadList};
 use std::alloc::{AllocError, Global};
 
 /// The scan for one quad.

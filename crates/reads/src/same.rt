@@ -6,7 +6,7 @@ ghost use Rattle.datasets.specs.Dataset.{same_graph};
 ghost use Rattle.reads.specs.Same.{list_eq, bool_eq, quads_eq, names_eq, graph_place_eq, pattern_eq, read_eq};
 
 use datasets::{GraphPlace, Id, QuadPattern, Read};
-use quad_index::QuadList;
+use quad_lists::QuadList;
 
 fn same_lists<T: Ord>(left: &[T], right: &[T]) -> bool
     ensures { result ≡ list_eq (eq_by_cmp T.cmp) left.now right.now }

@@ -11,7 +11,7 @@ use crate::indexed::IndexedView;
 use crate::lists::{copied_names, name_if};
 use crate::view::View;
 use datasets::{Id, QuadPattern, Read};
-use quad_index::QuadList;
+use quad_lists::QuadList;
 use quad_sets::QuadSet;
 use std::alloc::{AllocError, Global};
 use std::marker::Model;

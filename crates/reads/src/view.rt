@@ -9,7 +9,7 @@ ghost use Rattle.reads.specs.Reads.{says, IsDataset};
 use crate::answered::{Answered, KeptAnswer};
 use crate::lists::{copied_names, name_if};
 use datasets::{Id, QuadPattern, Read};
-use quad_index::QuadList;
+use quad_lists::QuadList;
 use quad_sets::{QuadSet, QuadSlice};
 use sets::{is_member, set_of};
 use std::alloc::{AllocError, Global};

@@ -50,9 +50,9 @@ use Rattle.delta.specs.contracts.delta.Delta as Delta
 use Rattle.delta.specs.contracts.parts.Parts as Parts
 use Rattle.delta.specs.contracts.finished.Finished as Finished
 use Rattle.reads.specs.contracts.note.Note as Note
-use Rattle.quad_index.specs.contracts.known.KnownQuad as KnownQuad
-use Rattle.quad_index.specs.contracts.quad_list.Entries as Entries
-use Rattle.quad_index.specs.contracts.quad_list.QuadList as QuadList
+use Rattle.quad_lists.specs.contracts.known.KnownQuad as KnownQuad
+use Rattle.quad_lists.specs.contracts.quad_list.Entries as Entries
+use Rattle.quad_lists.specs.contracts.quad_list.QuadList as QuadList
 use Rattle.quad_index.specs.contracts.order.Order as Order
 use Rattle.quad_index.specs.contracts.index.Index as Index
 use Rattle.quad_sets.specs.contracts.quad_set.QuadSet as QuadSet
@@ -68,7 +68,7 @@ use Rattle.version_overlay.specs.contracts.settled.Settled as Settled
 use Rattle.version_overlay.specs.contracts.whole_note.WholeNote as WholeNote
 use Rattle.version_overlay.specs.contracts.lean_note.Form as NoteForm
 use Rattle.version_overlay.specs.contracts.lean_note.LeanNote as LeanNote
-use Rattle.quad_index.proofs.key.Arrangement.TheSendSync as arrangement
+use Rattle.quad_lists.proofs.key.Arrangement.TheSendSync as arrangement
 use Rattle.quad_hints.specs.contracts.run.Run as Run
 use Rattle.quad_hints.specs.contracts.hint.Hint as Hint
 use Rattle.quad_hints.specs.contracts.hint.KnownHint as KnownHint

@@ -6,8 +6,8 @@ use Rattle.std.proofs.lemmas.Bool.{false≢true, and_parts}
 use Rattle.datasets.specs.declared.id.Id.{Id}
 use Rattle.datasets.specs.declared.id.Id.TheVariants.{Known, Made}
 use Rattle.datasets.specs.declared.quad.Quad.{Quad}
-use Rattle.quad_index.specs.declared.known.KnownQuad.{KnownQuad}
-use Rattle.quad_index.specs.Known.{quad_of, known_graph}
+use Rattle.quad_lists.specs.declared.known.KnownQuad.{KnownQuad}
+use Rattle.quad_lists.specs.Known.{quad_of, known_graph}
 use Rattle.store.specs.Tables.{number_at, numbers_at, is_number, number_of, known_at}
 
 number_back : (id : Id) → is_number id ≡ true → Known (number_of id) ≡ id

@@ -4,7 +4,7 @@ use Rattle.std.specs.Option.{option_map}
 use Rattle.datasets.specs.declared.id.Id.{Id}
 use Rattle.datasets.specs.declared.id.Id.TheVariants.{Known, Made}
 use Rattle.datasets.specs.declared.quad.Quad.{Quad}
-use Rattle.quad_index.specs.declared.known.KnownQuad.{KnownQuad}
+use Rattle.quad_lists.specs.declared.known.KnownQuad.{KnownQuad}
 
 -- the number that stands at a place, and the quad of the numbers at its places
 abbrev pub number_at : List Id → ℕ → Id

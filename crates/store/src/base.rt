@@ -14,7 +14,7 @@ use datasets::{Id, Quad, Read};
 use dict::Dict;
 use dict::laws::is_renaming;
 use nquads::tag;
-use quad_index::Arrangement;
+use quad_lists::Arrangement;
 use reads::{Answered, IndexedView, Source, Stop};
 use std::alloc::{AllocError, Global};
 use std::marker::Model;

@@ -10,7 +10,7 @@ ghost use Rattle.dict.specs.Dictionary.{IsDictionary, is_written, is_known, term
 use crate::numbers::{quad_numbers, quad_numbers_by};
 use datasets::{Id, Quad};
 use dict::Dict;
-use quad_index::{Arrangement, QuadList};
+use quad_lists::{Arrangement, QuadList};
 use reads::IndexedView;
 use std::alloc::{AllocError, Global};
 use std::thread::Threads;

@@ -3,8 +3,8 @@ ghost use Rattle.std.specs.Prelude.{◌≡◌, ◌<◌, ℕ, true, length, map, 
 ghost use Rattle.std.specs.List.{list_all, Contains};
 ghost use Rattle.std.specs.Option.{option_map};
 ghost use Rattle.datasets.specs.declared.quad.Quad.{Quad};
-ghost use Rattle.quad_index.specs.Known.{quad_of};
-ghost use Rattle.quad_index.specs.declared.known.KnownQuad.{KnownQuad};
+ghost use Rattle.quad_lists.specs.Known.{quad_of};
+ghost use Rattle.quad_lists.specs.declared.known.KnownQuad.{KnownQuad};
 ghost use Rattle.terms.specs.Placed.{is_within, is_name_within, is_quad_within};
 ghost use Rattle.dict.specs.Dictionary.{term_of, is_known};
 ghost use Rattle.store.specs.Held.{is_held};
@@ -12,7 +12,7 @@ ghost use Rattle.store.specs.Tables.{number_at, numbers_at, is_number as the_is_
 
 use datasets::Quad;
 use dict::{Dict, Id};
-use quad_index::{KnownQuad, QuadList};
+use quad_lists::{KnownQuad, QuadList};
 use rayon::slice::par_for_each_mut;
 use std::alloc::{AllocError, Global};
 use std::thread::Threads;

@@ -1,5 +1,5 @@
 -- Notes of little memory.
-use Rattle.quad_index.specs.Known.{quad_of}
+use Rattle.quad_lists.specs.Known.{quad_of}
 use Rattle.reads.specs.declared.note.Note.{Note}
 use Rattle.reads.specs.Presence.{scan_for, presence}
 use Rattle.version_overlay.specs.declared.lean_note.Form.{Form}

@@ -1,6 +1,6 @@
 //! Reads with their answers, in little memory once the answers are not needed for now.
 ghost use Rattle.std.specs.Prelude.{◌≡◌, ◌↔◌, IsTrue, IfOk, IfSome};
-ghost use Rattle.quad_index.specs.Known.{quad_of};
+ghost use Rattle.quad_lists.specs.Known.{quad_of};
 ghost use Rattle.reads.specs.Presence.{presence};
 ghost use Rattle.reads.specs.Reads.{says};
 ghost use Rattle.version_overlay.specs.LeanNote.{note_of};
@@ -9,7 +9,7 @@ ghost use Rattle.version_overlay.specs.Settled.{changed_by};
 use crate::whole_note::WholeNote;
 use datasets::{Id, Read};
 use delta::Delta;
-use quad_index::KnownQuad;
+use quad_lists::KnownQuad;
 use reads::presence::{is_present, presence_answer, quad_scanned, scan_for};
 use reads::same::{same_bool, same_reads};
 use reads::{Answered, IndexedView, Note};

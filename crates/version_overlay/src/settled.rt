@@ -15,7 +15,7 @@ use crate::level::Level;
 use datasets::{Id, Read};
 use delta::Delta;
 use quad_hints::SeenQuads;
-use quad_index::Arrangement;
+use quad_lists::Arrangement;
 use reads::{CompactView, IndexedView, Scanned, View};
 use std::alloc::{AllocError, Global};
 use std::marker::Model;

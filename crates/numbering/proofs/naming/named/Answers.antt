@@ -5,7 +5,7 @@ use Rattle.datasets.specs.declared.id.Id.{Id}
 use Rattle.datasets.specs.declared.quad.Quad.{Quad}
 use Rattle.terms.specs.declared.term.Term.{Term}
 use Rattle.terms.specs.Placed.{term_at, quad_at, AreApart}
-use Rattle.quad_index.specs.Part.{quads_of_part}
+use Rattle.quad_lists.specs.Part.{quads_of_part}
 use Rattle.dict.specs.Dictionary.{term_of, is_known}
 use Rattle.meaning_laws.specs.Renaming.{renamed, renamed_quad, quad_known}
 use Rattle.numbering.proofs.Numbers.{of_parts, parts_dataset}

@@ -3,8 +3,8 @@ use Rattle.std.specs.List.{list_all}
 use Rattle.std.proofs.lemmas.Result.{IfOk-weaker}
 use Rattle.datasets.specs.declared.id.Id.{Id}
 use Rattle.datasets.specs.declared.quad.Quad.{Quad}
-use Rattle.quad_index.specs.Known.{quad_of}
-use Rattle.quad_index.specs.Part.{quads_of_part}
+use Rattle.quad_lists.specs.Known.{quad_of}
+use Rattle.quad_lists.specs.Part.{quads_of_part}
 use Rattle.dict.specs.Dictionary.{is_known}
 use Rattle.meaning_laws.specs.Renaming.{quad_known}
 use Rattle.numbering.specs.Tables.{StandFor}

@@ -3,7 +3,7 @@ use Rattle.std.proofs.lemmas.List.MinMax.{ranks_by}
 use Rattle.std.proofs.lemmas.Fn.{always_returns_same}
 use Rattle.std.specs.Ordering.{is_lt}
 use Rattle.quad_hints.specs.declared.hint.Hint.{Hint}
-use Rattle.quad_index.specs.Keys.{key_of, key_order}
+use Rattle.quad_lists.specs.Keys.{key_of, key_order}
 use Rattle.quad_index.proofs.Searching.{key_total}
 use Rattle.quad_hints.proofs.hint.sorted_hints.Goals as goal
 

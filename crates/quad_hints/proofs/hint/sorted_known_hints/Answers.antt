@@ -6,7 +6,7 @@ use Rattle.std.specs.Ordering.{is_lt}
 use Rattle.quad_hints.specs.declared.hint.Hint.{Hint}
 use Rattle.quad_hints.specs.declared.hint.KnownHint.{KnownHint}
 use Rattle.quad_hints.specs.Hint.{hint_of}
-use Rattle.quad_index.specs.Keys.{key_of, key_order}
+use Rattle.quad_lists.specs.Keys.{key_of, key_order}
 use Rattle.quad_index.proofs.Orders.{sorted_map}
 use Rattle.quad_index.proofs.Searching.{key_total}
 use Rattle.quad_hints.proofs.hint.sorted_known_hints.Goals as goal

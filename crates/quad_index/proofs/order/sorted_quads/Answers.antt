@@ -2,7 +2,7 @@ use Rattle.std.proofs.Common.{rules}
 use Rattle.std.proofs.lemmas.Fn.{always_returns_same}
 use Rattle.datasets.specs.declared.id.Id.{Id}
 use Rattle.datasets.specs.declared.quad.Quad.{Quad}
-use Rattle.quad_index.specs.Keys.{key_of}
+use Rattle.quad_lists.specs.Keys.{key_of}
 use Rattle.quad_index.proofs.order.sorted_quads.Goals as goal
 
 pub returns-clause-sorted : goal.returns-clause-sorted

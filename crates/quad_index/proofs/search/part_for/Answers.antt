@@ -1,9 +1,9 @@
 use Rattle.std.proofs.Common.{◌∙◌, ap, List}
 use Rattle.std.specs.Prelude.{filter}
 use Rattle.std.specs.Ordering.{is_eq}
-use Rattle.quad_index.specs.declared.key.Key.{Key}
-use Rattle.quad_index.specs.declared.key.Depth.{Depth}
-use Rattle.quad_index.specs.Keys.{key_of, order_at, depth_of, target_of}
+use Rattle.quad_lists.specs.declared.key.Key.{Key}
+use Rattle.quad_lists.specs.declared.key.Depth.{Depth}
+use Rattle.quad_lists.specs.Keys.{key_of, order_at, depth_of, target_of}
 use Rattle.quad_index.proofs.Sought.{part_has_all}
 use Rattle.quad_index.proofs.search.part_for.Goals as goal
 

@@ -1,5 +1,5 @@
 use Rattle.std.proofs.Common.{◌∙◌}
-use Rattle.quad_index.specs.Keys.{key_of, order_at}
+use Rattle.quad_lists.specs.Keys.{key_of, order_at}
 use Rattle.quad_index.proofs.Searching.{Between, places_ordered, part_is}
 use Rattle.quad_index.proofs.search.part_of.Goals as goal
 

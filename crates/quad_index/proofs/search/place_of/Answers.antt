@@ -1,5 +1,5 @@
 use Rattle.std.proofs.Common.{arith, sym, ◌∙◌, ap}
-use Rattle.quad_index.specs.Keys.{key_of, order_at, is_before}
+use Rattle.quad_lists.specs.Keys.{key_of, order_at, is_before}
 use Rattle.quad_index.proofs.Searching.{before_partitioned, front_more, back_more}
 use Rattle.quad_index.proofs.search.place_of.Goals as goal
 

@@ -1,6 +1,6 @@
 use Rattle.std.proofs.Common.{◌≡◌, ◌≤◌, ◌-◌, true, false, length}
 use Rattle.std.specs.List.{AllWithin}
-use Rattle.quad_index.specs.Keys.{key_of, order_at, is_before}
+use Rattle.quad_lists.specs.Keys.{key_of, order_at, is_before}
 use Rattle.quad_index.proofs.search.place_of.Given as goal
 
 abbrev pub invariant-loop-low : goal.invariant-loop-low

@@ -2,8 +2,8 @@ use Rattle.std.proofs.Common.{map, ap, sym, ◌∙◌}
 use Rattle.datasets.specs.Id.{id_order}
 use Rattle.datasets.specs.Dataset.{quad_order}
 use Rattle.sets.specs.Sets.{has}
-use Rattle.quad_index.specs.Known.{quad_of}
-use Rattle.quad_index.proofs.Mapped.{sorted-unmap}
+use Rattle.quad_lists.specs.Known.{quad_of}
+use Rattle.quad_lists.proofs.Mapped.{sorted-unmap}
 use Rattle.quad_sets.proofs.MappedSets.{has-map, lacks_others}
 use Rattle.quad_sets.proofs.narrow.is_near_known.Goals as goal
 

@@ -2,8 +2,8 @@ use Rattle.std.proofs.Common.{map, ap, ◌∙◌}
 use Rattle.std.proofs.lemmas.Result.{IfOk-weaker}
 use Rattle.datasets.specs.Id.{id_order}
 use Rattle.datasets.specs.Dataset.{quad_order}
-use Rattle.quad_index.specs.Known.{quad_of}
-use Rattle.quad_index.proofs.Mapped.{sorted-unmap}
+use Rattle.quad_lists.specs.Known.{quad_of}
+use Rattle.quad_lists.proofs.Mapped.{sorted-unmap}
 use Rattle.quad_sets.proofs.MappedSets.{map-changed}
 use Rattle.quad_sets.proofs.narrow.known_changed.Goals as goal
 

@@ -1,11 +1,11 @@
 use Rattle.std.proofs.Common.{map, ap, sym, ◌∙◌}
 use Rattle.datasets.specs.Id.{id_order}
 use Rattle.datasets.specs.Dataset.{matches}
-use Rattle.quad_index.specs.declared.key.Arrangement.TheVariants.{Spog}
-use Rattle.quad_index.specs.Keys.{key_of, key_order}
-use Rattle.quad_index.specs.Known.{quad_of}
-use Rattle.quad_index.specs.declared.known.KnownQuad.{KnownQuad}
-use Rattle.quad_index.proofs.Mapped.{filter-map}
+use Rattle.quad_lists.specs.declared.key.Arrangement.TheVariants.{Spog}
+use Rattle.quad_lists.specs.Keys.{key_of, key_order}
+use Rattle.quad_lists.specs.Known.{quad_of}
+use Rattle.quad_lists.specs.declared.known.KnownQuad.{KnownQuad}
+use Rattle.quad_lists.proofs.Mapped.{filter-map}
 use Rattle.quad_index.proofs.Orders.{set_by_places, sorted_unmapped}
 use Rattle.quad_sets.proofs.narrow.part_of_known.Goals as goal
 

@@ -1,5 +1,5 @@
 use Rattle.std.proofs.Common.{◌≡◌, ◌++◌, map, take}
-use Rattle.quad_index.specs.Known.{quad_of}
+use Rattle.quad_lists.specs.Known.{quad_of}
 use Rattle.quad_sets.proofs.quad_slice.push_widened.Given as goal
 
 abbrev pub invariant-loop-entry : goal.invariant-loop-entry

@@ -3,14 +3,14 @@ use Rattle.std.specs.Prelude.{OnOk, filter}
 use Rattle.std.specs.List.Sorted.{IsSortedByKey}
 use Rattle.datasets.specs.Id.{id_order}
 use Rattle.datasets.specs.Dataset.{matches}
-use Rattle.quad_index.specs.Keys.{key_of, key_order}
+use Rattle.quad_lists.specs.Keys.{key_of, key_order}
 use Rattle.quad_hints.specs.Hint.{hint_of}
 use Rattle.quad_hints.specs.HintList.{hints_in}
 use Rattle.quad_hints.specs.declared.hint.Hint.{Hint}
 use Rattle.quad_hints.specs.declared.hint.KnownHint.{KnownHint}
 use Rattle.quad_hints.specs.declared.hint_list.HintList.{HintList}
 use Rattle.quad_index.proofs.Orders.{sorted_unmapped}
-use Rattle.quad_index.proofs.Mapped.{filter-map}
+use Rattle.quad_lists.proofs.Mapped.{filter-map}
 use Rattle.quad_hints.proofs.hint_list.HintList.add_requests.Goals as goal
 
 pub part_for-requires : goal.part_for-requires

@@ -4,7 +4,7 @@ use Rattle.std.proofs.lemmas.List.{get_or_default}
 use Rattle.std.specs.List.{Contains}
 use denote.Enum.Bare.{same_false}
 use Rattle.quad_index.specs.declared.order.Order.{Order}
-use Rattle.quad_index.specs.contracts.key.Arrangement.{the_type}
+use Rattle.quad_lists.specs.contracts.key.Arrangement.{the_type}
 use Rattle.quad_index.specs.Indexed.{Indexed}
 use Rattle.quad_index.proofs.Alike.{kept_first}
 use Rattle.quad_index.proofs.index.Index.other.Goals as goal

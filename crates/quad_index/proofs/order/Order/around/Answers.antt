@@ -2,7 +2,7 @@ use Rattle.std.proofs.Common.{◌≡◌, ◌≤◌, ◌<◌, ◌+◌, ◌-◌, �
 use Rattle.std.specs.List.Sorted.{IsSortedByKey}
 use Rattle.datasets.specs.declared.id.Id.{Id}
 use Rattle.datasets.specs.declared.quad.Quad.{Quad}
-use Rattle.quad_index.specs.Keys.{key_of, key_order, order_at, is_before}
+use Rattle.quad_lists.specs.Keys.{key_of, key_order, order_at, is_before}
 use Rattle.quad_index.specs.Sorted.{Sorted}
 use Rattle.quad_index.proofs.Looking.{looked}
 use Rattle.std.specs.Prelude.{true, false}

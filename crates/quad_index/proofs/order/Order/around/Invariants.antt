@@ -1,6 +1,6 @@
 use Rattle.std.proofs.Common.{◌≡◌, ◌≤◌, ◌<◌, ◌+◌, ◌-◌, ◌^◌, ℕ, true, false, length}
 use Rattle.std.specs.List.{AllWithin}
-use Rattle.quad_index.specs.Keys.{key_of, order_at, is_before}
+use Rattle.quad_lists.specs.Keys.{key_of, order_at, is_before}
 use Rattle.quad_index.specs.Looks.{HasDigits}
 use Rattle.quad_index.proofs.order.Order.around.Given as goal
 

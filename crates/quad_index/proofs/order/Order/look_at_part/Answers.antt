@@ -1,7 +1,7 @@
 use Rattle.std.proofs.Common.{◌∙◌, map, sym}
 use Rattle.std.specs.Prelude.{slice_range}
-use Rattle.quad_index.specs.QuadList.{quads_in}
-use Rattle.quad_index.specs.Known.{quad_of}
+use Rattle.quad_lists.specs.QuadList.{quads_in}
+use Rattle.quad_lists.specs.Known.{quad_of}
 use Rattle.quad_index.proofs.Looking.{map_part}
 use Rattle.quad_index.proofs.order.Order.look_at_part.Goals as goal
 

@@ -2,12 +2,12 @@ use Rattle.std.proofs.Common.{◌≡◌, ◌∙◌, sym, ap}
 use Rattle.std.specs.Prelude.{filter}
 use Rattle.std.proofs.lemmas.Result.{IfOk-weaker}
 use denote.Enum.Bare.{same_true}
-use Rattle.quad_index.specs.contracts.key.Arrangement.{the_type}
+use Rattle.quad_lists.specs.contracts.key.Arrangement.{the_type}
 use Rattle.datasets.specs.Id.{id_order}
 use Rattle.datasets.specs.Dataset.{matches}
 use Rattle.datasets.specs.declared.id.Id.{Id}
 use Rattle.datasets.specs.declared.quad.Quad.{Quad}
-use Rattle.quad_index.specs.Keys.{arrangement_for}
+use Rattle.quad_lists.specs.Keys.{arrangement_for}
 use Rattle.quad_index.specs.Sorted.{Sorted}
 use Rattle.quad_index.proofs.Sought.{part_has_all, exact_part}
 use Rattle.quad_index.proofs.order.Order.matching.Goals as goal

@@ -2,13 +2,13 @@ use Rattle.std.proofs.Common.{◌≡◌, ◌∙◌, sym, ap, length, arith}
 use Rattle.std.specs.Prelude.{filter}
 use Rattle.std.proofs.lemmas.Result.{IfOk-weaker}
 use denote.Enum.Bare.{same_true}
-use Rattle.quad_index.specs.contracts.key.Arrangement.{the_type}
+use Rattle.quad_lists.specs.contracts.key.Arrangement.{the_type}
 use Rattle.sets.specs.Sets.{set_of}
 use Rattle.datasets.specs.Id.{id_order}
 use Rattle.datasets.specs.Dataset.{quad_order, matches}
 use Rattle.datasets.specs.declared.id.Id.{Id}
 use Rattle.datasets.specs.declared.quad.Quad.{Quad}
-use Rattle.quad_index.specs.Keys.{arrangement_for}
+use Rattle.quad_lists.specs.Keys.{arrangement_for}
 use Rattle.quad_index.specs.Sorted.{Sorted}
 use Rattle.quad_index.proofs.Sought.{part_has_all, exact_part}
 use Rattle.quad_index.proofs.order.Order.matching_set.Goals as goal

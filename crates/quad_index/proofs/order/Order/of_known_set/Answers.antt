@@ -1,6 +1,6 @@
 use Rattle.std.proofs.Common.{◌≡◌, length, map, arith}
 use Rattle.std.proofs.lemmas.List.{length-map}
-use Rattle.quad_index.specs.Known.{quad_of}
+use Rattle.quad_lists.specs.Known.{quad_of}
 use Rattle.quad_index.proofs.Orders.{set_by_places}
 use Rattle.quad_index.proofs.order.Order.of_known_set.Goals as goal
 

@@ -5,7 +5,7 @@ use Rattle.datasets.specs.Id.{id_order, id_total, quad_total}
 use Rattle.datasets.specs.Dataset.{quad_order}
 use Rattle.datasets.specs.declared.id.Id.{Id}
 use Rattle.datasets.specs.declared.quad.Quad.{Quad}
-use Rattle.quad_index.specs.Known.{quad_of}
+use Rattle.quad_lists.specs.Known.{quad_of}
 use Rattle.quad_index.proofs.order.Order.of_quads_by.Goals as goal
 
 pub of_known_set-requires : goal.of_known_set-requires

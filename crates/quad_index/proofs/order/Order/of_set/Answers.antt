@@ -1,7 +1,7 @@
 use Rattle.std.proofs.Common.{◌<◌, ◌^◌, List, length, sym, subst, arith}
 use Rattle.datasets.specs.declared.id.Id.{Id}
 use Rattle.datasets.specs.declared.quad.Quad.{Quad}
-use Rattle.quad_index.specs.declared.key.Arrangement.TheVariants.{Spog}
+use Rattle.quad_lists.specs.declared.key.Arrangement.TheVariants.{Spog}
 use Rattle.quad_index.specs.Sorted.{IsOrder}
 use Rattle.quad_index.proofs.Orders.{set_by_places}
 use Rattle.quad_index.proofs.order.Order.of_set.Goals as goal

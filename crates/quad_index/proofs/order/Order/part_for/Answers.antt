@@ -3,7 +3,7 @@ use Rattle.std.specs.Prelude.{filter}
 use Rattle.datasets.specs.declared.id.Id.{Id}
 use Rattle.datasets.specs.declared.quad.Quad.{Quad}
 use Rattle.std.specs.Ordering.{is_eq}
-use Rattle.quad_index.specs.Keys.{key_of, order_at, is_sought, bounds_of}
+use Rattle.quad_lists.specs.Keys.{key_of, order_at, is_sought, bounds_of}
 use Rattle.quad_index.specs.Sorted.{Sorted}
 use Rattle.quad_index.proofs.Looking.{length_part}
 use Rattle.quad_index.proofs.Searching.{Between, part_is}

@@ -3,9 +3,9 @@ use Rattle.std.specs.Prelude.{◌↔◌, ◌||◌}
 use Rattle.std.specs.List.{list_any, Contains}
 use Rattle.std.proofs.lemmas.Bool.{false≢true, or_right, or_left}
 use denote.Enum.Bare.{sameb, same_true, true_same}
-use Rattle.quad_index.specs.contracts.key.Arrangement.{the_type}
-use Rattle.quad_index.specs.declared.key.Arrangement.{Arrangement}
-use Rattle.quad_index.specs.declared.key.Arrangement.TheVariants.{Spog, Pogs, Ogsp, Gspo, Gpso, Ospg}
+use Rattle.quad_lists.specs.contracts.key.Arrangement.{the_type}
+use Rattle.quad_lists.specs.declared.key.Arrangement.{Arrangement}
+use Rattle.quad_lists.specs.declared.key.Arrangement.TheVariants.{Spog, Pogs, Ogsp, Gspo, Gpso, Ospg}
 use Rattle.quad_index.proofs.order_set.OrderSet.of.Goals as goal
 
 module _ (a : Arrangement) where

@@ -2,7 +2,7 @@ use Rattle.std.proofs.Common.{map, ◌++◌}
 use Rattle.sets.specs.Sets.{without}
 use Rattle.datasets.specs.Id.{id_order}
 use Rattle.datasets.specs.Dataset.{quad_order}
-use Rattle.quad_index.specs.Known.{quad_of}
+use Rattle.quad_lists.specs.Known.{quad_of}
 use Rattle.quad_sets.proofs.Sorted.{set_of_quads}
 use Rattle.quad_sets.proofs.quad_set.QuadSet.changed_in_runs.Goals as goal
 

@@ -1,5 +1,5 @@
 use Rattle.std.proofs.Common.{map, ap}
-use Rattle.quad_index.specs.Known.{quad_of}
+use Rattle.quad_lists.specs.Known.{quad_of}
 use Rattle.quad_sets.proofs.Sorted.{no_quads}
 use Rattle.quad_sets.proofs.quad_set.QuadSet.new.Goals as goal
 

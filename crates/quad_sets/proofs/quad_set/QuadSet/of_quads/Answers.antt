@@ -1,6 +1,6 @@
 use Rattle.std.proofs.Common.{map, ap, ◌∙◌}
-use Rattle.quad_index.specs.Known.{quad_of}
-use Rattle.quad_index.specs.QuadList.{quads_in}
+use Rattle.quad_lists.specs.Known.{quad_of}
+use Rattle.quad_lists.specs.QuadList.{quads_in}
 use Rattle.quad_sets.proofs.Sorted.{set_of_quads}
 use Rattle.quad_sets.proofs.quad_set.QuadSet.of_quads.Goals as goal
 use Rattle.quad_sets.proofs.quad_set.QuadSet.of_quads.Goals.{in-Some, in-None}

@@ -2,8 +2,8 @@ use Rattle.std.specs.Prelude.{slice_range}
 use Rattle.std.proofs.Common.{◌-◌, map, take, drop, ap, sym, ◌∙◌}
 use Rattle.std.proofs.lemmas.List.{drop-map, take-map}
 use Rattle.std.proofs.lemmas.Result.{IfOk-weaker}
-use Rattle.quad_index.specs.Known.{quad_of}
-use Rattle.quad_index.specs.Part.{quads_of_part}
+use Rattle.quad_lists.specs.Known.{quad_of}
+use Rattle.quad_lists.specs.Part.{quads_of_part}
 use Rattle.quad_sets.proofs.quad_slice.QuadSlice.part.Goals as goal
 
 pub returns-in-Narrow : goal.returns-in-Narrow
