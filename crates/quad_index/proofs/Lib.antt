@@ -3,7 +3,6 @@ pub mod Looking
 pub mod Moved
 pub mod Orders
 pub mod Parted
-pub mod Parted
 pub mod Rising
 pub mod Searching
 pub mod Sought

@@ -142,7 +142,10 @@ impl Order {
             { arrangement = Arrangement.Spog; quads = the_set_of (quad_order id_order) quads }) }
     {
         match quads.into_entries() {
-            Entries::Narrow(known) => Order::of_known_set(known_set_by(rt, alloc, known)?),
+            Entries::Narrow(known) => {
+                let set = known_set_by(rt, alloc, known)?;
+                Order::of_known_set(set)
+            }
             Entries::Wide(quads) => Order::of_wide_quads(alloc, quads),
         }
     }

@@ -10,4 +10,4 @@ use Rattle.quad_index.proofs.order.Order.of_quads_by.Goals as goal
 
 pub of_known_set-requires : goal.of_known_set-requires
 of_known_set-requires g c =
-    subst (λ (quads : List (Quad Id)). IsStrictlySortedBy (quad_order id_order) quads) (sym c.known_set_by.ensures) (sorted-set_of (quad_total id_total) (map quad_of c.in-Narrow.known.items))
+    subst (λ (quads : List (Quad Id)). IsStrictlySortedBy (quad_order id_order) quads) (sym c.in_ok-set-in-Narrow.ensures) (sorted-set_of (quad_total id_total) (map quad_of c.in-Narrow.known.items))
