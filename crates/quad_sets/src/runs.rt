@@ -77,11 +77,7 @@ fn push_united<T: Exact + Copy + Drop>(
 }
 
 /// The members of a set that are none of another's.
-fn left<T: Exact + Copy + Drop>(
-    alloc: Global,
-    set: &[T],
-    gone: &[T],
-) -> Result<Vec<T>, AllocError>
+fn left<T: Exact + Copy + Drop>(alloc: Global, set: &[T], gone: &[T]) -> Result<Vec<T>, AllocError>
     requires set { IsStrictlySortedBy T.cmp set.now }
     requires gone { IsStrictlySortedBy T.cmp gone.now }
     ensures value { IfOk result (λ after. after.items ≡ without T.cmp set.now gone.now) }
