@@ -7,5 +7,5 @@ use Rattle.delta.proofs.delta.Delta.apply_indexed.Goals as goal
 
 pub from_sets-requires : goal.from_sets-requires
 from_sets-requires c =
-    rises-sets _ _ (without (quad_order id_order) c.args.dataset.now.quads c.absent.result ++ c.present.result)
-    (without id_order c.args.dataset.now.names c.gone.result.now ++ c.there.result.now) c.in_ok-quads.ensures c.in_ok-names.ensures
+    rises-sets _ _ (without (quad_order id_order) c.quads.result c.absent.result ++ c.present.result)
+    (without id_order c.in_ok-own.own.items c.gone.result.now ++ c.there.result.now) c.in_ok-quads.ensures c.in_ok-names.ensures
