@@ -5,7 +5,7 @@ use Rattle.std.proofs.lemmas.Grind.{flat_map-append}
 use Rattle.std.proofs.Math.Seq.{take-append_seam}
 use Rattle.std.specs.Global.{Vec}
 use Rattle.std.specs.Io.KnownBytes.{Appends, Keeps}
-use Rattle.nquads.specs.Canonical.{text_of_pieces}
+use Rattle.canonical_nquads.specs.Canonical.{text_of_pieces}
 use Rattle.cli.specs.Outputs.{GrewInPart}
 
 pub kept_after : (old mid new : Option (List ℕ)) (text : List ℕ) → Appends old mid text → Keeps mid new → Appends old new text

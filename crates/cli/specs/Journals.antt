@@ -5,8 +5,8 @@ use Rattle.datasets.specs.declared.id.Id.{Id}
 use Rattle.terms.specs.declared.term.Term.{Term}
 use Rattle.dict.specs.Dictionary.{written}
 use Rattle.meaning.specs.Run.{Request, run_of_first}
-use Rattle.nquads.specs.Canonical.{canonical}
-use Rattle.nquads.specs.Tag.{IsTagOf}
+use Rattle.canonical_nquads.specs.Canonical.{canonical}
+use Rattle.canonical_nquads.specs.Tag.{IsTagOf}
 use Rattle.store.specs.Base.{Base}
 use Rattle.numbering.specs.Numbered.{IsNumbered}
 use Rattle.block_machine.specs.Serial.{IsHistory}

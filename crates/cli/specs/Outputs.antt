@@ -7,8 +7,8 @@ use Rattle.datasets.specs.declared.id.Id.{Id}
 use Rattle.dict.specs.Dictionary.{written, numbers}
 use Rattle.meaning.specs.Run.{Request, run, run_of_first}
 use Rattle.meaning.specs.declared.reply.Reply.{Reply}
-use Rattle.nquads.specs.Canonical.{canonical}
-use Rattle.nquads.specs.Tag.{IsTagOf}
+use Rattle.canonical_nquads.specs.Canonical.{canonical}
+use Rattle.canonical_nquads.specs.Tag.{IsTagOf}
 use Rattle.command_line.specs.Replies.{reply_lines}
 use Rattle.cli.specs.Inputs.{IsBaseAnswer, IsBlockAnswer}
 

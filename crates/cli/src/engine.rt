@@ -4,7 +4,7 @@ ghost use Rattle.datasets.specs.Dataset.{IsDataset};
 ghost use Rattle.terms.specs.Term.{term_order};
 ghost use Rattle.dict.specs.Dictionary.{term_of, is_known};
 ghost use Rattle.meaning_laws.specs.Renaming.{renamed, dataset_known};
-ghost use Rattle.nquads.specs.Canonical.{canonical, text_of_pieces};
+ghost use Rattle.canonical_nquads.specs.Canonical.{canonical, text_of_pieces};
 ghost use Rattle.command_line.specs.Replies.{reply_lines};
 ghost use Rattle.cli.specs.Failures.{is_unread, is_unwritten, FailedIf, OneFailedIf};
 ghost use Rattle.cli.specs.Inputs.{IsFaultOf};
@@ -13,10 +13,10 @@ ghost use Rattle.cli.specs.Outputs.{IfBoth, IsAnswerTo, Wrote, WroteInPart, take
 
 use crate::inputs::{read_base_by, read_block_by};
 use crate::outputs::{Texts, write_texts};
+use canonical_nquads::canonical_pieces_by;
 use command_line::{Fault, File, replies_text};
 use delta::Outcome;
 use devices::Watched;
-use nquads::canonical_pieces_by;
 use numbering::laws::carries_block;
 use numbering::{Numbered, named, number};
 use pool::{Open, run_block};
@@ -36,7 +36,7 @@ pub(crate) trait Runs {
     ghost use Rattle.cli.specs.Failures.{is_unread, FailedIf, TellsNoOther};
     ghost use Rattle.cli.specs.Inputs.{IsBaseAnswer, IsBlockAnswer};
     ghost use Rattle.cli.specs.Outputs.{IsWhole};
-    ghost use Rattle.nquads.specs.Canonical.{canonical, text_of_pieces};
+    ghost use Rattle.canonical_nquads.specs.Canonical.{canonical, text_of_pieces};
     ghost use Rattle.numbering.specs.Numbered.{IsNumbered};
 
     // What it takes of its types.

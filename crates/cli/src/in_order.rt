@@ -6,10 +6,10 @@ ghost use Rattle.cli.specs.Outputs.{IfBoth, Wrote, WroteInPart, taken};
 
 use crate::engine::{Runs, run_by};
 use crate::inputs::{read_base, read_block};
+use canonical_nquads::canonical_pieces;
 use command_line::{Fault, File};
 use delta::Outcome;
 use devices::Watched;
-use nquads::canonical_pieces;
 use numbering::{Numbered, number};
 use rules::Block;
 use serial::run;

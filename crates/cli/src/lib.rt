@@ -1,8 +1,8 @@
 //! The engines of the program: from the bytes of a base and a block to the canonical text of the new dataset and the reply lines, and to the
 //! journal of the run; from a journal to the same again; and from the bytes of a block to the lines of its verdicts.
 //!
-//! Stands on `devices`, `nquads`, `rules`, `store`, `pool`, `serial`, `journal`, `replay` and `command_line`. Used above: all engines make all
-//! texts before they touch a writer, and refuse bad input with its name.
+//! Stands on `devices`, `nquads`, `canonical_nquads`, `rules`, `store`, `pool`, `serial`, `journal`, `replay` and `command_line`. Used above:
+//! all engines make all texts before they touch a writer, and refuse bad input with its name.
 #![tactic(auto)]
 
 mod check;

@@ -1,7 +1,7 @@
 //! The texts of an answer, made before any writer is touched.
 ghost use Rattle.std.specs.Prelude.{◌≡◌, ◌<◌, ◌+◌, ◌-◌, ◌^◌, ◌⊎◌, true, is_ok, if◌then◌else◌, OnOk, OnErr, IfErr, string_bytes};
 ghost use Rattle.cli.specs.Failures.{is_unwritten, is_journal_unwritten, FailedIf, OneFailedIf};
-ghost use Rattle.nquads.specs.Canonical.{text_of_pieces};
+ghost use Rattle.canonical_nquads.specs.Canonical.{text_of_pieces};
 ghost use Rattle.cli.specs.Outputs.{Grew, GrewInPart, IsPart, taken};
 ghost use Rattle.command_line.specs.declared.fault.Fault.TheVariants.{CannotWrite};
 ghost use Rattle.command_line.specs.declared.fault.File.TheVariants.{Answer, Journal};

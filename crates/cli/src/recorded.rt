@@ -1,6 +1,6 @@
 //! The engine of the command `run` with a journal.
 ghost use Rattle.std.specs.Prelude.{◌≡◌, ◌≢◌, ◌<◌, ◌≤◌, ◌-◌, ◌^◌, ℕ, true, length, IfOk, IfErr, IfSome, OnOk, IsErrOf, string_bytes};
-ghost use Rattle.nquads.specs.Canonical.{text_of_pieces};
+ghost use Rattle.canonical_nquads.specs.Canonical.{text_of_pieces};
 ghost use Rattle.cli.specs.Failures.{is_unread, is_unwritten, is_journal_unwritten, FailedIf, OneFailedIf};
 ghost use Rattle.update.specs.Asked.{AreShort};
 ghost use Rattle.cli.specs.Journals.{IsFaultWithJournal, IsJournalAt, IsJournalOf, WroteJournal, WroteJournalInPart};

@@ -4,10 +4,10 @@ ghost use Rattle.std.specs.List.{list_all};
 ghost use Rattle.iris.specs.Iri.{is_iri_byte};
 
 use crate::made::{iri, is_iri};
+use canonical_nquads::canonical_text;
 use dataset_builder::DatasetBuilder;
 use datasets::Quad;
 use iris::IriCow;
-use nquads::canonical_text;
 use std::alloc::{AllocError, Global};
 use std::test::Fail;
 use terms::{DataSet, Term, TermCow};

@@ -1,6 +1,7 @@
 //! Terms and datasets for the tests.
+use canonical_nquads::canonical_text;
 use iris::Iri;
-use nquads::{BaseFault, canonical_text, read_bytes};
+use nquads::{BaseFault, read_bytes};
 use std::alloc::Global;
 use std::test::Fail;
 use terms::{DataSet, Term};

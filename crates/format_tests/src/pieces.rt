@@ -4,10 +4,9 @@ ghost use Rattle.std.specs.Prelude.{◌≡◌};
 use crate::made::fault_of;
 use crate::slow_devices::Slow;
 use crate::texts::{BAD, TEXTS, is_bad_at};
+use canonical_nquads::{canonical_pieces, canonical_pieces_by, canonical_text};
 use devices::Watched;
-use nquads::{
-    BaseFault, canonical_pieces, canonical_pieces_by, canonical_text, read_by, read_bytes,
-};
+use nquads::{BaseFault, read_by, read_bytes};
 use std::alloc::{AllocError, Global};
 use std::process::Abort;
 use std::thread::Threads;

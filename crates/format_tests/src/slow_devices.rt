@@ -2,8 +2,9 @@
 ghost use Rattle.std.specs.Prelude.{◌<◌, ◌-◌, ◌^◌};
 
 use crate::made::{TWO_GRAPHS, fault_of, two_graphs};
+use canonical_nquads::{WriteFault, canonical_text, write};
 use devices::Watched;
-use nquads::{BaseFault, WriteFault, canonical_text, read, read_by, write};
+use nquads::{BaseFault, read, read_by};
 use std::alloc::{AllocError, Global};
 use std::io;
 use std::io::{Read, Write};

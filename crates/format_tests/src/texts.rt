@@ -1,7 +1,8 @@
 //! N-Quads texts: what they spell, and what is written.
 use crate::made::{TWO_GRAPHS, fault_of, spells, two_graphs};
+use canonical_nquads::{tag, write};
 use devices::{ReadFault, Watched, front_of};
-use nquads::{BaseFault, read, read_bytes, tag, write};
+use nquads::{BaseFault, read, read_bytes};
 use std::alloc::Global;
 use std::test::Fail;
 use terms::DataSet;

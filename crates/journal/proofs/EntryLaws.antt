@@ -12,7 +12,7 @@ use Rattle.iris.specs.Runs.{run_of, rest_of, IsRun, RunsAreLongest}
 use Rattle.iris.specs.Bracketed.{◌>>=◌}
 use Rattle.iris.proofs.Options.{bind_some}
 use Rattle.nquads_lines.specs.Lines.{is_inner}
-use Rattle.nquads.specs.Tag.{mark_of}
+use Rattle.canonical_nquads.specs.Tag.{mark_of}
 use Rattle.journal.specs.declared.fault.JournalFault.{JournalFault}
 use Rattle.journal.specs.declared.fault.JournalFault.TheVariants as fault
 use Rattle.journal.specs.declared.lines.Line.{Line}

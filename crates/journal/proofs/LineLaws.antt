@@ -18,7 +18,7 @@ use Rattle.terms.specs.declared.term.Term.{Term}
 use Rattle.terms.specs.Canonical.{term_text}
 use Rattle.nquads_lines.specs.Lines.{is_inner}
 use Rattle.nquads_laws.specs.WellFormed.{IsTerm}
-use Rattle.nquads.specs.Tag.{mark_of}
+use Rattle.canonical_nquads.specs.Tag.{mark_of}
 use Rattle.journal.specs.declared.lines.Event.{Event}
 use Rattle.journal.specs.declared.lines.Event.TheVariants as event
 use Rattle.journal.specs.declared.lines.Reply.{Reply}

@@ -15,7 +15,7 @@ use Rattle.terms.specs.Canonical.{term_text}
 use Rattle.terms.specs.declared.term.Term.{Term}
 use Rattle.terms.specs.declared.term.Term.TheVariants.{Iri, Literal, Blank, Made}
 use Rattle.nquads_lines.specs.ReadTerms.{object_at}
-use Rattle.nquads.specs.Tag.{mark_of}
+use Rattle.canonical_nquads.specs.Tag.{mark_of}
 use Rattle.nquads_laws.specs.Named.{named_term}
 use Rattle.nquads_laws.specs.WellFormed.{IsTerm}
 use Rattle.nquads_laws.proofs.Labels.{label_is, starts-append}

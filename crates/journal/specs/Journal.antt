@@ -1,6 +1,6 @@
 -- Which lines a journal has, and which of its entries is the first bad one.
 use Rattle.std.specs.Prelude.{ℕ, ◌≡◌, ◌≢◌, ◌+◌, ◌⊎◌, List, [], ◌++◌, length, All}
-use Rattle.nquads.specs.Tag.{mark_of}
+use Rattle.canonical_nquads.specs.Tag.{mark_of}
 use Rattle.journal.specs.declared.lines.Line.{Line}
 use Rattle.journal.specs.Text.{line_text, first_line, journal_text}
 use Rattle.journal.specs.Lines.{IsLine}

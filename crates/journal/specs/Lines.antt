@@ -6,7 +6,7 @@ use Rattle.datasets.specs.declared.read.QuadPattern.{QuadPattern}
 use Rattle.datasets.specs.declared.read.Read.{Read}
 use Rattle.datasets.specs.declared.read.Read.TheVariants.{Scan, GraphIs, Graphs}
 use Rattle.terms.specs.declared.term.Term.{Term}
-use Rattle.nquads.specs.Tag.{has_mark}
+use Rattle.canonical_nquads.specs.Tag.{has_mark}
 use Rattle.nquads_laws.specs.WellFormed.{IsTerm}
 use Rattle.journal.specs.declared.lines.Event.{Event}
 use Rattle.journal.specs.declared.lines.Event.TheVariants as event

@@ -1,6 +1,6 @@
 //! Laws of the definitions: each line that may be written is read from its text.
 ghost use Rattle.std.specs.Prelude.{◌≡◌, ◌++◌, ℕ, List, Some};
-ghost use Rattle.nquads.specs.Tag.{mark_of};
+ghost use Rattle.canonical_nquads.specs.Tag.{mark_of};
 ghost use Rattle.journal.specs.declared.lines.Line.{Line};
 ghost use Rattle.journal.specs.Text.{line_body, line_text};
 ghost use Rattle.journal.specs.Journal.{IsJournal, IsFirstBad};

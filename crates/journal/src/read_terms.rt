@@ -5,7 +5,7 @@ ghost use Rattle.iris.specs.Iri.{is_digit};
 ghost use Rattle.iris.specs.Runs.{run_of, rest_of};
 ghost use Rattle.terms.specs.declared.term.Term.TheVariants as term;
 ghost use Rattle.nquads_lines.specs.Reading.{Gives};
-ghost use Rattle.nquads.specs.Tag.{has_mark};
+ghost use Rattle.canonical_nquads.specs.Tag.{has_mark};
 ghost use Rattle.nquads_laws.specs.WellFormed.{IsTerm};
 ghost use Rattle.journal.specs.Lines.{IsHeld, IsPlace, IsGraphPlace, IsRead};
 ghost use Rattle.journal.specs.ReadTerms.{part_at, made_of, unlabelled, term_at, place_at, graph_at, scan_at, read_at};

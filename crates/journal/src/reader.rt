@@ -5,7 +5,7 @@ ghost use Rattle.std.specs.Cmp.Lexicographic.{pointwise};
 ghost use Rattle.iris.specs.Runs.{run_of, rest_of};
 ghost use Rattle.nquads_lines.specs.Lines.{is_inner};
 ghost use Rattle.nquads_lines.specs.Reading.{Gives};
-ghost use Rattle.nquads.specs.Tag.{mark_of};
+ghost use Rattle.canonical_nquads.specs.Tag.{mark_of};
 ghost use Rattle.journal.specs.declared.lines.Line.{Line};
 ghost use Rattle.journal.specs.Text.{line_body, line_text, first_line};
 ghost use Rattle.journal.specs.Lines.{IsLine};
@@ -17,8 +17,8 @@ use crate::fault::JournalFault;
 use crate::laws::{entries_are_lines, one_journal};
 use crate::lines::Line;
 use crate::writer::{FIRST_LINE, push_body};
+use canonical_nquads::mark_of;
 use iris::laws::run_by_length;
-use nquads::mark_of;
 use nquads_lines::Stop;
 use std::alloc::{AllocError, Global};
 

@@ -27,7 +27,7 @@ fn end_of_lf(bytes: &[u8], from: usize) -> Option<usize>
 }
 
 /// The place at which so many items are parted among so many threads, half of them before it.
-pub(crate) fn share(len: usize, threads: usize) -> usize
+fn share(len: usize, threads: usize) -> usize
     requires { 0 < threads }
     ensures { result ≤ len }
 {

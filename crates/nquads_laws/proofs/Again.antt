@@ -14,7 +14,7 @@ use Rattle.terms.specs.Term.{term_order}
 use Rattle.terms.specs.TermLaws.{term_total, term_exact}
 use Rattle.nquads_lines.specs.Lines.{lines, is_inner}
 use Rattle.nquads.specs.Spelled.{Spells}
-use Rattle.nquads.specs.Canonical.{canonical}
+use Rattle.canonical_nquads.specs.Canonical.{canonical}
 use Rattle.nquads_laws.specs.WellFormed.{IsWellFormed, terms_in, terms_of, is_written}
 use Rattle.nquads_laws.specs.Named.{named_term, named_quad, named}
 use Rattle.nquads_laws.proofs.SpelledAgain.{quads_total, quads_exact, spelled_again}

@@ -19,7 +19,7 @@ use Rattle.datasets.specs.Dataset.{Dataset}
 use Rattle.terms.specs.declared.term.Term.{Term}
 use Rattle.terms.specs.declared.term.Term.TheVariants.{Iri, Literal, Blank, Made}
 use Rattle.terms.specs.Canonical.{made_label}
-use Rattle.nquads.specs.Tag.{mark_of, has_mark, is_marked, is_taken}
+use Rattle.canonical_nquads.specs.Tag.{mark_of, has_mark, is_marked, is_taken}
 use Rattle.nquads_laws.specs.WellFormed.{AreMadeNumbers, IsTerm, IsIriTerm, IsQuad, IsWellFormed, terms_in, terms_of}
 use Rattle.nquads_laws.specs.Named.{named_term}
 use Rattle.nquads_laws.proofs.Bytes.{decimal_digits}

@@ -14,7 +14,7 @@ use Rattle.nquads_lines.specs.declared.stop.Line.TheVariants.{Graph, Statement}
 use Rattle.nquads_lines.specs.Lines.{is_inner}
 use Rattle.nquads_lines.specs.Escapes.{IriAt}
 use Rattle.nquads_lines.specs.Line.{Gap, at_end, default_graph, named, GraphAt, declares, states, Says, IsLine, graph_mark}
-use Rattle.nquads.specs.Canonical.{graph_text, quad_text, graph_line}
+use Rattle.canonical_nquads.specs.Canonical.{graph_text, quad_text, graph_line}
 use Rattle.nquads_laws.specs.WellFormed.{IsTerm, IsSubject, IsIriTerm, IsQuad}
 use Rattle.nquads_laws.specs.Named.{named_term, named_quad}
 use Rattle.nquads_laws.proofs.Pieces.{IsPiece, piece_append, piece_ascii, piece_iri}

@@ -18,7 +18,7 @@ use Rattle.datasets.specs.Dataset.{Dataset, quad_order}
 use Rattle.terms.specs.declared.term.Term.{Term}
 use Rattle.terms.specs.Term.{term_order}
 use Rattle.terms.specs.TermLaws.{term_total, term_exact}
-use Rattle.nquads.specs.Tag.{is_taken}
+use Rattle.canonical_nquads.specs.Tag.{is_taken}
 use Rattle.nquads_laws.specs.WellFormed.{IsIriTerm, IsWellFormed, terms_in}
 use Rattle.nquads_laws.specs.Named.{named_term, named_quad, named}
 use Rattle.nquads_laws.proofs.Members.{all_both, all_members, same_sets}

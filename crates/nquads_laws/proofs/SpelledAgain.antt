@@ -26,7 +26,7 @@ use Rattle.nquads_lines.specs.declared.stop.Line.TheVariants.{Nothing, Graph, St
 use Rattle.nquads_lines.specs.Lines.{lines, is_inner}
 use Rattle.nquads_lines.specs.Line.{at_end, nothing, IsLine}
 use Rattle.nquads.specs.Spelled.{AreLines, none, more, stated, declared, Spells}
-use Rattle.nquads.specs.Canonical.{quad_text, graph_line, is_empty_graph, lines_of, ended, canonical}
+use Rattle.canonical_nquads.specs.Canonical.{quad_text, graph_line, is_empty_graph, lines_of, ended, canonical}
 use Rattle.nquads_laws.specs.WellFormed.{IsIriTerm, IsQuad, IsWellFormed}
 use Rattle.nquads_laws.specs.Named.{named_term, named_quad, named}
 use Rattle.nquads_laws.proofs.Members.{all_both, all_of_kept, among, all_members, same_sets}

@@ -9,8 +9,8 @@ ghost use Rattle.terms.specs.Canonical.{term_text};
 ghost use Rattle.nquads_lines.specs.Lines.{is_inner};
 ghost use Rattle.nquads_lines.specs.ReadTerms.{object_at};
 ghost use Rattle.nquads.specs.Spelled.{Spells};
-ghost use Rattle.nquads.specs.Tag.{is_taken};
-ghost use Rattle.nquads.specs.Canonical.{canonical};
+ghost use Rattle.canonical_nquads.specs.Tag.{is_taken};
+ghost use Rattle.canonical_nquads.specs.Canonical.{canonical};
 ghost use Rattle.nquads_laws.specs.WellFormed.{IsTerm, IsWellFormed, terms_of, is_written};
 ghost use Rattle.nquads_laws.specs.Named.{named_term, named};
 

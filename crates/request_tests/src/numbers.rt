@@ -1,8 +1,9 @@
 //! A dataset of one quad, to numbers and back, and a request beside few terms and many.
 use algebra::{Operation, Slot};
+use canonical_nquads::canonical_text;
 use datasets::{Id, Quad};
 use meaning::Refusal;
-use nquads::{BaseFault, canonical_text, read_bytes};
+use nquads::{BaseFault, read_bytes};
 use numbering::{Numbered, named, number};
 use reads::{CompactView, View};
 use rules::{Block, split};

@@ -18,7 +18,7 @@ use Rattle.datasets.specs.Id.{id_order, id_total, id_exact, quad_total}
 use Rattle.dict.specs.Dictionary.{IsDictionary, term_of, is_known, written, numbers}
 use Rattle.meaning_laws.specs.Renaming.{IsRenaming, renamed, renamed_quad, quad_known, dataset_known}
 use Rattle.meaning_laws.proofs.RenamedSets.{all-set_of, map-set_of, has-map, quad-order, map-names_of, all-names_of}
-use Rattle.nquads.specs.Tag.{IsTagOf}
+use Rattle.canonical_nquads.specs.Tag.{IsTagOf}
 use Rattle.store.specs.Base.{IsBaseOf}
 
 -- a member of a list of known values is known

@@ -6,7 +6,7 @@ use Rattle.datasets.specs.declared.id.Id.{Id}
 use Rattle.terms.specs.declared.term.Term.{Term}
 use Rattle.meaning_laws.specs.Renaming.{renamed, dataset_known}
 use Rattle.dict.specs.Dictionary.{IsDictionary, term_of, is_known}
-use Rattle.nquads.specs.Tag.{IsTagOf}
+use Rattle.canonical_nquads.specs.Tag.{IsTagOf}
 
 pub record Base : Type 0 where
   pub terms : List Term

@@ -10,10 +10,10 @@ ghost use Rattle.store.specs.Held.{is_held};
 
 use crate::hands::Hands;
 use crate::numbers::{distinct, name_numbers};
+use canonical_nquads::tag;
 use datasets::{Id, Quad, Read};
 use dict::Dict;
 use dict::laws::is_renaming;
-use nquads::tag;
 use quad_lists::Arrangement;
 use reads::{Answered, IndexedView, Source, Stop};
 use std::alloc::{AllocError, Global};

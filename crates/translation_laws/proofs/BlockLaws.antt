@@ -6,7 +6,7 @@ use Rattle.terms.specs.declared.term.Term.{Term}
 use Rattle.meaning.specs.Run.{Request, run, run_of_first}
 use Rattle.meaning_laws.specs.Answers.{AnswersWithDatasets}
 use Rattle.dict.specs.Dictionary.{written}
-use Rattle.nquads.specs.Tag.{mark_of, is_taken}
+use Rattle.canonical_nquads.specs.Tag.{mark_of, is_taken}
 use Rattle.nquads_laws.specs.WellFormed.{IsWellFormed}
 use Rattle.rules.specs.Refusal.{IsChecked}
 use Rattle.rules.specs.Requests.{AreEach, none, more, IsSplit}

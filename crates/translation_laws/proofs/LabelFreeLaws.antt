@@ -10,7 +10,7 @@ use Rattle.datasets.specs.Dataset.{Dataset}
 use Rattle.terms.specs.declared.term.Term.{Term}
 use Rattle.terms.specs.declared.term.Term.TheVariants.{Iri, Literal, Blank, Made}
 use Rattle.meaning.specs.Run.{Request}
-use Rattle.nquads.specs.Tag.{has_mark, is_marked}
+use Rattle.canonical_nquads.specs.Tag.{has_mark, is_marked}
 use Rattle.nquads_laws.specs.WellFormed.{IsIriTerm, IsQuad, IsWellFormed}
 use Rattle.rules.specs.Refusal.{IsChecked}
 use Rattle.translation_laws.proofs.TermLaws.{IsWritten}

@@ -4,8 +4,8 @@ use Rattle.std.specs.List.{Contains}
 use Rattle.datasets.specs.Dataset.{Dataset}
 use Rattle.terms.specs.declared.term.Term.{Term}
 use Rattle.nquads.specs.Spelled.{Spells}
-use Rattle.nquads.specs.Canonical.{canonical}
-use Rattle.nquads.specs.Tag.{is_taken}
+use Rattle.canonical_nquads.specs.Canonical.{canonical}
+use Rattle.canonical_nquads.specs.Tag.{is_taken}
 use Rattle.nquads_laws.specs.WellFormed.{terms_of}
 use Rattle.nquads_laws.specs.Named.{named_term, named}
 

@@ -11,7 +11,7 @@ ghost use Rattle.meaning.specs.Solutions.{solutions};
 ghost use Rattle.meaning.specs.Run.{Request, run, run_of_first};
 ghost use Rattle.dict.specs.Dictionary.{written};
 ghost use Rattle.nquads.specs.Spelled.{Spells};
-ghost use Rattle.nquads.specs.Tag.{is_taken};
+ghost use Rattle.canonical_nquads.specs.Tag.{is_taken};
 ghost use Rattle.nquads_laws.specs.WellFormed.{IsTerm, IsWellFormed};
 ghost use Rattle.meaning_laws.specs.Answers.{IsExactOrder};
 ghost use Rattle.syntax_trees.specs.declared.tree.Node.{Node};

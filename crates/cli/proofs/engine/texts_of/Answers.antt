@@ -1,6 +1,6 @@
 use Rattle.std.proofs.Common.{ap, sym, subst, ◌∙◌}
-use Rattle.nquads.specs.Canonical.{canonical}
-use Rattle.nquads.specs.Tag.{IsTagOf}
+use Rattle.canonical_nquads.specs.Canonical.{canonical}
+use Rattle.canonical_nquads.specs.Tag.{IsTagOf}
 use Rattle.command_line.specs.Replies.{reply_lines}
 use Rattle.cli.proofs.Composed.{short, known, named_dataset, named_is, replies_are, all_of}
 use Rattle.cli.proofs.engine.texts_of.Goals as goal

@@ -4,7 +4,7 @@ use Rattle.terms.specs.Term.{term_order}
 use Rattle.terms.specs.declared.term.Term.{Term}
 use Rattle.dict.specs.Dictionary.{term_of, is_known}
 use Rattle.meaning_laws.specs.Renaming.{renamed, dataset_known}
-use Rattle.nquads.specs.Canonical.{canonical}
+use Rattle.canonical_nquads.specs.Canonical.{canonical}
 use Rattle.command_line.specs.Replies.{reply_lines}
 use Rattle.cli.proofs.engine.texts_of_outcome.Goals as goal
 

@@ -1,6 +1,6 @@
 use Rattle.std.proofs.Common.{◌≡◌, take}
 use Rattle.std.specs.Io.KnownBytes.{Appends}
-use Rattle.nquads.specs.Canonical.{text_of_pieces}
+use Rattle.canonical_nquads.specs.Canonical.{text_of_pieces}
 use Rattle.cli.proofs.outputs.write_pieces.Given as goal
 
 abbrev pub invariant-loop-piece : goal.invariant-loop-piece

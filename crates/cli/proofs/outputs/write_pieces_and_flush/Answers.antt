@@ -1,4 +1,4 @@
-use Rattle.nquads.specs.Canonical.{text_of_pieces}
+use Rattle.canonical_nquads.specs.Canonical.{text_of_pieces}
 use Rattle.cli.proofs.Bytes.{whole_is_part, on_err}
 use Rattle.cli.proofs.outputs.write_pieces_and_flush.Goals as goal
 

@@ -1,5 +1,5 @@
 use Rattle.std.proofs.Common.{◌∙◌, ℕ, ap, arith}
-use Rattle.nquads.specs.Canonical.{canonical}
+use Rattle.canonical_nquads.specs.Canonical.{canonical}
 use Rattle.command_line.specs.Replies.{reply_lines}
 use Rattle.cli.proofs.Composed.{short, same_length, known, named_dataset, named_is, replies_are, all_of}
 use Rattle.cli.proofs.recorded.texts_with_journal.Goals as goal

@@ -1,5 +1,5 @@
 use Rattle.std.specs.Prelude.{string_bytes}
-use Rattle.nquads.specs.Canonical.{text_of_pieces}
+use Rattle.canonical_nquads.specs.Canonical.{text_of_pieces}
 use Rattle.cli.proofs.Answered.{fault_of_block, fault_of_journal, wrote_in_part}
 use Rattle.cli.proofs.replayed.replay_engine.Goals as goal
 

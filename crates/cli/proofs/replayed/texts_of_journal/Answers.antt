@@ -1,5 +1,5 @@
 use Rattle.std.proofs.Common.{◌≡◌, ◌∙◌, List, Err, sym, ap, subst}
-use Rattle.nquads.specs.Canonical.{canonical}
+use Rattle.canonical_nquads.specs.Canonical.{canonical}
 use Rattle.command_line.specs.Replies.{reply_lines}
 use Rattle.book.specs.Run.{state_of}
 use Rattle.journal.specs.Text.{journal_text}

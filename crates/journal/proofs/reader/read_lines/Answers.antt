@@ -1,7 +1,7 @@
 use Rattle.std.specs.Prelude.{ℕ, ◌==◌, ◌≢◌, ◌+◌}
 use Rattle.std.proofs.Common.{rules, ◌≡◌, false, List, [], length, sym, ap, ◌∙◌, arith}
 use Rattle.std.proofs.lemmas.Bool.{not-true, false≢true}
-use Rattle.nquads.specs.Tag.{mark_of}
+use Rattle.canonical_nquads.specs.Tag.{mark_of}
 use Rattle.journal.specs.declared.fault.JournalFault.TheVariants.{BadEntry}
 use Rattle.journal.proofs.EntryLaws.{more_text, more_lines, bad_here}
 use Rattle.journal.proofs.reader.read_lines.Goals as goal

@@ -1,6 +1,6 @@
 use Rattle.std.proofs.Common.{◌≡◌, ◌++◌, length, All}
 use Rattle.std.specs.List.{flat_map}
-use Rattle.nquads.specs.Tag.{mark_of}
+use Rattle.canonical_nquads.specs.Tag.{mark_of}
 use Rattle.journal.specs.Text.{line_text}
 use Rattle.journal.specs.Lines.{IsLine}
 use Rattle.journal.proofs.reader.read_lines.Given as goal

@@ -1,0 +1,6 @@
+pub mod Canonical
+pub mod Placed
+pub mod Tag
+pub mod Beginning
+pub mod Fed
+pub mod Rising

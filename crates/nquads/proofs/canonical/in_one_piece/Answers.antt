@@ -1,5 +1,0 @@
-use Rattle.nquads.proofs.RisingLaws.{one_piece}
-use Rattle.nquads.proofs.canonical.in_one_piece.Goals as goal
-
-pub returns : goal.returns
-returns c = one_piece c.push.new.self.items c.new-pieces.result.items c.args.text c.new-pieces.ensures.items c.in_ok-push.ensures.items

@@ -1,9 +1,0 @@
-use Rattle.std.specs.HashSet.{contains}
-use Rattle.std.specs.Prelude.{not, nat_eq}
-use Rattle.std.proofs.Common.{ℕ, List, ◌++◌, map, filter, take}
-use Rattle.nquads.specs.Placed.{graph_line_at}
-use Rattle.nquads.specs.Rising.{IsRising}
-use Rattle.nquads.proofs.rising.push_graphs.Given as goal
-
-abbrev pub invariant-loop-name : goal.invariant-loop-name
-invariant-loop-name l = (lines : List (List ℕ)) → IsRising lines l.fn.made → IsRising (lines ++ map (graph_line_at l.texts) (filter (λ name. not (contains nat_eq l.full name)) (take l.name-index l.names))) l.made

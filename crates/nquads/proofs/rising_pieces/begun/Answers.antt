@@ -1,6 +1,0 @@
-use Rattle.std.proofs.Common.{◌∙◌}
-use Rattle.nquads.proofs.RisingLaws.{rising_none}
-use Rattle.nquads.proofs.rising_pieces.begun.Goals as goal
-
-pub returns : goal.returns
-returns c = rising_none _ (c.reserve.ensures.items ∙ c.new-text.ensures.items)
