@@ -35,12 +35,12 @@ fn pieces_for(threads: usize) -> usize {
     threads.saturating_mul(PIECES)
 }
 
-/// The place at which so many quads are parted among so many threads, half of them before it.
+/// The place at which so many quads are parted among so many threads, those of all but one before it.
 fn share(len: usize, threads: usize) -> usize
     requires { 0 < threads }
     ensures { result ≤ len }
 {
-    len / threads * (threads / 2)
+    len / threads * (threads - 1)
 }
 
 /// A text in pieces, one behind another, whose lines rise, as far as it is made, and its last line.
@@ -166,7 +166,8 @@ fn rising_piece(
     Ok(Some(whole))
 }
 
-/// The text of the lines of these quads, made by so many threads, if they rise, each piece where its thread made it.
+/// The text of the lines of these quads, made by so many threads, if they rise, each piece where its thread made it. The thread that calls makes
+/// all others: of those that new ones make, two often share a processor at first.
 fn rising_quads<T: Threads + Sync>(
     rt: &T,
     alloc: Global,
@@ -182,18 +183,19 @@ fn rising_quads<T: Threads + Sync>(
         return rising_piece(alloc, texts, quads);
     }
     let (first, rest) = quads.split_at(share(quads.len(), threads));
-    let (low, high) = join(
+    let others = threads - 1;
+    let (high, low) = join(
         rt,
-        || -> Result<Option<RisingInPieces>, AllocError>
-            requires { IsSync T.row × (list_all (is_quad_within texts.now) first.now ≡ true) }
-            ensures { IfOk result (λ found. IfSome found
-                (IsRisingInPieces (map (quad_text_at texts.entry.now) first.entry.now))) }
-        { rising_quads(rt, alloc, texts, first, threads / 2) },
         || -> Result<Option<RisingInPieces>, AllocError>
             requires { IsSync T.row × (list_all (is_quad_within texts.now) rest.now ≡ true) }
             ensures { IfOk result (λ found. IfSome found
                 (IsRisingInPieces (map (quad_text_at texts.entry.now) rest.entry.now))) }
-        { rising_quads(rt, alloc, texts, rest, threads - threads / 2) },
+        { rising_quads(rt, alloc, texts, rest, 1) },
+        || -> Result<Option<RisingInPieces>, AllocError>
+            requires { IsSync T.row × (list_all (is_quad_within texts.now) first.now ≡ true) }
+            ensures { IfOk result (λ found. IfSome found
+                (IsRisingInPieces (map (quad_text_at texts.entry.now) first.entry.now))) }
+        { rising_quads(rt, alloc, texts, first, others) },
     );
     match (low?, high?) {
         (Some(low), Some(high)) => behind_quads(alloc, low, high, texts, rest),

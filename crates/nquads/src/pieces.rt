@@ -26,15 +26,15 @@ fn end_of_lf(bytes: &[u8], from: usize) -> Option<usize>
     None
 }
 
-/// The place at which so many items are parted among so many threads, half of them before it.
+/// The place at which so many items are parted among so many threads, those of all but one before it.
 fn share(len: usize, threads: usize) -> usize
     requires { 0 < threads }
     ensures { result ≤ len }
 {
-    len / threads * (threads / 2)
+    len / threads * (threads - 1)
 }
 
-/// A text in two pieces for the two halves of so many threads, where an LF comes late enough. The first piece ends with it.
+/// A text in two pieces, for all of so many threads but one and for that, where an LF comes late enough. The first piece ends with it.
 fn parted(bytes: &[u8], threads: usize) -> Option<(&[u8], &[u8])>
     requires { 0 < threads }
     ensures { IfSome result (λ r. ArePieces bytes.now r.0.now r.1.now) }
@@ -63,7 +63,7 @@ pub(crate) fn united<T: Threads + Sync>(
 }
 
 /// The dataset that a text spells, read by so many threads, where they can be had. An error tells no more than that a piece was not read: a
-/// line is bad, or memory ran out.
+/// line is bad, or memory ran out. The thread that calls makes all others: of those that new ones make, two often share a processor at first.
 pub fn read_pieces<T: Threads + Sync>(
     rt: &T,
     alloc: Global,
@@ -82,16 +82,17 @@ pub fn read_pieces<T: Threads + Sync>(
     let Some((first, rest)) = parted(bytes, threads) else {
         return read_counted(alloc, bytes);
     };
-    let (low, high) = join(
+    let others = threads - 1;
+    let (high, low) = join(
         rt,
-        || -> Result<ReadText, BaseFault>
-            requires { IsSync T.row × (length first.now < 2 ^ 64) }
-            ensures { IfOk result (IsReadText first.entry.now) }
-        { read_pieces(rt, alloc, first, threads / 2) },
         || -> Result<ReadText, BaseFault>
             requires { IsSync T.row × (length rest.now < 2 ^ 64) }
             ensures { IfOk result (IsReadText rest.entry.now) }
-        { read_pieces(rt, alloc, rest, threads - threads / 2) },
+        { read_pieces(rt, alloc, rest, 1) },
+        || -> Result<ReadText, BaseFault>
+            requires { IsSync T.row × (length first.now < 2 ^ 64) }
+            ensures { IfOk result (IsReadText first.entry.now) }
+        { read_pieces(rt, alloc, first, others) },
     );
     united(rt, low?, high?)
 }

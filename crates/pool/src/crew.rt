@@ -1,5 +1,5 @@
 //! Workers on threads of their own.
-ghost use Rattle.std.specs.Prelude.{◌≡◌, ◌≤◌, ◌<◌, ◌+◌, ◌/◌, length, take, drop, vec_len, IfOk};
+ghost use Rattle.std.specs.Prelude.{◌≡◌, ◌≤◌, ◌<◌, ◌+◌, min, length, take, drop, vec_len, IfOk};
 ghost use Rattle.std.specs.Thread.{IsSync};
 ghost use Rattle.pool.specs.Duty.{MayBegin, AreDone};
 
@@ -36,20 +36,20 @@ impl<'s, 'a, R: Threads + Wait + Sync, G: Gate + Sync> Crew<'s, 'a, R, G> {
         Ok(done)
     }
 
-    // Two crews, with the first half of the passes and the others.
+    // Two crews, with the first pass and the others.
     fn split(self) -> Result<(Self, Self), AllocError>
         ensures workers { IfOk result (λ r. (r.0.workers ≡ self.entry.workers)
             × (r.1.workers ≡ self.entry.workers)) }
         ensures first { IfOk result (λ r. r.0.passes.items
-            ≡ take (length self.entry.passes.items / 2) self.entry.passes.items) }
+            ≡ take (min (length self.entry.passes.items) 1) self.entry.passes.items) }
         ensures others { IfOk result (λ r. r.1.passes.items
-            ≡ drop (length self.entry.passes.items / 2) self.entry.passes.items) }
+            ≡ drop (min (length self.entry.passes.items) 1) self.entry.passes.items) }
     {
         let Crew {
             workers,
             mut passes,
         } = self;
-        let others = passes.split_off(passes.len() / 2)?;
+        let others = passes.split_off(passes.len().min(1))?;
         let second = Crew {
             workers: workers.again(),
             passes: others,
@@ -57,8 +57,8 @@ impl<'s, 'a, R: Threads + Wait + Sync, G: Gate + Sync> Crew<'s, 'a, R, G> {
         Ok((Crew { workers, passes }, second))
     }
 
-    // Two crews, of about half the workers each.
-    fn halves(self) -> Result<(Self, Self), AllocError>
+    // Two crews, of one worker and of the others.
+    fn parted(self) -> Result<(Self, Self), AllocError>
         requires { MayBegin self.workers self.passes.items }
         ensures count { IfOk result (λ r. length r.0.passes.items + length r.1.passes.items
             ≡ length self.entry.passes.items) }
@@ -73,8 +73,8 @@ impl<'s, 'a, R: Threads + Wait + Sync, G: Gate + Sync> Crew<'s, 'a, R, G> {
         Ok((first, second))
     }
 
-    /// All do tasks until all requests are committed, each on a thread of its own where one can be had. An error comes only where a growth was
-    /// refused.
+    /// All do tasks until all requests are committed, each on a thread of its own where one can be had. The thread that calls makes all others: of
+    /// those that new ones make, two often share a processor at first. An error comes only where a growth was refused.
     pub fn work(self) -> Result<Vec<Pass<'a>>, AllocError>
         requires shared { IsSync R.row × IsSync G.row }
         requires begin { MayBegin self.workers self.passes.items }
@@ -85,7 +85,7 @@ impl<'s, 'a, R: Threads + Wait + Sync, G: Gate + Sync> Crew<'s, 'a, R, G> {
             return self.work_alone();
         }
         let rt = self.workers.rt;
-        let (first, second) = self.halves()?;
+        let (first, second) = self.parted()?;
         let (low, high) = join(
             rt,
             move || -> Result<Vec<Pass<'_>>, AllocError>

@@ -1,11 +1,11 @@
-use Rattle.std.proofs.Common.{◌+◌, ◌-◌, ◌*◌, ◌/◌}
+use Rattle.std.proofs.Common.{◌+◌, ◌*◌}
 use Rattle.nquads.proofs.pieces.+fn-read_pieces-join+arg2+fn-read_pieces-join+arg3+read_pieces.Given as goal
 
 abbrev pub decreases-join+arg2 : goal.decreases-join+arg2
-decreases-join+arg2 g l = 2 * (l.threads / 2) + 1
+decreases-join+arg2 g l = 3
 
 abbrev pub decreases-join+arg3 : goal.decreases-join+arg3
-decreases-join+arg3 g l = 2 * (l.threads - l.threads / 2) + 1
+decreases-join+arg3 g l = 2 * l.others + 1
 
 abbrev pub decreases-read_pieces : goal.decreases-read_pieces
 decreases-read_pieces g l = 2 * l.threads

@@ -1,5 +1,5 @@
 use Rattle.pool.proofs.Passes.{first_may_begin, others_may_begin}
-use Rattle.pool.proofs.crew.Crew.halves.Goals as goal
+use Rattle.pool.proofs.crew.Crew.parted.Goals as goal
 
 pub returns-clause-first : goal.returns-clause-first
 returns-clause-first g c =
