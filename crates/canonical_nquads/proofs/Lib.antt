@@ -4,3 +4,4 @@ pub mod TagLaws
 pub mod BeginningLaws
 pub mod RisingLaws
 pub mod TextLaws
+pub mod RankLaws

@@ -4,3 +4,4 @@ pub mod Tag
 pub mod Beginning
 pub mod Fed
 pub mod Rising
+pub mod Ranked
