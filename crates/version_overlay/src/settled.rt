@@ -149,7 +149,8 @@ impl Settled {
         }
         let change = all_joined(alloc, self.levels.as_slice());
         drop(self);
-        change?.apply_indexed(alloc, dataset)
+        let joined = change?;
+        joined.apply_indexed(alloc, dataset)
     }
 }
 
