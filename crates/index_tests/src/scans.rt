@@ -233,6 +233,26 @@ fn many_quads_stand_in_each_order(rt: HostRuntime) -> Result<(), AllocError> {
     Ok(())
 }
 
+// Whether an index is of the set of these, and a scan of each pattern goes well.
+fn is_of_many(alloc: Global, index: &Index, distinct: usize) -> Result<bool, AllocError>
+    requires { 0 < distinct }
+{
+    let set = set_of(many_quads(alloc, distinct)?.quads(alloc)?);
+    let is_right = scans_of(alloc, index, &set, &quad_of(2222))?.are_right;
+    Ok(is_right && index.quads(alloc)?.as_slice() == set.as_slice())
+}
+
+#[test]
+fn many_quads_are_put_in_order_by_threads(rt: HostRuntime) -> Result<(), AllocError> {
+    let alloc = rt.alloc();
+    for distinct in [3000, 1500] {
+        let list = many_quads(alloc, distinct)?;
+        let index = Index::of_quads_by(&rt, alloc, list, &BESIDE_SPOG)?;
+        assert!(rt; is_of_many(alloc, &index, distinct)?);
+    }
+    Ok(())
+}
+
 // 3,000 quads of one predicate, which stand otherwise by their objects than by their subjects.
 fn quads_of_a_predicate(alloc: Global, least: u32) -> Result<Vec<Quad<Id>>, AllocError>
     requires { least < 2 ^ 23 }
