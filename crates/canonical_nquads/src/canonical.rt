@@ -1,5 +1,5 @@
 //! The canonical text of a dataset.
-ghost use Rattle.std.specs.Prelude.{◌≡◌, ◌++◌, ◌||◌, ℕ, true, not, map, filter, nat_eq, IfOk, OnOk};
+ghost use Rattle.std.specs.Prelude.{◌≡◌, ◌++◌, ◌||◌, ℕ, true, false, not, map, filter, nat_eq, slice_index_or, IfOk, OnOk};
 ghost use Rattle.std.specs.List.{flat_map, list_any, list_all};
 ghost use Rattle.std.specs.HashSet.{contains};
 ghost use Rattle.std.specs.Thread.{IsSync};
@@ -151,25 +151,46 @@ fn graph_line(alloc: Global, texts: &[TextLine], name: u32) -> Result<TextLine, 
     Ok(TextLine::new(bytes))
 }
 
-/// Puts in the name of a quad's graph.
-fn add_graph(graphs: &mut HashSet<u32>, graph: Option<u32>) -> Result<(), AllocError>
-    ensures { OnOk result ((name : ℕ) → contains nat_eq graphs.new name
+/// Puts in the name of a quad's graph, unless it is known to be in.
+fn add_graph(
+    graphs: &mut HashSet<u32>,
+    known: &mut [bool],
+    graph: Option<u32>,
+) -> Result<(), AllocError>
+    requires { (k : ℕ) → slice_index_or known.old k false ≡ true
+        → contains nat_eq graphs.old k ≡ true }
+    ensures graphs { OnOk result ((name : ℕ) → contains nat_eq graphs.new name
         ≡ (is_name_at name graph || contains nat_eq graphs.old name)) }
+    ensures known { OnOk result ((k : ℕ) → slice_index_or known.new k false ≡ true
+        → contains nat_eq graphs.new k ≡ true) }
 {
-    if let Some(name) = graph {
-        graphs.insert(name)?;
+    let Some(name) = graph else {
+        return Ok(());
+    };
+    let place = name as usize;
+    if place < known.len() {
+        if known[place] {
+            return Ok(());
+        }
+        known[place] = true;
     }
+    graphs.insert(name)?;
     Ok(())
 }
 
-/// The names of the graphs that have a quad.
-fn full_graphs(alloc: Global, quads: &[Quad<u32>]) -> Result<HashSet<u32>, AllocError>
+/// The names of the graphs that have a quad. So many places are looked up in a list, and the others among the names.
+fn full_graphs(
+    alloc: Global,
+    quads: &[Quad<u32>],
+    places: usize,
+) -> Result<HashSet<u32>, AllocError>
     ensures { IfOk result (λ graphs. (name : ℕ)
         → contains nat_eq graphs name ≡ list_any (is_in_at name) quads.now) }
 {
+    let mut known = vec![in alloc; false; places]?;
     let mut graphs = HashSet::new(alloc);
     for quad in quads {
-        add_graph(&mut graphs, quad.graph)?;
+        add_graph(&mut graphs, known.as_mut_slice(), quad.graph)?;
     }
     Ok(graphs)
 }
@@ -195,7 +216,7 @@ fn texts_and_full_by<T: Threads + Sync>(
         || -> Result<HashSet<u32>, AllocError>
             ensures { IfOk result (λ graphs. (name : ℕ)
                 → contains nat_eq graphs name ≡ list_any (is_in_at name) quads.entry.now) }
-        { full_graphs(alloc, quads) },
+        { full_graphs(alloc, quads, terms.len()) },
     );
     Ok((texts?, full?))
 }
@@ -333,7 +354,7 @@ pub fn canonical_text(alloc: Global, dataset: &DataSet, tag: u32) -> Result<Vec<
     quads_name_their_graphs();
     let parts = dataset.parts();
     let texts = texts_of(alloc, parts.terms, tag)?;
-    let full = full_graphs(alloc, parts.quads)?;
+    let full = full_graphs(alloc, parts.quads, parts.terms.len())?;
     let text = text_of_lines(alloc, texts.as_slice(), parts.quads, parts.names, &full)?;
     Ok(text)
 }
