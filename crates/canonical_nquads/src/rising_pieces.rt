@@ -14,6 +14,7 @@ use crate::canonical::push_quad;
 use crate::rising::{Rising, is_above, push_graphs, push_quads};
 use crate::text_line::TextLine;
 use datasets::Quad;
+use radix::place_for_last;
 use std::alloc::{AllocError, Global};
 use std::collections::HashSet;
 use std::thread::{Threads, join};
@@ -33,14 +34,6 @@ fn pieces_for(threads: usize) -> usize {
         return 1;
     }
     threads.saturating_mul(PIECES)
-}
-
-/// The place at which so many quads are parted among so many threads, those of all but one before it.
-fn share(len: usize, threads: usize) -> usize
-    requires { 0 < threads }
-    ensures { result ≤ len }
-{
-    len / threads * (threads - 1)
 }
 
 /// A text in pieces, one behind another, whose lines rise, as far as it is made, and its last line.
@@ -182,7 +175,7 @@ fn rising_quads<T: Threads + Sync>(
     if threads <= 1 {
         return rising_piece(alloc, texts, quads);
     }
-    let (first, rest) = quads.split_at(share(quads.len(), threads));
+    let (first, rest) = quads.split_at(place_for_last(quads.len(), threads));
     let others = threads - 1;
     let (high, low) = join(
         rt,

@@ -8,7 +8,7 @@ use quad_index::Order;
 use quad_lists::{BESIDE_SPOG, KnownQuad, QuadList, known_quads, known_set};
 use quad_sets::lists::merged;
 use quad_sets::{QuadSet, QuadSlice};
-use radix::{by_number, set_by_number};
+use radix::{by_number, sample, set_by_number};
 use sets::set_of;
 use std::alloc::{AllocError, Global};
 
@@ -507,5 +507,26 @@ fn a_list_is_put_by_numbers(rt: HostRuntime) -> Result<(), AllocError> {
     let put = by_number(alloc, list, |number: &u32| *number)?;
     let wanted = [0u32, 5, 5_000, 70_000, 70_000, u32::MAX];
     assert!(rt; put.as_slice() == wanted.as_slice());
+    Ok(())
+}
+
+// The numbers of 3,000 members, of which the first is the greatest.
+fn falling(alloc: Global) -> Result<Vec<u32>, AllocError> {
+    let mut list = Vec::new(alloc);
+    for i in 0..3000u32 {
+        list.push(2999 - i)?;
+    }
+    Ok(list)
+}
+
+#[test]
+fn each_twelfth_number_is_sampled(rt: HostRuntime) -> Result<(), AllocError> {
+    let alloc = rt.alloc();
+    let list = falling(alloc)?;
+    let numbers = sample(alloc, &list, |number: &u32| *number)?;
+    assert!(rt; numbers.len() == 250);
+    for place in 0..numbers.len() {
+        assert!(rt; numbers[place] as usize == 11 + 12 * place);
+    }
     Ok(())
 }

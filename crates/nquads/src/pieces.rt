@@ -9,6 +9,7 @@ ghost use Rattle.terms.specs.DataSet.{united as the_united};
 use crate::fault::BaseFault;
 use crate::reader::{ReadText, read_counted};
 use nquads_lines::laws::lines_are_read;
+use radix::place_for_last;
 use std::alloc::Global;
 use std::thread::{Threads, join};
 use terms::laws::{lists_grow_as_datasets, lists_unite};
@@ -26,20 +27,11 @@ fn end_of_lf(bytes: &[u8], from: usize) -> Option<usize>
     None
 }
 
-/// The place at which so many items are parted among so many threads, those of all but one before it.
-fn share(len: usize, threads: usize) -> usize
-    requires { 0 < threads }
-    ensures { result ≤ len }
-{
-    len / threads * (threads - 1)
-}
-
 /// A text in two pieces, for all of so many threads but one and for that, where an LF comes late enough. The first piece ends with it.
 fn parted(bytes: &[u8], threads: usize) -> Option<(&[u8], &[u8])>
-    requires { 0 < threads }
     ensures { IfSome result (λ r. ArePieces bytes.now r.0.now r.1.now) }
 {
-    let end = end_of_lf(bytes, share(bytes.len(), threads))?;
+    let end = end_of_lf(bytes, place_for_last(bytes.len(), threads))?;
     Some(bytes.split_at(end))
 }
 
