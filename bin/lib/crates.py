@@ -121,15 +121,16 @@ class Work:
 
 
 def build_library(crate, flags, keeps):
-    """Proves and builds a library: over kept work, or where there is none of it or of what it stands on, and none is wanted, from nothing, with its statements alone, which is faster."""
+    """Proves and builds a library: over kept work, or where there is none of it or of what it stands on, and none is wanted, from nothing, with its statements alone, which is faster. What the gate looks for beyond a proof, as a contract that no call can meet, is left to it."""
     if keeps or any(it.has_kept() for it in [*crate.below(), crate]):
         return crate.build_rlib(flags, anew=False)
-    # (as under the gate; the toolchain then leaves no stamp itself)
-    crate.cuts_libraries = True
-    status = crate.build_rlib(flags, anew=True)
+    stamp, kept = crate.stamp(), f"{crate.folder}/out/rlib"
+    shutil.rmtree(kept, ignore_errors=True)
+    os.makedirs(kept)
+    status = crate.call(rtlib.RATTLE, "build", *crate.words(flags, keeps=False), "--statements", "-o", crate.rlib)
     if not status:
-        with open(f"{crate.folder}/out/rlib/stamp", "w", encoding="utf-8") as it:
-            it.write(crate.stamp())
+        with open(f"{kept}/stamp", "w", encoding="utf-8") as it:
+            it.write(stamp)
     return status
 
 

@@ -149,15 +149,14 @@ def sources_of(folder):
     return {it: rtlib.text_of(f"{folder}/{it}") for it in files}
 
 
-class Emptying:
-    """What is emptied in a copy of a crate: as many functions as can be, but for those that are kept, and for cycles of calls that they are in."""
+class Functions:
+    """The functions of a crate, and which of them can be emptied beside others that are kept: as many as can be, but for cycles of calls that those are in."""
 
-    def __init__(self, folder, crate_name, kept):
-        self.folder, self.crate_name, self.kept, self.texts = folder, crate_name, kept, sources_of(folder)
+    def __init__(self, folder):
+        self.folder, self.texts, self.cycles = folder, sources_of(folder), {}
         self.spans = spans_in(folder, self.texts) or {}
         types = {file: re.findall(r"\b(?:struct|enum|union) (\w+)", text) for file, text in self.texts.items()}
         self.homes = {name: module_of(file) for file, names in types.items() for name in names}
-        self.kept_cycles = {self.cycle_of(span) for spans in self.spans.values() for span in spans if span.function in kept} - {None}
 
     def place_of(self, function):
         """The folder below proofs/ in which the folder of a function's proof stands, or None for a function of a trait."""
@@ -166,8 +165,17 @@ class Emptying:
             return None
         return "/".join(it for it in (self.homes[of_type] if of_type else module_of(function.file), of_type) if it)
 
+    def proof_of(self, function):
+        """The folder below proofs/ for a function's own proof."""
+        return "/".join(it for it in (self.place_of(function), function.name) if it)
+
     def cycle_of(self, span):
         """The folder below proofs/ for the proof of the cycle of calls that a function is in, if it is in one."""
+        if span.function not in self.cycles:
+            self.cycles[span.function] = self.found_cycle(span)
+        return self.cycles[span.function]
+
+    def found_cycle(self, span):
         place, words = self.place_of(span.function), [it[3] for it in span.head]
         named = {words[at + 2] for at, word in enumerate(words) if word == "cycle"} or {span.function.name}
         # one of methods and what they pass on stands beside their type
@@ -178,19 +186,44 @@ class Emptying:
                 return "/".join(it for it in (folder, found[0]) if it)
         return None
 
-    def can_be_emptied(self, span):
-        """Whether a function can be emptied: not one of a trait, nor one whose type its body says, nor one without a body."""
-        words = [it[3] for it in span.head]
-        answered = words[words.index("->") :] if "->" in words else []
-        is_kept = span.function in self.kept or self.cycle_of(span) in self.kept_cycles
-        return not is_kept and span.body and self.place_of(span.function) is not None and "impl" not in answered and not {"const", "test"} & {*words}
+    def emptied_beside(self, kept):
+        """The functions that can be emptied beside these: none of a trait, nor one whose type its body says, nor one without a body. They are given as spans, by file."""
+        cycles = {self.cycle_of(span) for spans in self.spans.values() for span in spans if span.function in kept} - {None}
+
+        def can_be_emptied(span):
+            words = [it[3] for it in span.head]
+            answered = words[words.index("->") :] if "->" in words else []
+            is_kept = span.function in kept or self.cycle_of(span) in cycles
+            return not is_kept and span.body and self.place_of(span.function) is not None and "impl" not in answered and not {"const", "test"} & {*words}
+
+        return {file: [span for span in spans if can_be_emptied(span)] for file, spans in self.spans.items()}
+
+    def left_beside(self, kept):
+        """What a wrong body of one of these functions rests on in its crate: the sources without the bodies of those that can be emptied, by file, and the folders of proofs of the latter."""
+        emptied, texts, folders = self.emptied_beside(kept), dict(self.texts), set()
+        for file, spans in emptied.items():
+            data = texts[file].encode()
+            for start, end in sorted((span.body for span in spans), reverse=True):
+                data = data[:start] + data[end:]
+            texts[file] = data.decode()
+            folders.update(self.proof_of(span.function) for span in spans)
+            folders.update(self.cycle_of(span) for span in spans)
+        return texts, folders - {None}
+
+
+class Emptying:
+    """What is emptied in a copy of a crate."""
+
+    def __init__(self, folder, crate_name, kept):
+        self.folder, self.crate_name, self.kept, self.functions = folder, crate_name, kept, Functions(folder)
 
     def empty(self, span):
         """Leaves a hole of a function's proof, and returns what of its file's bytes is replaced, and by what, the last first."""
-        at = "/".join(it for it in (self.place_of(span.function), span.function.name) if it)
-        cycle, own = self.cycle_of(span), f"{self.folder}/proofs/{at}"
+        at, cycle = self.functions.proof_of(span.function), self.functions.cycle_of(span)
+        own = f"{self.folder}/proofs/{at}"
         if cycle:
-            shutil.rmtree(f"{self.folder}/proofs/{cycle}")
+            # the functions of a cycle have one proof
+            shutil.rmtree(f"{self.folder}/proofs/{cycle}", ignore_errors=True)
         os.makedirs(own, exist_ok=True)
         for answers in {"Answers.antt", "Invariants.antt"} & {*os.listdir(own)}:
             os.remove(f"{own}/{answers}")
@@ -202,8 +235,8 @@ class Emptying:
         return [(*span.body, EMPTY), *((span.head[it - 2][0], span.head[it + 4][1], "") for it in attributes)]
 
     def run(self):
-        for file, spans in self.spans.items():
-            data, emptied = self.texts[file].encode(), [it for it in spans if self.can_be_emptied(it)]
+        for file, emptied in self.functions.emptied_beside(self.kept).items():
+            data = self.functions.texts[file].encode()
             for start, end, text in sorted((it for span in emptied for it in self.empty(span)), reverse=True):
                 data = data[:start] + text.encode() + data[end:]
             with open(f"{self.folder}/{file}", "wb") as it:

@@ -18,7 +18,7 @@ import tempfile
 from dataclasses import dataclass
 
 from crates import ROOT, rt, rtlib
-from functions import empty_others, module_of, places, sources_of, spans_in
+from functions import Functions, empty_others, module_of, places, sources_of, spans_in
 
 OPEN = "an open goal"
 BY_TYPE = "a hand-written answer of another type"
@@ -250,17 +250,25 @@ def sum_of(files):
 
 
 class Refused:
-    """The edits of a crate that a run on this machine has seen refused, by the sum of all that this rests on: the toolchain, these scripts, the crate's own
-    files, what the libraries below it state, and the edit."""
+    """The edits of a crate that a run on this machine has seen refused, by the sum of all that this rests on: the toolchain, these scripts, what the
+    libraries below the crate state, the crate's own files but for the bodies and proofs of functions that the edit does not change, and the edit."""
 
     def __init__(self, crate):
         stated = [it for below in crate.below() for it in files_below(f"{below.rlib}/interface/lang", f"{below.rlib}/lang/antt/specs")]
-        own = files_below(*(f"{crate.folder}/{it}" for it in rtlib.PARTS))
         scripts = [f"{ROOT}/bin/lib/{it}" for it in ("functions.py", "wrong_bodies.py")]
-        self.sum, self.at = rt.kit_sum() + sum_of([*scripts, *own, *stated]), f"{rt.STORE}/wrong-bodies"
+        self.folder, self.own = crate.folder, files_below(*(f"{crate.folder}/{it}" for it in rtlib.PARTS))
+        self.sum, self.at, self.functions = rt.kit_sum() + sum_of([*scripts, *stated]), f"{rt.STORE}/wrong-bodies", Functions(crate.folder)
+
+    def own_sum(self, edit):
+        """The sum of the crate's own files, without what is another function's alone."""
+        if not edit.functions:
+            return sum_of(self.own)
+        texts, folders = self.functions.left_beside(edit.functions)
+        others = [it for it in self.own if os.path.relpath(it, self.folder) not in texts and os.path.relpath(os.path.dirname(it), f"{self.folder}/proofs") not in folders]
+        return hashlib.sha256(repr(sorted(texts.items())).encode()).hexdigest() + sum_of(others)
 
     def file(self, edit):
-        return f"{self.at}/{hashlib.sha256(repr((self.sum, edit.name, edit.text)).encode()).hexdigest()}"
+        return f"{self.at}/{hashlib.sha256(repr((self.sum, self.own_sum(edit), edit.name, edit.text)).encode()).hexdigest()}"
 
     def found(self, edit):
         """What was said of the edit when it was refused, or None if that is not known."""
