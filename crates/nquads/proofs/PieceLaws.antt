@@ -1,5 +1,13 @@
 -- Reading a text in two pieces, of which the first ends with an LF.
-use Rattle.std.specs.Prelude.{Bool}
+use Rattle.std.specs.Prelude.{Bool, ◌||◌}
+use Rattle.std.specs.declared.cmp.Ordering.{Ordering}
+use Rattle.std.specs.declared.cmp.Ordering.TheVariants.{Equal}
+use Rattle.std.specs.Cmp.{IsTotalOrder}
+use Rattle.sets.specs.Sets.{has, union}
+use Rattle.sets.proofs.SetLaws.{same_set, sorted-set_of, has-union}
+use Rattle.datasets.specs.Id.{quad_total, quad_exact}
+use Rattle.terms.specs.Term.{term_order}
+use Rattle.terms.specs.TermLaws.{term_total, term_exact}
 use Rattle.std.proofs.Common.{◌≡◌, ℕ, true, false, cond, eqb, List, [], ◌∷◌, ◌++◌, Some, refl, sym, ap, ◌∙◌, subst, append_assoc}
 use Rattle.std.proofs.lemmas.List.{append-nil}
 use Rattle.std.specs.List.{onto_first}
@@ -36,6 +44,22 @@ lines_before [] true = ([], λ ys. refl, λ e. absurd cc)
 lines_before [] false = ([] ∷ [], λ ys. refl, λ e. ([], [], refl))
 lines_before (b ∷ bs) cr =
     one_byte (eqb b 10) (eqb b 13) cr b (λ ys. lines_after true (bs ++ 10 ∷ ys)) (λ ys. lines_after false (bs ++ 10 ∷ ys)) (lines_before bs true) (lines_before bs false)
+
+-- ---- two datasets, in either order
+
+either : (a b : Bool) → (a || b) ≡ (b || a)
+either true true = refl
+either true false = refl
+either false true = refl
+either false false = refl
+
+union_turned : {A : Type 0} {R : A → A → Ordering} → IsTotalOrder R → ((x y : A) → R x y ≡ Equal → x ≡ y) → (xs ys : List A) → union R xs ys ≡ union R ys xs
+union_turned {A} {R} o exact xs ys =
+    same_set o exact (union R xs ys) (union R ys xs) (sorted-set_of o (xs ++ ys)) (sorted-set_of o (ys ++ xs))
+    (λ q. has-union o q xs ys ∙ either (has R xs q) (has R ys q) ∙ sym (has-union o q ys xs))
+
+pub united_turned : (d e : Dataset Term) → united d e ≡ united e d
+united_turned d e = λ i. record { quads = union_turned (quad_total term_total) (quad_exact term_order term_exact) d.quads e.quads i; names = union_turned term_total term_exact d.names e.names i }
 
 -- ---- what they say
 

@@ -12,6 +12,7 @@ use nquads_lines::laws::lines_are_read;
 use radix::place_for_last;
 use std::alloc::Global;
 use std::thread::{Threads, join};
+use terms::DataSet;
 use terms::laws::{lists_grow_as_datasets, lists_unite};
 
 /// Where the first LF ends that comes at this place or later.
@@ -35,7 +36,18 @@ fn parted(bytes: &[u8], threads: usize) -> Option<(&[u8], &[u8])>
     Some(bytes.split_at(end))
 }
 
-/// Two pieces as one text.
+/// Two datasets, first the one that has more terms.
+fn more_first(one: DataSet, other: DataSet) -> (DataSet, DataSet)
+    ensures { the_united result.0 result.1 ≡ the_united one other }
+{
+    if one.parts().terms.len() < other.parts().terms.len() {
+        (other, one)
+    } else {
+        (one, other)
+    }
+}
+
+/// Two pieces as one text. The terms of the one that has fewer are looked for among those of the other.
 pub(crate) fn united<T: Threads + Sync>(
     rt: &T,
     first: ReadText,
@@ -46,12 +58,10 @@ pub(crate) fn united<T: Threads + Sync>(
         × (read.ends ≡ first.ends + rest.ends)) }
     ensures err { IfErr result (λ e. e ≡ OutOfMemory) }
 {
-    let mut dataset = first.dataset;
-    dataset.unite_by(rt, rest.dataset)?;
-    Ok(ReadText {
-        dataset,
-        ends: first.ends + rest.ends,
-    })
+    let ends = first.ends + rest.ends;
+    let (mut dataset, fewer) = more_first(first.dataset, rest.dataset);
+    dataset.unite_by(rt, fewer)?;
+    Ok(ReadText { dataset, ends })
 }
 
 /// The dataset that a text spells, read by so many threads, where they can be had. An error tells no more than that a piece was not read: a

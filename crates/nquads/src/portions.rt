@@ -17,6 +17,9 @@ use std::thread::Threads;
 use terms::DataSet;
 use terms::laws::{lists_grow_as_datasets, lists_unite};
 
+/// Terms are few where there are so many quads for each.
+const QUADS_OF_A_TERM: usize = 8;
+
 /// What has come of a text.
 #[derive(Drop)]
 pub struct PartlyRead {
@@ -112,6 +115,25 @@ fn and_then<T: Threads + Sync>(
     }
 }
 
+/// Whether lines say few terms for their quads.
+fn have_few_terms(read: &ReadText) -> bool {
+    let parts = read.dataset.parts();
+    parts.terms.len() <= parts.quads.len() / QUADS_OF_A_TERM
+}
+
+/// How many bytes come behind these lines. The terms that several threads read of a portion are put among those of the lines before it by one
+/// thread: where they are not few, all that is left comes at once.
+fn portion_behind(read: &ReadText, threads: usize, portion: usize) -> usize
+    requires { portion < 2 ^ 32 }
+    ensures { result < 2 ^ 32 }
+{
+    if threads <= 1 || have_few_terms(read) {
+        portion
+    } else {
+        MOST_BYTES
+    }
+}
+
 /// What has come of a text of which no line has an end, and more.
 fn begun_further<R: Read>(
     reader: &mut Watched<R>,
@@ -197,10 +219,11 @@ fn read_further<T: Threads + Sync, R: Read>(
         Err(fault) => return Err(fault),
     };
     let len = len + lines.len();
-    let limit = begun.len() + portion;
+    let front = and_then(rt, front, said)?;
+    let limit = begun.len() + portion_behind(&front, threads, portion);
     let is_all = fill(reader, &mut room, limit)?;
     Ok(PartlyRead {
-        front: Some(and_then(rt, front, said)?),
+        front: Some(front),
         len,
         rest: room,
         is_all,
@@ -324,8 +347,8 @@ fn read_within_by<T: Threads + Sync, R: Read>(
     ended(rt, alloc, read, limit, threads)
 }
 
-/// The same as `read`, in portions of some more than so many bytes, so that a longer text is not held whole. The lines of each are read by so
-/// many threads where they can be had.
+/// The same as `read`, in portions of some more than so many bytes, so that a longer text is not held whole, unless several threads read many
+/// terms. The lines of each portion are read by so many threads where they can be had.
 pub fn read_by<T: Threads + Sync, R: Read>(
     rt: &T,
     alloc: Global,

@@ -24,18 +24,18 @@ and_then-requires-after_bounds g c = λ κs h.
 pub returns-clause-ok : goal.returns-clause-ok
 returns-clause-ok g c = λ before is.
     let pieces : ArePieces c.args.read.rest.items c.in-Some.lines.now c.in-Some.begun.now = subst (λ t. ArePieces t c.in-Some.lines.now c.in-Some.begun.now) c.as_slice.ensures.value c.in-Some.ensures in
-    let limit : ℕ = length c.in-Some.begun.now + c.args.portion in
+    let limit : ℕ = length c.in-Some.begun.now + c.portion_behind.result in
     let filled = IfOk-at_ok (IsFilled limit (g.R.Read.remaining c.args.reader.now.inner) (g.R.Read.remaining c.fill.new.reader.inner) c.extend_from_slice.new.self.items c.fill.new.bytes.items)
     c.in_ok-is_all.was c.fill.ensures.filled in
-    further_read before (g.R.Read.remaining c.args.reader.now.inner) (g.R.Read.remaining c.fill.new.reader.inner) limit c.args.read c.in-Some.lines.now c.in-Some.begun.now c.in_ok-and_then.field-0
+    further_read before (g.R.Read.remaining c.args.reader.now.inner) (g.R.Read.remaining c.fill.new.reader.inner) limit c.args.read c.in-Some.lines.now c.in-Some.begun.now c.in_ok-front.front
     c.fill.new.bytes c.args.read.rest c.in_ok-is_all.is_all is pieces
     (filled_behind limit (g.R.Read.remaining c.args.reader.now.inner) (g.R.Read.remaining c.fill.new.reader.inner) c.clear.new.self.items c.extend_from_slice.new.self.items c.in-Some.begun.now c.fill.new.bytes.items
     c.in_ok-is_all.is_all c.clear.ensures.items c.in_ok-extend_from_slice.ensures.items filled)
-    (λ front h. c.in_ok-and_then.ensures.ok front c.in-Some.lines.now h (IfOk-at_ok (IsReadText c.in-Some.lines.now) c.in-Ok.is c.read_text.ensures.ok))
+    (λ front h. c.in_ok-front.ensures.ok front c.in-Some.lines.now h (IfOk-at_ok (IsReadText c.in-Some.lines.now) c.in-Ok.is c.read_text.ensures.ok))
 
 pub returns-clause-ends : goal.returns-clause-ends
 returns-clause-ends g c =
     let said : c.in-Ok.said.ends ≤ length c.in-Some.lines.now = few_ends c.in-Some.lines.now c.in-Ok.said (IfOk-at_ok (IsReadText c.in-Some.lines.now) c.in-Ok.is c.read_text.ensures.ok) in
     let ends : ends_of c.args.read.front ≤ c.args.read.len = c.requires.ends in
-    let sum : c.in_ok-and_then.field-0.ends ≡ ends_of c.args.read.front + c.in-Ok.said.ends = c.in_ok-and_then.ensures.ends in
+    let sum : c.in_ok-front.front.ends ≡ ends_of c.args.read.front + c.in-Ok.said.ends = c.in_ok-front.ensures.ends in
     omega arith
