@@ -1,5 +1,5 @@
--- The members of a set on both sides of a value.
-use Rattle.std.specs.Prelude.{◌≡◌, ◌<◌, ◌≤◌, ◌++◌, ℕ, List, length}
+-- The members of a set on both sides of a value, and the changes of a set in their order.
+use Rattle.std.specs.Prelude.{◌≡◌, ◌≢◌, ◌<◌, ◌≤◌, ◌∷◌, ◌++◌, Bool, true, false, ℕ, List, length}
 use Rattle.std.proofs.Common.{get_or}
 use Rattle.std.specs.List.{AllByRecursion}
 use Rattle.std.specs.declared.cmp.Ordering.{Ordering}
@@ -19,3 +19,8 @@ module _ {A : Type 0} (R : A → A → Ordering) where
     pub less : AllByRecursion (λ x. R x v ≡ Less) below
     pub same : AllByRecursion (λ x. R x v ≡ Equal) middle
     pub greater : AllByRecursion (λ x. R v x ≡ Less) above
+
+  -- of what goes and what comes, the value is the least, and comes if it is of what comes; these go and come after it
+  abbrev pub IsFirstChange : List A → List A → A → Bool → List A → List A → Type 0
+  IsFirstChange gone more v false gone' more' = (gone ≡ v ∷ gone') × (more ≡ more') × AllByRecursion (λ x. R v x ≡ Less) more
+  IsFirstChange gone more v true gone' more' = (gone ≡ gone') × (more ≡ v ∷ more') × AllByRecursion (λ x. R x v ≢ Less) gone

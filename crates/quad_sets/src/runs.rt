@@ -1,8 +1,10 @@
 //! Changes of a set whose members are taken over in runs.
-ghost use Rattle.std.specs.Prelude.{◌≡◌, ◌++◌, IfOk};
+ghost use Rattle.std.specs.Prelude.{◌≡◌, ◌↔◌, [], IfNone, IfOk, IfSome, IsTrue};
+ghost use Rattle.std.specs.List.{AllByRecursion};
 ghost use Rattle.std.specs.List.Sorted.{IsStrictlySortedBy};
+ghost use Rattle.std.specs.declared.cmp.Ordering.TheVariants.{Less};
 ghost use Rattle.sets.specs.Sets.{union, without};
-ghost use Rattle.quad_sets.specs.Runs.{AreLessTo, IsParted};
+ghost use Rattle.quad_sets.specs.Runs.{AreLessTo, IsParted, IsFirstChange};
 
 use sets::Exact;
 use std::alloc::{AllocError, Global};
@@ -31,76 +33,51 @@ fn parted<'a, T: Exact>(set: &'a [T], value: &T) -> (&'a [T], &'a [T])
     }
 }
 
-/// Puts the members of a set that are none of another's behind a list.
-fn push_left<T: Exact + Copy + Drop>(
-    set: &[T],
-    gone: &[T],
-    mut list: Vec<T>,
-) -> Result<Vec<T>, AllocError>
-    requires set { IsStrictlySortedBy T.cmp set.now }
-    requires gone { IsStrictlySortedBy T.cmp gone.now }
-    ensures { IfOk result (λ after. after.items ≡ list.items ++ without T.cmp set.now gone.now) }
+/// Whether a value is below all members.
+fn is_below<T: Exact>(value: &T, set: &[T]) -> bool
+    requires { IsStrictlySortedBy T.cmp set.now }
+    ensures { IsTrue result ↔ AllByRecursion (λ member. T.cmp value.now member ≡ Less) set.now }
 {
-    let mut rest = set;
-    let mut gone = gone;
-    while let Some((value, later)) = gone.split_first() {
-        let (below, above) = parted(rest, value);
-        list.extend_from_slice(below)?;
-        rest = above;
-        gone = later;
+    match set.first() {
+        Some(first) => value.cmp(first).is_lt(),
+        None => true,
     }
-    list.extend_from_slice(rest)?;
-    Ok(list)
 }
 
-/// Puts the members of two sets behind a list.
-fn push_united<T: Exact + Copy + Drop>(
-    set: &[T],
-    more: &[T],
-    mut list: Vec<T>,
-) -> Result<Vec<T>, AllocError>
-    requires set { IsStrictlySortedBy T.cmp set.now }
-    requires more { IsStrictlySortedBy T.cmp more.now }
-    ensures { IfOk result (λ after. after.items ≡ list.items ++ union T.cmp set.now more.now) }
-{
-    let mut rest = set;
-    let mut more = more;
-    while let Some((value, later)) = more.split_first() {
-        let (below, above) = parted(rest, value);
-        list.extend_from_slice(below)?;
-        list.push(*value)?;
-        rest = above;
-        more = later;
-    }
-    list.extend_from_slice(rest)?;
-    Ok(list)
+/// The least value that goes or comes, and what goes and what comes after it.
+#[derive(Drop)]
+struct Change<'a, T> {
+    value: &'a T,
+    comes: bool,
+    gone: &'a [T],
+    more: &'a [T],
 }
 
-/// The members of a set that are none of another's.
-fn left<T: Exact + Copy + Drop>(alloc: Global, set: &[T], gone: &[T]) -> Result<Vec<T>, AllocError>
-    requires set { IsStrictlySortedBy T.cmp set.now }
+/// The first change, if there is one. A value that goes and comes is one that comes.
+fn first_change<'a, T: Exact>(gone: &'a [T], more: &'a [T]) -> Option<Change<'a, T>>
     requires gone { IsStrictlySortedBy T.cmp gone.now }
-    ensures value { IfOk result (λ after. after.items ≡ without T.cmp set.now gone.now) }
-    ensures set { IfOk result (λ after. IsStrictlySortedBy T.cmp after.items) }
-{
-    let mut list = Vec::new(alloc);
-    list.reserve_exact(set.len())?;
-    push_left(set, gone, list)
-}
-
-/// The members of two sets.
-fn united<T: Exact + Copy + Drop>(
-    alloc: Global,
-    set: &[T],
-    more: &[T],
-) -> Result<Vec<T>, AllocError>
-    requires set { IsStrictlySortedBy T.cmp set.now }
     requires more { IsStrictlySortedBy T.cmp more.now }
-    ensures { IfOk result (λ after. after.items ≡ union T.cmp set.now more.now) }
+    ensures none { IfNone result ((gone.now ≡ []) × (more.now ≡ [])) }
+    ensures first { IfSome result (λ change. IsFirstChange T.cmp gone.now more.now
+        change.value.now change.comes change.gone.now change.more.now) }
 {
-    let mut list = Vec::new(alloc);
-    list.reserve_exact(set.len().saturating_add(more.len()))?;
-    push_united(set, more, list)
+    match gone.split_first() {
+        Some((value, later)) if is_below(value, more) => Some(Change {
+            value,
+            comes: false,
+            gone: later,
+            more,
+        }),
+        _ => {
+            let (value, later) = more.split_first()?;
+            Some(Change {
+                value,
+                comes: true,
+                gone,
+                more: later,
+            })
+        }
+    }
 }
 
 /// The set of the members of a set that are none of another's, and of more.
@@ -116,9 +93,21 @@ pub(crate) fn changed_in_runs<T: Exact + Copy + Drop>(
     ensures { IfOk result (λ after. after.items
         ≡ union T.cmp (without T.cmp set.now gone.now) more.now) }
 {
-    if gone.is_empty() {
-        return united(alloc, set, more);
+    let mut list = Vec::new(alloc);
+    list.reserve_exact(set.len().saturating_add(more.len()))?;
+    let mut rest = set;
+    let mut gone = gone;
+    let mut more = more;
+    while let Some(change) = first_change(gone, more) {
+        let (below, above) = parted(rest, change.value);
+        list.extend_from_slice(below)?;
+        if change.comes {
+            list.push(*change.value)?;
+        }
+        rest = above;
+        gone = change.gone;
+        more = change.more;
     }
-    let left = left(alloc, set, gone)?;
-    united(alloc, left.as_slice(), more)
+    list.extend_from_slice(rest)?;
+    Ok(list)
 }
