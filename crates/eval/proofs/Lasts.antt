@@ -23,7 +23,7 @@ ends_at (x ∷ []) d zero e = refl
 ends_at (x ∷ y ∷ xs) d zero e = absurd (omega arith)
 ends_at (x ∷ xs) d (suc n) e = ap (λ zs. x ∷ zs) (ends_at xs d n (omega arith))
 
-ends : {A : Type 0} (xs : List A) (d : A) → 1 ≤ length xs → xs ≡ take (length xs - 1) xs ++ get_or xs (length xs - 1) d ∷ []
+pub ends : {A : Type 0} (xs : List A) (d : A) → 1 ≤ length xs → xs ≡ take (length xs - 1) xs ++ get_or xs (length xs - 1) d ∷ []
 ends xs d le = ends_at xs d (length xs - 1) (omega arith)
 
 -- ---- basic patterns

@@ -2,6 +2,7 @@ pub mod Alone
 pub mod Few
 pub mod Folds
 pub mod Lasts
+pub mod Lots
 pub mod Maps
 pub mod Nearness
 pub mod Outside

@@ -1,23 +1,25 @@
 //! The solutions of a basic graph pattern.
-ghost use Rattle.std.specs.Prelude.{◌≡◌, ◌≤◌, Bool, true, length, map, filter, IfOk, IfSome};
+ghost use Rattle.std.specs.Prelude.{◌≡◌, ◌≤◌, ◌∷◌, ◌++◌, Bool, List, length, map, filter, IfOk, IfSome, OnOk};
 ghost use Rattle.algebra.specs.Expressions.{expression_of};
+ghost use Rattle.algebra.specs.declared.pattern.TriplePattern.{TriplePattern as ThePattern};
 ghost use Rattle.datasets.specs.Dataset.{quads_in};
 ghost use Rattle.datasets.specs.Id.{id_order};
-ghost use Rattle.datasets.specs.declared.read.Read.TheVariants.{Scan};
-ghost use Rattle.meaning.specs.Operators.{join as the_join};
+ghost use Rattle.datasets.specs.declared.id.Id.{Id as Number};
 ghost use Rattle.meaning.specs.Solutions.{solutions_among, basic_solutions, passes_all};
 ghost use Rattle.reads.specs.Reads.{View, Read as Reading, applied};
 ghost use Rattle.reads.specs.Runs.{Agrees};
-ghost use Rattle.asking.specs.Goes.{Goes, stop_of};
+ghost use Rattle.asking.specs.Goes.{AreNoted, Goes, stop_of};
 ghost use Rattle.solution.specs.Limits.{up_to};
-ghost use Rattle.eval.specs.Scans.{scan_of as the_scan_of, term_of as the_term_of, AskedPatterns};
+ghost use Rattle.eval.specs.Scans.{scan_of as the_scan_of, term_of as the_term_of, scans_of as the_scans_of, AskedPatterns, TellScans};
 
 use crate::query::Query;
-use crate::scanning::scan;
+use crate::scanning::told_after;
 use algebra::{Expression, Place, TriplePattern};
-use datasets::{GraphPlace, Id, QuadPattern};
+use asking::ask_all;
+use datasets::{GraphPlace, Id, QuadPattern, Read};
 use reads::{Note, Source, Stop};
 use solution::{Filters, Solutions};
+use std::alloc::{AllocError, Global};
 
 // The term of a place, and nothing for a variable.
 fn term_of(place: Place<Id>) -> Option<Id>
@@ -41,51 +43,89 @@ fn scan_of(pattern: &TriplePattern<Id>, graph: Option<Id>) -> QuadPattern<Id>
     }
 }
 
-// The solutions of a triple pattern, which is asked for by one scan.
-fn solve_triple<S: Source, F>(
-    query: &Query<'_, F>,
-    pattern: &TriplePattern<Id>,
+// The scans for triple patterns in a graph.
+fn scans_of(
+    alloc: Global,
+    patterns: &[TriplePattern<Id>],
     graph: Option<Id>,
-    source: &mut S,
-    notes: &mut Vec<Note>,
-) -> Result<Solutions, Stop>
-    ensures goes { (allowed : Reading → Bool) → allowed (Scan (the_scan_of pattern.now graph))
-        ≡ true → Goes S.asks allowed source.old source.new notes.old.items notes.new.items
-        (stop_of result) }
-    ensures solved { IfOk result (λ found. (d : View) → Agrees notes.new.items d
-        → found ≡ solutions_among id_order query.now.width pattern.now
-        (quads_in id_order graph (applied query.now.changes.now d).quads)) }
+) -> Result<Vec<Read<Id>>, AllocError>
+    ensures { IfOk result (λ scans. scans.items ≡ the_scans_of patterns.now graph) }
 {
-    let wanted = scan_of(pattern, graph);
-    let quads = scan(query.alloc, &wanted, query.changes, source, notes)?;
-    let found = Solutions::among(query.alloc, query.width, pattern, &quads.as_slice())?;
-    Ok(found)
+    let mut scans = Vec::with_capacity(alloc, patterns.len())?;
+    for pattern in patterns {
+        scans.push(Read::Scan(scan_of(pattern, graph)))?;
+    }
+    Ok(scans)
 }
 
-// These solutions, joined with those of a triple pattern.
-fn join_scanned<S: Source, F>(
-    query: &Query<'_, F>,
-    before: &Solutions,
-    pattern: &TriplePattern<Id>,
+// Asks at once for the scans for triple patterns in a graph, and for nothing where there are none.
+fn ask_for<S: Source>(
+    alloc: Global,
+    patterns: &[TriplePattern<Id>],
     graph: Option<Id>,
     source: &mut S,
     notes: &mut Vec<Note>,
-) -> Result<Solutions, Stop>
-    ensures goes { (allowed : Reading → Bool) → allowed (Scan (the_scan_of pattern.now graph))
-        ≡ true → Goes S.asks allowed source.old source.new notes.old.items notes.new.items
+) -> Result<(), Stop>
+    ensures goes { (allowed : Reading → Bool) → AskedPatterns allowed graph patterns.now
+        → Goes S.asks allowed source.old source.new notes.old.items notes.new.items
         (stop_of result) }
-    ensures solved { IfOk result (λ found. (d : View) → Agrees notes.new.items d
-        → found ≡ the_join id_order before.now
-        (solutions_among id_order query.now.width pattern.now
-        (quads_in id_order graph (applied query.now.changes.now d).quads))) }
+    ensures noted { OnOk result (AreNoted (the_scans_of patterns.now graph) notes.old.items
+        notes.new.items) }
 {
-    let found = solve_triple(query, pattern, graph, source, notes)?;
-    let joined = before.join(query.alloc, found)?;
-    Ok(joined)
+    if patterns.is_empty() {
+        return Ok(());
+    }
+    let scans = scans_of(alloc, patterns, graph)?;
+    ask_all(&scans, source, notes)
+}
+
+// The solutions of a triple pattern, from the first of some notes, and the other notes.
+fn told_first<'n, F>(
+    query: &Query<'_, F>,
+    pattern: &TriplePattern<Id>,
+    graph: Option<Id>,
+    notes: &'n [Note],
+) -> Result<(Solutions, &'n [Note]), AllocError>
+    ensures { IfOk result (λ both. (d : View) (later : List (ThePattern Number))
+        → TellScans (pattern.now ∷ later) graph notes.now d
+        → (both.0 ≡ solutions_among id_order query.now.width pattern.now
+        (quads_in id_order graph (applied query.now.changes.now d).quads))
+        × TellScans later graph both.1.now d) }
+{
+    let [first, others @ ..] = notes else {
+        return Ok((Solutions::none(query.alloc), notes));
+    };
+    let wanted = scan_of(pattern, graph);
+    let quads = told_after(query.alloc, query.changes, &wanted, &first.answer)?;
+    let found = Solutions::among(query.alloc, query.width, pattern, &quads.as_slice())?;
+    Ok((found, others))
+}
+
+// The solutions of triple patterns, joined in order, from the first of some notes, and the other notes.
+fn told_joined<'n, F>(
+    query: &Query<'_, F>,
+    patterns: &[TriplePattern<Id>],
+    graph: Option<Id>,
+    notes: &'n [Note],
+) -> Result<(Solutions, &'n [Note]), AllocError>
+    ensures { IfOk result (λ both. (d : View) (later : List (ThePattern Number))
+        → TellScans (patterns.now ++ later) graph notes.now d
+        → (both.0 ≡ basic_solutions id_order query.now.width patterns.now
+        (quads_in id_order graph (applied query.now.changes.now d).quads))
+        × TellScans later graph both.1.now d) }
+{
+    let mut found = Solutions::empty_mapping(query.alloc, query.width)?;
+    let mut left = notes;
+    for pattern in patterns {
+        let (next, others) = told_first(query, pattern, graph, left)?;
+        found = found.join(query.alloc, next)?;
+        left = others;
+    }
+    Ok((found, left))
 }
 
 /// The solutions of a basic graph pattern in a graph of each changed dataset that agrees with the notes. Each triple pattern is asked for
-/// by one scan, in order.
+/// by one scan, in order, and all at once.
 pub fn solve_basic<S: Source, F>(
     query: &Query<'_, F>,
     patterns: &[TriplePattern<Id>],
@@ -100,10 +140,9 @@ pub fn solve_basic<S: Source, F>(
         → found ≡ basic_solutions id_order query.now.width patterns.now
         (quads_in id_order graph (applied query.now.changes.now d).quads)) }
 {
-    let mut found = Solutions::empty_mapping(query.alloc, query.width)?;
-    for pattern in patterns {
-        found = join_scanned(query, &found, pattern, graph, source, notes)?;
-    }
+    let before = notes.len();
+    ask_for(query.alloc, patterns, graph, source, notes)?;
+    let (found, _) = told_joined(query, patterns, graph, &notes[before..])?;
     Ok(found)
 }
 
@@ -134,8 +173,10 @@ pub fn solve_basic_up_to<S: Source, F: Filters>(
         let kept = empty.filter(query.alloc, filters, query.filters)?;
         return Ok(kept.up_to(limit));
     };
-    let before = solve_basic(query, first, graph, source, notes)?;
-    let next = solve_triple(query, last, graph, source, notes)?;
-    let found = before.join_up_to(query.alloc, next, filters, query.filters, limit)?;
+    let before = notes.len();
+    ask_for(query.alloc, patterns, graph, source, notes)?;
+    let (joined, left) = told_joined(query, first, graph, &notes[before..])?;
+    let (next, _) = told_first(query, last, graph, left)?;
+    let found = joined.join_up_to(query.alloc, next, filters, query.filters, limit)?;
     Ok(found)
 }

@@ -19,8 +19,8 @@ use quad_sets::QuadSet;
 use reads::{Answered, Note, Source, Stop};
 use std::alloc::{AllocError, Global};
 
-// The quads of a pattern after the changes, from an answer that was told before them. An answer of another kind counts as no quads.
-fn told_after(
+/// The quads of a pattern after the changes, from an answer that was told before them. An answer of another kind counts as no quads.
+pub(crate) fn told_after(
     alloc: Global,
     changes: &Delta,
     pattern: &QuadPattern<Id>,
