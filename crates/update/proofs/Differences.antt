@@ -9,10 +9,12 @@ use Rattle.std.specs.Cmp.{IsTotalOrder}
 use Rattle.std.proofs.Math.Bool.{and-not_self}
 use Rattle.sets.specs.Sets.{has, set_of, union, without}
 use Rattle.sets.proofs.SetLaws.{same_set, sorted-set_of, sorted-empty, has-set_of, has-filter, has-without, has-after}
+use Rattle.datasets.specs.declared.id.Id.{Id}
+use Rattle.datasets.specs.declared.quad.Quad.{Quad}
 use Rattle.datasets.specs.Dataset.{quad_order}
 use Rattle.datasets.specs.Id.{id_order, id_total, id_exact, quad_total, quad_exact}
 use Rattle.reads.specs.Reads.{View, Delta, IsDataset, no_change, applied}
-use Rattle.update.specs.Changed.{difference}
+use Rattle.update.specs.Changed.{difference, IsNewOf}
 
 -- ---- truth tables: d is there before, a goes, p comes
 
@@ -112,15 +114,27 @@ unfolding applied
 no_change_keeps d h =
     λ i. record { quads = unchanged (quad_total id_total) (quad_exact id_order id_exact) d.quads h.quads i; names = unchanged id_total id_exact d.names h.names i }
 
--- how a change is made of what was told
-pub record IsToldOf (change c : Delta) (d : View) : Type 0 where
-  pub present : change.present ≡ set_of (quad_order id_order) (without (quad_order id_order) c.present d.quads)
-  pub absent : change.absent ≡ set_of (quad_order id_order) (filter (has (quad_order id_order) d.quads) (without (quad_order id_order) c.absent c.present))
-  pub there : change.there ≡ set_of id_order (without id_order c.there d.names)
-  pub gone : change.gone ≡ set_of id_order (filter (has id_order d.names) (without id_order c.gone c.there))
+-- what is asked for of a change: what is to be there, and what isn't, unless it is to be there too
+abbrev pub asked_of : Delta → Delta
+asked_of c = record {
+  present = c.present;
+  absent = without (quad_order id_order) c.absent c.present;
+  there = c.there;
+  gone = without id_order c.gone c.there;
+}
+
+-- it is made of the change's parts
+pub asked_is : (c : Delta) (others absent present : List (Quad Id)) (names gone there : List Id)
+    → others ≡ without (quad_order id_order) absent present → absent ≡ c.absent → present ≡ c.present
+    → names ≡ without id_order gone there → gone ≡ c.gone → there ≡ c.there
+    → record c { absent = others; gone = names } ≡ asked_of c
+asked_is c others absent present names gone there of_quads a p of_names g t =
+    let left = of_quads ∙ (λ i. without (quad_order id_order) (a i) (p i)) in
+    let left_names = of_names ∙ (λ i. without id_order (g i) (t i)) in
+    λ i. record { present = c.present; absent = left i; there = c.there; gone = left_names i }
 
 -- what a change really changes
-pub least_is : (change c : Delta) (d : View) → IsDataset d → IsToldOf change c d → change ≡ difference d (applied c d)
+pub least_is : (change c : Delta) (d : View) → IsDataset d → IsNewOf change (asked_of c) d → change ≡ difference d (applied c d)
 unfolding applied
 least_is change c d h told =
     let Q = quad_order id_order in

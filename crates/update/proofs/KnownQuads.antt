@@ -2,25 +2,25 @@
 use Rattle.std.specs.Prelude.{Bool, true, false, IfSome, drop, take, map, filter, is_none, if◌then◌else◌}
 use Rattle.std.proofs.Common.{◌≡◌, ℕ, zero, suc, ◌-◌, ◌<◌, ◌≤◌, List, [], ◌∷◌, ◌++◌, length, get_or, Option, Some, None, refl, sym, ap, ◌∙◌, subst, arith}
 use Rattle.std.proofs.lemmas.Bool.{false≢true}
-use Rattle.std.proofs.lemmas.List.{drop_at, take_rest}
+use Rattle.std.proofs.lemmas.List.{drop_at, take_rest, append-nil}
 use Rattle.sets.specs.Sets.{has, set_of}
 use Rattle.sets.proofs.SetLaws.{sorted-set_of}
-use Rattle.sets.proofs.Every.{all_kept}
+use Rattle.sets.proofs.Every.{all_kept, all_map, all_joined}
 use Rattle.std.specs.List.Sorted.{IsStrictlySortedBy}
 use Rattle.datasets.specs.declared.id.Id.{Id}
 use Rattle.datasets.specs.declared.quad.Quad.{Quad}
 use Rattle.datasets.specs.declared.read.Read.TheVariants.{Scan, GraphIs, Graphs}
 use Rattle.datasets.specs.Dataset.{quad_order}
 use Rattle.datasets.specs.Id.{id_order, id_total}
-use Rattle.reads.specs.Reads.{View, Read, Answer, says}
+use Rattle.reads.specs.Reads.{View, Delta, Read, Answer, says}
 use Rattle.reads.specs.Runs.{Agrees}
 use Rattle.reads.specs.declared.note.Note.{Note}
 use Rattle.asking.specs.Goes.{AreAllowed, AreNoted}
 use Rattle.update.specs.Told.{first_told}
 use Rattle.update.specs.Whole.{WholeGraphs, is_known, told_in, KnowsWhole}
 use Rattle.reads.specs.Presence.{scan_for}
-use Rattle.update.specs.Asked.{has_quads, AskedQuads}
-use Rattle.update.specs.Known.{is_of_graphs, names_in, WhatIsKnown, told_of, Knows, scans_for_untold, TellOf}
+use Rattle.update.specs.Asked.{has_quads, has_name, AskedQuads, AskedNames, IsWithin}
+use Rattle.update.specs.Known.{is_of_graphs, names_in, WhatIsKnown, told_of, Knows, scans_for_untold, questions_for_untold, reads_for_untold, Tell}
 use Rattle.update.proofs.Told.{has_it}
 use Rattle.update.proofs.ToldScans.{first_is, or_is}
 
@@ -64,50 +64,96 @@ rising_set graphs told e = subst (λ xs. IsStrictlySortedBy id_order xs) (sym e)
 
 -- ---- the first of some quads
 
-module _ (k : WhatIsKnown) (q : Quad Id) (qs : List (Quad Id)) where
-  scans_with : (o : Option Bool) → o ≡ told_of k q → scans_for_untold k (q ∷ qs) ≡ map (λ x. scan_for x) (if is_none o then q ∷ filter (λ x. is_none (told_of k x)) qs else filter (λ x. is_none (told_of k x)) qs)
-  scans_with o e = ap (λ (z : Option Bool). map (λ x. scan_for x) (if is_none z then q ∷ filter (λ x. is_none (told_of k x)) qs else filter (λ x. is_none (told_of k x)) qs)) (sym e)
+module _ (k : WhatIsKnown) (q : Quad Id) (qs : List (Quad Id)) (later : List Read) where
+  scans_with : (o : Option Bool) → o ≡ told_of k q
+      → scans_for_untold k (q ∷ qs) ++ later ≡ map (λ x. scan_for x) (if is_none o then q ∷ filter (λ x. is_none (told_of k x)) qs else filter (λ x. is_none (told_of k x)) qs) ++ later
+  scans_with o e = ap (λ (z : Option Bool). map (λ x. scan_for x) (if is_none z then q ∷ filter (λ x. is_none (told_of k x)) qs else filter (λ x. is_none (told_of k x)) qs) ++ later) (sym e)
 
   -- it was told before
-  pub first_known : (notes : List Note) (d : View) (so : Bool) → Some so ≡ told_of k q → TellOf k (q ∷ qs) notes d
-      → (so ≡ has (quad_order id_order) d.quads q) × TellOf k qs notes d
+  pub first_known : (notes : List Note) (d : View) (so : Bool) → Some so ≡ told_of k q → Tell k (scans_for_untold k (q ∷ qs) ++ later) notes d
+      → (so ≡ has (quad_order id_order) d.quads q) × Tell k (scans_for_untold k qs ++ later) notes d
   first_known notes d so e t =
-      (known_so k q d so t.knows e, record { knows = t.knows; scans = t.scans ∙ scans_with (Some so) e; agrees = t.agrees })
+      (known_so k q d so t.knows e, record { knows = t.knows; are_noted = t.are_noted ∙ scans_with (Some so) e; agrees = t.agrees })
 
   -- the first of the notes tells of it
-  pub first_noted : (n : Note) (notes : List Note) (d : View) → None ≡ told_of k q → TellOf k (q ∷ qs) (n ∷ notes) d
-      → (has_quads n.answer ≡ has (quad_order id_order) d.quads q) × TellOf k qs notes d
+  pub first_noted : (n : Note) (notes : List Note) (d : View) → None ≡ told_of k q → Tell k (scans_for_untold k (q ∷ qs) ++ later) (n ∷ notes) d
+      → (has_quads n.answer ≡ has (quad_order id_order) d.quads q) × Tell k (scans_for_untold k qs ++ later) notes d
   first_noted n notes d e t =
-      let all : n.read ∷ map (λ m. m.read) notes ≡ scan_for q ∷ scans_for_untold k qs = t.scans ∙ scans_with None e in
+      let all : n.read ∷ map (λ m. m.read) notes ≡ scan_for q ∷ (scans_for_untold k qs ++ later) = t.are_noted ∙ scans_with None e in
       let first : n.read ≡ scan_for q = cc in
-      let others : map (λ m. m.read) notes ≡ scans_for_untold k qs = cc in
-      (ap has_quads (t.agrees.0 ∙ ap (λ r. says r d) first) ∙ has_it q d, record { knows = t.knows; scans = others; agrees = t.agrees.1 })
+      let others : map (λ m. m.read) notes ≡ scans_for_untold k qs ++ later = cc in
+      (ap has_quads (t.agrees.0 ∙ ap (λ r. says r d) first) ∙ has_it q d, record { knows = t.knows; are_noted = others; agrees = t.agrees.1 })
+
+-- ---- the first of some names
+
+module _ (k : WhatIsKnown) (g : Id) (gs : List Id) (later : List Read) where
+  -- the names of all graphs were told before
+  pub name_known : (notes : List Note) (d : View) (so : Bool) → so ≡ has id_order k.graphs g → k.has_graphs ≡ true
+      → Tell k (questions_for_untold k (g ∷ gs) ++ later) notes d
+      → (so ≡ has id_order d.names g) × Tell k (questions_for_untold k gs ++ later) notes d
+  name_known notes d so e all t =
+      let with : k.has_graphs ≡ true → (names : List Id) → questions_for_untold k names ++ later ≡ later = λ h names. ap (λ (b : Bool). (if b then [] else map (λ x. GraphIs x) names) ++ later) h in
+      (e ∙ t.knows.graphs all g, record { knows = t.knows; are_noted = t.are_noted ∙ with all (g ∷ gs) ∙ sym (with all gs); agrees = t.agrees })
+
+  -- the first of the notes tells of it
+  pub name_noted : (n : Note) (notes : List Note) (d : View) → k.has_graphs ≡ false → Tell k (questions_for_untold k (g ∷ gs) ++ later) (n ∷ notes) d
+      → (has_name n.answer ≡ has id_order d.names g) × Tell k (questions_for_untold k gs ++ later) notes d
+  unfolding says
+  name_noted n notes d unknown t =
+      let all : n.read ∷ map (λ m. m.read) notes ≡ GraphIs g ∷ (map (λ x. GraphIs x) gs ++ later) = t.are_noted ∙ ap (λ (b : Bool). (if b then [] else map (λ x. GraphIs x) (g ∷ gs)) ++ later) unknown in
+      let first : n.read ≡ GraphIs g = cc in
+      let others : map (λ m. m.read) notes ≡ map (λ x. GraphIs x) gs ++ later = cc in
+      (ap has_name (t.agrees.0 ∙ ap (λ r. says r d) first), record { knows = t.knows; are_noted = others ∙ sym (ap (λ (b : Bool). (if b then [] else map (λ x. GraphIs x) gs) ++ later) unknown); agrees = t.agrees.1 })
+
+-- no names, no questions
+pub no_names : (k : WhatIsKnown) (later : List Read) → questions_for_untold k [] ++ later ≡ later
+no_names k later = chosen k.has_graphs
+  where
+    chosen : (b : Bool) → (if b then [] else []) ++ later ≡ later
+    chosen true = refl
+    chosen false = refl
 
 -- the first of some notes, and those behind it
 pub first_of : (notes : List Note) (n : Note) → n ≡ get_or notes 0 n → 1 ≤ length notes → notes ≡ n ∷ take (length notes - 1) (drop 1 notes)
 first_of [] n is some = absurd (omega (arith, some))
 first_of (m ∷ ms) n is some = λ i. sym is i ∷ sym (take_rest (m ∷ ms) 1) i
 
--- ---- the notes of a lot of quads
+-- ---- the notes of a lot
 
 -- what asks for the quads of which it wasn't told is allowed where what asks for all of them is
 pub allowed_untold : (allowed : Read → Bool) (k : WhatIsKnown) (quads : List (Quad Id)) → AskedQuads allowed quads → AreAllowed allowed (scans_for_untold k quads)
-allowed_untold allowed k quads h = mapped (filter (λ q. is_none (told_of k q)) quads) (all_kept (λ q. allowed (scan_for q) ≡ true) (λ q. is_none (told_of k q)) quads h)
+allowed_untold allowed k quads h =
+    all_map (λ r. allowed r ≡ true) (λ q. scan_for q) _ (all_kept (λ q. allowed (scan_for q) ≡ true) (λ q. is_none (told_of k q)) quads h)
+
+-- and so with names
+allowed_names : (allowed : Read → Bool) (k : WhatIsKnown) (names : List Id) → AskedNames allowed names → AreAllowed allowed (questions_for_untold k names)
+allowed_names allowed k names h = chosen k.has_graphs
   where
-    mapped : (qs : List (Quad Id)) → AskedQuads allowed qs → AreAllowed allowed (map (λ q. scan_for q) qs)
-    mapped [] hs = tt
-    mapped (q ∷ qs) hs = (hs.0, mapped qs hs.1)
+    chosen : (b : Bool) → AreAllowed allowed (if b then [] else map (λ g. GraphIs g) names)
+    chosen true = tt
+    chosen false = all_map (λ r. allowed r ≡ true) (λ g. GraphIs g) names h
+
+-- and with all that a change speaks of
+pub allowed_all : (allowed : Read → Bool) (k : WhatIsKnown) (c : Delta) → IsWithin allowed c → AreAllowed allowed (reads_for_untold k c)
+allowed_all allowed k c h =
+    let names = all_joined (λ r. allowed r ≡ true) _ _ (allowed_names allowed k c.there h.there) (allowed_names allowed k c.gone h.gone) in
+    all_joined (λ r. allowed r ≡ true) _ _ (allowed_untold allowed k c.present h.present) (all_joined (λ r. allowed r ≡ true) _ _ (allowed_untold allowed k c.absent h.absent) names)
 
 agrees_after : (ns ms : List Note) (d : View) → Agrees (ns ++ ms) d → Agrees ms d
 agrees_after [] ms d a = a
 agrees_after (n ∷ ns) ms d a = agrees_after ns ms d a.1
 
-pub lot_told : (k : WhatIsKnown) (quads : List (Quad Id)) (notes notes' tail : List Note) (n : ℕ) (d : View)
-    → AreNoted (scans_for_untold k quads) notes notes' → length notes ≡ n → tail ≡ drop n notes' → Knows k d → Agrees notes' d → TellOf k quads tail d
-lot_told k quads notes notes' tail n d noted e is knows a =
+-- the last notes are those of what was asked for at once
+pub lot_told : (k : WhatIsKnown) (reads : List Read) (notes notes' tail : List Note) (n : ℕ) (d : View)
+    → AreNoted reads notes notes' → length notes ≡ n → tail ≡ drop n notes' → Knows k d → Agrees notes' d → Tell k reads tail d
+lot_told k reads notes notes' tail n d noted e is knows a =
     let last : tail ≡ noted.0 = is ∙ ap (drop n) noted.1 ∙ drop_at notes noted.0 n e in
     record {
       knows = knows;
-      scans = ap (map (λ m. m.read)) last ∙ noted.2;
+      are_noted = ap (map (λ m. m.read)) last ∙ noted.2;
       agrees = subst (λ ms. Agrees ms d) (sym last) (agrees_after notes noted.0 d (subst (λ ms. Agrees ms d) noted.1 a));
     }
+
+-- with no reads behind
+pub tell_no_more : (k : WhatIsKnown) (reads : List Read) (notes : List Note) (d : View) → Tell k reads notes d → Tell k (reads ++ []) notes d
+tell_no_more k reads notes d t = subst (λ rs. Tell k rs notes d) (sym (append-nil reads)) t

@@ -4,13 +4,21 @@ use Rattle.std.specs.List.{flat_map}
 use Rattle.std.proofs.Common.{◌≡◌, ℕ, suc, ◌<◌, Bool, true, false, List, [], ◌∷◌, ◌++◌, length, drop, get_or, sym, ap, ◌∙◌, append_assoc, drop-cons, add-one, ◌+◌, refl}
 use Rattle.std.proofs.lemmas.List.Elements.{filter-append}
 
+-- a loop's step: the next, and those behind it
+pub next_of : {A : Type 0} (xs : List A) (i : ℕ) (d : A) → i < length xs → drop i xs ≡ get_or xs i d ∷ drop (i + 1) xs
+next_of xs i d h = rw add-one (drop-cons xs i d h)
+
+-- what stands behind nothing
+pub behind_none : {A : Type 0} (now start new : List A) → now ≡ start ++ new → start ≡ [] → now ≡ new
+behind_none now start new e none = e ∙ ap (λ xs. xs ++ new) none
+
 -- a loop's step, where what passes a test is put at the end
 pub filtered_more : {A : Type 0} (p : A → Bool) (xs : List A) (i : ℕ) (d : A) (b : Bool) (now next all : List A) → i < length xs → b ≡ p (get_or xs i d)
     → next ≡ now ++ (if b then get_or xs i d ∷ [] else []) → now ++ filter p (drop i xs) ≡ all → next ++ filter p (drop (i + 1) xs) ≡ all
 filtered_more {A} p xs i d b now next all h e pushed before =
     let x = get_or xs i d in
     let rest : List A = filter p (drop (i + 1) xs) in
-    let split : drop i xs ≡ x ∷ drop (i + 1) xs = rw add-one (drop-cons xs i d h) in
+    let split : drop i xs ≡ x ∷ drop (i + 1) xs = next_of xs i d h in
     ap (λ z. z ++ rest) pushed
     ∙ append_assoc now (if b then x ∷ [] else []) rest
     ∙ ap (λ z. now ++ z) (one b rest x ∙ ap (λ c. if c then x ∷ rest else rest) e)
@@ -27,7 +35,7 @@ pub mapped_more : {A B : Type 0} (f : A → B) (p : A → Bool) (xs : List A) (i
 mapped_more {A} f p xs i d b now next all h e pushed before =
     let x = get_or xs i d in
     let rest : List A = filter p (drop (i + 1) xs) in
-    let split : drop i xs ≡ x ∷ drop (i + 1) xs = rw add-one (drop-cons xs i d h) in
+    let split : drop i xs ≡ x ∷ drop (i + 1) xs = next_of xs i d h in
     ap (λ z. z ++ map f rest) pushed
     ∙ append_assoc now (if b then f x ∷ [] else []) (map f rest)
     ∙ ap (λ z. now ++ z) (one f b rest x ∙ ap (λ c. map f (if c then x ∷ rest else rest)) e)

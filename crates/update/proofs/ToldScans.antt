@@ -4,9 +4,7 @@ use Rattle.std.specs.Option.{option_or}
 use Rattle.std.proofs.Common.{◌≡◌, Bool, true, false, ◌&&◌, List, [], ◌∷◌, ◌++◌, Option, Some, None, refl, sym, ap, subst, ◌∙◌}
 use Rattle.std.proofs.Math.Bool.{and-true}
 use Rattle.sets.specs.Sets.{has}
-use Rattle.std.specs.List.Sorted.{IsStrictlySortedBy}
-use Rattle.std.specs.Prelude.{IsTrue, ◌↔◌}
-use Rattle.sets.proofs.SetLaws.{has-filter, sorted-empty}
+use Rattle.sets.proofs.SetLaws.{has-filter}
 use Rattle.sets.proofs.Every.{all_joined}
 use Rattle.datasets.specs.declared.id.Id.{Id}
 use Rattle.datasets.specs.declared.quad.Quad.{Quad}

@@ -1,5 +1,5 @@
 -- What notes tell of quads, and of the names of all graphs.
-use Rattle.std.specs.Prelude.{◌≡◌, Bool, true, false, List, [], map, filter, Option, is_none}
+use Rattle.std.specs.Prelude.{◌≡◌, ◌++◌, Bool, true, false, List, [], map, filter, Option, is_none, if◌then◌else◌}
 use Rattle.std.specs.Option.{option_or}
 use Rattle.sets.specs.Sets.{has}
 use Rattle.datasets.specs.declared.id.Id.{Id}
@@ -7,7 +7,7 @@ use Rattle.datasets.specs.declared.quad.Quad.{Quad}
 use Rattle.datasets.specs.declared.read.Read.TheVariants.{Scan, GraphIs, Graphs}
 use Rattle.datasets.specs.Dataset.{Quads, Is, Names}
 use Rattle.datasets.specs.Id.{id_order}
-use Rattle.reads.specs.Reads.{View, Read, Answer}
+use Rattle.reads.specs.Reads.{View, Delta, Read, Answer}
 use Rattle.reads.specs.Runs.{Agrees}
 use Rattle.reads.specs.declared.note.Note.{Note}
 use Rattle.reads.specs.Presence.{scan_for}
@@ -47,8 +47,17 @@ pub record Knows (k : WhatIsKnown) (d : View) : Type 0 where
 abbrev pub scans_for_untold : WhatIsKnown → List (Quad Id) → List Read
 scans_for_untold k quads = map (λ q. scan_for q) (filter (λ q. is_none (told_of k q)) quads)
 
--- what is known and these notes tell of each of the quads: the notes are those of the scans for what wasn't told, and each tells what there is
-pub record TellOf (k : WhatIsKnown) (quads : List (Quad Id)) (notes : List Note) (d : View) : Type 0 where
+-- the questions for names, in their order, none where the names of all graphs were told
+abbrev pub questions_for_untold : WhatIsKnown → List Id → List Read
+questions_for_untold k names = if k.has_graphs then [] else map (λ g. GraphIs g) names
+
+-- the reads for all that a change speaks of, where it wasn't told whether that is there: of quads, and then of names
+abbrev pub reads_for_untold : WhatIsKnown → Delta → List Read
+reads_for_untold k c =
+    scans_for_untold k c.present ++ (scans_for_untold k c.absent ++ (questions_for_untold k c.there ++ questions_for_untold k c.gone))
+
+-- what is known is so of a dataset, and the notes are of these reads and agree with it
+pub record Tell (k : WhatIsKnown) (reads : List Read) (notes : List Note) (d : View) : Type 0 where
   pub knows : Knows k d
-  pub scans : map (λ n. n.read) notes ≡ scans_for_untold k quads
+  pub are_noted : map (λ n. n.read) notes ≡ reads
   pub agrees : Agrees notes d

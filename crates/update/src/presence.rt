@@ -9,9 +9,9 @@ ghost use Rattle.datasets.specs.declared.read.Read.TheVariants as read;
 ghost use Rattle.reads.specs.Reads.{View, Read as Reading};
 ghost use Rattle.reads.specs.Runs.{Agrees};
 ghost use Rattle.reads.specs.Same.{bool_eq};
-ghost use Rattle.asking.specs.Goes.{AreNoted, Goes, stop_of};
+ghost use Rattle.asking.specs.Goes.{AreAllowed, AreNoted, Goes, stop_of};
 ghost use Rattle.update.specs.Asked.{has_quads as the_has_quads, has_name as the_has_name, AskedQuads, AskedNames};
-ghost use Rattle.update.specs.Known.{scans_for_untold as the_scans_for_untold, Knows, TellOf};
+ghost use Rattle.update.specs.Known.{scans_for_untold as the_scans_for_untold, Knows, Tell};
 
 use crate::known::Known;
 use asking::{ask, ask_all};
@@ -22,8 +22,8 @@ use reads::same::same_bool;
 use reads::{Answered, Note, Source, Stop};
 use std::alloc::{AllocError, Global};
 
-// How many quads are asked for at once. The reads of so many take little memory beside the notes of all.
-const AT_ONCE: usize = 256;
+/// How many quads and names are asked for at once. The reads of so many take little memory beside the notes of all.
+pub const AT_ONCE: usize = 256;
 
 // Whether an answer tells of some quad.
 fn has_quads(answer: &Answered) -> bool
@@ -35,8 +35,8 @@ fn has_quads(answer: &Answered) -> bool
     }
 }
 
-// Whether an answer tells that a name is there.
-fn has_name(answer: &Answered) -> bool
+/// Whether an answer tells that a name is there.
+pub fn has_name(answer: &Answered) -> bool
     ensures { result ≡ the_has_name answer.now }
 {
     match answer.is() {
@@ -45,26 +45,9 @@ fn has_name(answer: &Answered) -> bool
     }
 }
 
-/// Whether a graph name is there, in each dataset that agrees with the notes.
-pub fn is_named<S: Source>(
-    alloc: Global,
-    name: Id,
-    source: &mut S,
-    notes: &mut Vec<Note>,
-) -> Result<bool, Stop>
-    ensures goes { (allowed : Reading → Bool) → allowed (read.GraphIs name) ≡ true
-        → Goes S.asks allowed source.old source.new notes.old.items notes.new.items
-        (stop_of result) }
-    ensures told { IfOk result (λ so. (d : View) → Agrees notes.new.items d
-        → so ≡ has id_order d.names name) }
-{
-    let answer = ask(alloc, Read::GraphIs(name), source, notes)?;
-    Ok(has_name(&answer))
-}
-
 // Whether a graph name is there, in each dataset that agrees with the notes and with what is known. It is asked for only where it isn't
 // known.
-fn is_known_or_named<S: Source>(
+fn is_named<S: Source>(
     alloc: Global,
     known: &Known,
     name: Id,
@@ -80,11 +63,12 @@ fn is_known_or_named<S: Source>(
     if known.has_graphs() {
         return Ok(known.is_graph(&name));
     }
-    is_named(alloc, name, source, notes)
+    let answer = ask(alloc, Read::GraphIs(name), source, notes)?;
+    Ok(has_name(&answer))
 }
 
-// One more at the end, if it is so.
-fn push_if<T: Copy>(found: &mut Vec<T>, so: bool, item: T) -> Result<(), AllocError>
+/// One more at the end, if it is so.
+pub fn push_if<T: Copy>(found: &mut Vec<T>, so: bool, item: T) -> Result<(), AllocError>
     ensures { OnOk result (found.new.items ≡ found.old.items ++ (if so then item ∷ [] else [])) }
 {
     if so {
@@ -93,19 +77,36 @@ fn push_if<T: Copy>(found: &mut Vec<T>, so: bool, item: T) -> Result<(), AllocEr
     Ok(())
 }
 
-// The scans for those of the quads of which it isn't known whether they are there.
-fn scans_for_untold(
-    alloc: Global,
+/// Puts the scans for those of the quads of which it isn't known whether they are there at the end of the reads.
+pub fn push_scans(
     known: &Known,
     quads: &[Quad<Id>],
-) -> Result<Vec<Read<Id>>, AllocError>
-    ensures { IfOk result (λ reads. reads.items ≡ the_scans_for_untold known.now quads.now) }
+    reads: &mut Vec<Read<Id>>,
+) -> Result<(), AllocError>
+    ensures { OnOk result (reads.new.items
+        ≡ reads.old.items ++ the_scans_for_untold known.now quads.now) }
 {
-    let mut reads = Vec::with_capacity(alloc, quads.len())?;
     for quad in quads {
-        push_if(&mut reads, known.tells(quad).is_none(), scan_for(*quad))?;
+        push_if(reads, known.tells(quad).is_none(), scan_for(*quad))?;
     }
-    Ok(reads)
+    Ok(())
+}
+
+/// Asks at once for the reads, if there are any: for none the source isn't called.
+pub fn ask_any<S: Source>(
+    reads: &[Read<Id>],
+    source: &mut S,
+    notes: &mut Vec<Note>,
+) -> Result<(), Stop>
+    ensures goes { (allowed : Reading → Bool) → AreAllowed allowed reads.now
+        → Goes S.asks allowed source.old source.new notes.old.items notes.new.items
+        (stop_of result) }
+    ensures noted { OnOk result (AreNoted reads.now notes.old.items notes.new.items) }
+{
+    if reads.is_empty() {
+        return Ok(());
+    }
+    ask_all(reads, source, notes)
 }
 
 // Asks at once for those of the quads of which it isn't known whether they are there.
@@ -122,16 +123,17 @@ fn ask_for_untold<S: Source>(
     ensures noted { OnOk result (AreNoted (the_scans_for_untold known.now quads.now) notes.old.items
         notes.new.items) }
 {
-    let reads = scans_for_untold(alloc, known, quads)?;
-    ask_all(&reads, source, notes)
+    let mut reads = Vec::with_capacity(alloc, quads.len())?;
+    push_scans(known, quads, &mut reads)?;
+    ask_any(&reads, source, notes)
 }
 
 // Whether the first of some quads is there, and the notes that tell of the others.
 fn told_first<'n>(known: &Known, quad: &Quad<Id>, notes: &'n [Note]) -> (bool, &'n [Note])
-    ensures { (d : View) (quads : List (TheQuad Number))
-        → TellOf known.now (quad.now ∷ quads) notes.now d
+    ensures { (d : View) (quads : List (TheQuad Number)) (later : List Reading)
+        → Tell known.now (the_scans_for_untold known.now (quad.now ∷ quads) ++ later) notes.now d
         → (result.0 ≡ has (quad_order id_order) d.quads quad.now)
-        × TellOf known.now quads result.1.now d }
+        × Tell known.now (the_scans_for_untold known.now quads ++ later) result.1.now d }
 {
     match known.tells(quad) {
         Some(so) => (so, notes),
@@ -142,17 +144,20 @@ fn told_first<'n>(known: &Known, quad: &Quad<Id>, notes: &'n [Note]) -> (bool, &
     }
 }
 
-// Puts those of the quads that are there, or those that are not, at the end of what was found.
-fn push_those(
+/// Puts those of the quads that are there, or those that are not, at the end of what was found, by notes of which the first tell of the
+/// quads. Gives the notes that are left.
+pub fn push_those<'n>(
     known: &Known,
     are_there: bool,
     quads: &[Quad<Id>],
-    notes: &[Note],
+    notes: &'n [Note],
     found: &mut Vec<Quad<Id>>,
-) -> Result<(), AllocError>
-    ensures { OnOk result ((d : View) → TellOf known.now quads.now notes.now d
-        → found.new.items ≡ found.old.items
-        ++ filter (λ q. bool_eq are_there (has (quad_order id_order) d.quads q)) quads.now) }
+) -> Result<&'n [Note], AllocError>
+    ensures { IfOk result (λ left. (d : View) (later : List Reading)
+        → Tell known.now (the_scans_for_untold known.now quads.now ++ later) notes.now d
+        → (found.new.items ≡ found.old.items
+        ++ filter (λ q. bool_eq are_there (has (quad_order id_order) d.quads q)) quads.now)
+        × Tell known.now later left.now d) }
 {
     let mut left = notes;
     for quad in quads {
@@ -160,7 +165,7 @@ fn push_those(
         push_if(found, same_bool(are_there, is_there), *quad)?;
         left = others;
     }
-    Ok(())
+    Ok(left)
 }
 
 /// Of the quads those that are there, or those that are not, in each dataset that agrees with the notes. Each that isn't known from
@@ -189,7 +194,7 @@ pub fn quads_that<S: Source>(
         let lot = part.as_slice();
         let before = notes.len();
         ask_for_untold(alloc, known, lot, source, notes)?;
-        push_those(known, are_there, lot, &notes[before..], &mut found)?;
+        let _none = push_those(known, are_there, lot, &notes[before..], &mut found)?;
         place = past;
     }
     Ok(found)
@@ -214,7 +219,7 @@ pub fn names_that<S: Source>(
 {
     let mut found = Vec::new(alloc);
     for name in names {
-        let is_there = is_known_or_named(alloc, known, *name, source, notes)?;
+        let is_there = is_named(alloc, known, *name, source, notes)?;
         push_if(&mut found, same_bool(are_there, is_there), *name)?;
     }
     Ok(found)

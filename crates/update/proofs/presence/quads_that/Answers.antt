@@ -1,5 +1,5 @@
 use Rattle.std.specs.Prelude.{slice_range}
-use Rattle.std.proofs.Common.{◌≡◌, ◌≤◌, ℕ, ◌++◌, Bool, true, List, drop, refl, ap, sym, subst, ◌∙◌, arith}
+use Rattle.std.proofs.Common.{◌≡◌, ◌≤◌, ℕ, ◌++◌, Bool, true, List, [], drop, refl, ap, sym, subst, ◌∙◌, arith}
 use Rattle.std.proofs.lemmas.List.Folds.{drop_split}
 use Rattle.std.proofs.lemmas.List.{take_rest}
 use Rattle.sets.specs.Sets.{has}
@@ -12,7 +12,7 @@ use Rattle.reads.specs.Reads.{Read}
 use Rattle.reads.specs.Same.{bool_eq}
 use Rattle.reads.specs.Presence.{scan_for}
 use Rattle.update.specs.Asked.{AskedQuads}
-use Rattle.update.proofs.KnownQuads.{lot_told}
+use Rattle.update.proofs.KnownQuads.{lot_told, tell_no_more}
 use Rattle.update.proofs.Members.{filtered_lot}
 use Rattle.asking.proofs.Notes.{goes_on, goes_short, goes_as, agreed}
 use Rattle.update.proofs.presence.quads_that.Goals as goal
@@ -35,9 +35,9 @@ pub returns-in_err-ask_for_untold-clause-goes : goal.returns-in_err-ask_for_unto
 returns-in_err-ask_for_untold-clause-goes g c allowed h =
     goes_as _ c.from_residual-in_err-ask_for_untold.ensures.1 (goes_on (c.loop-place.invariant.goes allowed h) (c.in_err-ask_for_untold.ensures.goes allowed (lot_asked allowed _ _ _ (split c.args.quads.now c.as_slice-lot.result.now c.loop-place.place c.min-past.result (omega (arith, c.loop-place-test.true)) (c.as_slice-lot.ensures.value ∙ c.in_ok-part.ensures)) (c.loop-place.invariant.asked allowed h))))
 
-pub returns-in_err-push_those-clause-goes : goal.returns-in_err-push_those-clause-goes
-returns-in_err-push_those-clause-goes g c allowed h =
-    goes_short _ c.from_residual-in_err-push_those.ensures.1 (goes_on (c.loop-place.invariant.goes allowed h) (c.in_ok-ask_for_untold.ensures.goes allowed (lot_asked allowed _ _ _ (split c.args.quads.now c.as_slice-lot.result.now c.loop-place.place c.min-past.result (omega (arith, c.loop-place-test.true)) (c.as_slice-lot.ensures.value ∙ c.in_ok-part.ensures)) (c.loop-place.invariant.asked allowed h))))
+pub returns-in_err-_none-clause-goes : goal.returns-in_err-_none-clause-goes
+returns-in_err-_none-clause-goes g c allowed h =
+    goes_short _ c.from_residual-in_err-_none.ensures.1 (goes_on (c.loop-place.invariant.goes allowed h) (c.in_ok-ask_for_untold.ensures.goes allowed (lot_asked allowed _ _ _ (split c.args.quads.now c.as_slice-lot.result.now c.loop-place.place c.min-past.result (omega (arith, c.loop-place-test.true)) (c.as_slice-lot.ensures.value ∙ c.in_ok-part.ensures)) (c.loop-place.invariant.asked allowed h))))
 
 pub loop-place-preserved : goal.loop-place-preserved
 loop-place-preserved g c = record {
@@ -48,6 +48,6 @@ loop-place-preserved g c = record {
   told = λ d a.
       let before = agreed (c.in_ok-ask_for_untold.ensures.goes (λ r. true) (all_by (λ q. true ≡ true) (λ q. refl) c.as_slice-lot.result.now)) d a in
       let start = agreed (c.loop-place.invariant.goes (λ r. true) (all_by (λ q. true ≡ true) (λ q. refl) c.args.quads.now)) d before in
-      let tells = lot_told c.args.known.now c.as_slice-lot.result.now c.loop-place.notes.items c.ask_for_untold.new.notes.items _ c.len-before.result d c.in_ok-ask_for_untold.ensures.noted (omega (arith, c.loop-place.notes.ok.0)) (take_rest c.deref.result.now c.len-before.result ∙ ap (drop c.len-before.result) c.deref.ensures.value) (c.requires d start) a in
-      filtered_lot (λ q. bool_eq c.args.are_there (has (quad_order id_order) d.quads q)) _ _ _ _ _ _ (split c.args.quads.now c.as_slice-lot.result.now c.loop-place.place c.min-past.result (omega (arith, c.loop-place-test.true)) (c.as_slice-lot.ensures.value ∙ c.in_ok-part.ensures)) (c.in_ok-push_those.ensures d tells) (c.loop-place.invariant.told d before);
+      let tells = lot_told c.args.known.now _ c.loop-place.notes.items c.ask_for_untold.new.notes.items _ c.len-before.result d c.in_ok-ask_for_untold.ensures.noted (omega (arith, c.loop-place.notes.ok.0)) (take_rest c.deref.result.now c.len-before.result ∙ ap (drop c.len-before.result) c.deref.ensures.value) (c.requires d start) a in
+      filtered_lot (λ q. bool_eq c.args.are_there (has (quad_order id_order) d.quads q)) _ _ _ _ _ _ (split c.args.quads.now c.as_slice-lot.result.now c.loop-place.place c.min-past.result (omega (arith, c.loop-place-test.true)) (c.as_slice-lot.ensures.value ∙ c.in_ok-part.ensures)) (c.in_ok-_none.ensures d [] (tell_no_more _ _ _ _ tells)).0 (c.loop-place.invariant.told d before);
 }

@@ -3,7 +3,7 @@ use Rattle.std.proofs.Common.{◌≡◌, Bool, true, false, Option, Some, None, 
 use Rattle.reads.specs.Presence.{scan_for}
 use Rattle.update.specs.Known.{told_of}
 use Rattle.update.proofs.Members.{mapped_more}
-use Rattle.update.proofs.presence.scans_for_untold.Goals as goal
+use Rattle.update.proofs.presence.push_scans.Goals as goal
 
 none_is : (o : Option Bool) (b : Bool) → is_some o ≡ not b → b ≡ is_none o
 none_is None true e = refl
