@@ -1,5 +1,1 @@
-pub mod Composed
-pub mod Blocks
-pub mod Bytes
-pub mod Answered
-pub mod Committed
+pub mod Whole

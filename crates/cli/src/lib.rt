@@ -1,23 +1,14 @@
-//! The engines of the program: from the bytes of a base and a block to the canonical text of the new dataset and the reply lines, and to the
-//! journal of the run; from a journal to the same again; and from the bytes of a block to the lines of its verdicts.
+//! The engines of the command `run`: from the bytes of a base and a block to the canonical text of the new dataset and the reply lines, by
+//! workers on threads of their own, and to the journal of the run. What the program calls of other crates can be had here too.
 //!
-//! Stands on `devices`, `nquads`, `canonical_nquads`, `rules`, `store`, `pool`, `serial`, `journal`, `replay` and `command_line`. Used above:
-//! all engines make all texts before they touch a writer, and refuse bad input with its name.
+//! Stands on `engines`, whose way to run a block it makes by `pool`, and on `journal` and `replay`. Used above: both engines make all texts
+//! before they touch a writer, refuse bad input with its name, and answer the same for every number of workers.
 #![tactic(auto)]
 
-mod check;
 mod engine;
-mod files;
-mod in_order;
-mod inputs;
-mod outputs;
 mod recorded;
-mod replayed;
 
-pub use check::check_engine;
 pub use command_line::{Fault, File, Job, LineFault, Message, read_job};
 pub use engine::run_engine;
-pub use files::{InFile, OutFile};
-pub use in_order::serial_engine;
+pub use engines::{InFile, OutFile, check_engine, replay_engine, serial_engine};
 pub use recorded::run_with_journal_engine;
-pub use replayed::replay_engine;

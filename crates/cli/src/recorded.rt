@@ -1,17 +1,19 @@
 //! The engine of the command `run` with a journal.
 ghost use Rattle.std.specs.Prelude.{◌≡◌, ◌≢◌, ◌<◌, ◌≤◌, ◌-◌, ◌^◌, ℕ, true, length, IfOk, IfErr, IfSome, OnOk, IsErrOf, string_bytes};
 ghost use Rattle.canonical_nquads.specs.Canonical.{text_of_pieces};
-ghost use Rattle.cli.specs.Failures.{is_unread, is_unwritten, is_journal_unwritten, FailedIf, OneFailedIf};
+ghost use Rattle.engines.specs.Failures.{is_unread, is_unwritten, is_journal_unwritten, FailedIf, OneFailedIf};
 ghost use Rattle.update.specs.Asked.{AreShort};
-ghost use Rattle.cli.specs.Journals.{IsFaultWithJournal, IsJournalAt, IsJournalOf, WroteJournal, WroteJournalInPart};
-ghost use Rattle.cli.specs.Outputs.{IfBoth, IsAnswerTo, IsWhole, Wrote, WroteInPart, taken};
+ghost use Rattle.engines.specs.Journals.{IsJournalAt, IsJournalOf};
+ghost use Rattle.cli.specs.Journals.{IsFaultWithJournal, WroteJournal, WroteJournalInPart};
+ghost use Rattle.engines.specs.Outputs.{IfBoth, IsAnswerTo, IsWhole, Wrote, WroteInPart, taken};
 
-use crate::engine::{Runs, Workers, texts_of_outcome};
-use crate::inputs::{read_base_by, read_block_by};
-use crate::outputs::{Texts, write_journal, write_texts};
+use crate::engine::Workers;
 use command_line::{Fault, File};
 use delta::Outcome;
 use devices::Watched;
+use engines::{
+    Runs, Texts, read_base_by, read_block_by, texts_of_outcome, write_journal, write_texts,
+};
 use journal::write_lines;
 use numbering::Numbered;
 use numbering::laws::carries_block;

@@ -1,7 +1,8 @@
 use Rattle.std.proofs.Common.{◌≡◌, ◌∙◌, ◌≤◌, length, ap, arith}
 use Rattle.book.specs.Run.{state_of}
 use Rattle.journal.specs.Text.{journal_text}
-use Rattle.cli.proofs.Committed.{whole_outcome, journal_at}
+use Rattle.engines.proofs.Committed.{journal_at}
+use Rattle.cli.proofs.Whole.{whole_outcome}
 use Rattle.cli.proofs.recorded.recorded.Goals as goal
 
 pub returns-clause-outcome : goal.returns-clause-outcome

@@ -1,7 +1,7 @@
 use Rattle.std.proofs.Common.{◌∙◌, ℕ, ap, arith}
 use Rattle.canonical_nquads.specs.Canonical.{canonical}
 use Rattle.command_line.specs.Replies.{reply_lines}
-use Rattle.cli.proofs.Composed.{short, same_length, known, named_dataset, named_is, replies_are, all_of}
+use Rattle.engines.proofs.Composed.{short, same_length, known, named_dataset, named_is, replies_are, all_of}
 use Rattle.cli.proofs.recorded.texts_with_journal.Goals as goal
 
 pub recorded-requires-clause-few : goal.recorded-requires-clause-few

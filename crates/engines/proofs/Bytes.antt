@@ -1,0 +1,75 @@
+-- A text that was written whole or in pieces, and then flushed.
+use Rattle.std.proofs.Common.{◌≡◌, ℕ, ◌+◌, ◌<◌, List, [], ◌∷◌, ◌++◌, length, get_or, take, drop, Option, Some, None, Result, Ok, Err, OnErr, refl, sym, ap, subst, ◌∙◌}
+use Rattle.std.proofs.lemmas.List.{append-nil, append_assoc, take-append-drop, take_more, drop_more}
+use Rattle.std.proofs.lemmas.Grind.{flat_map-append}
+use Rattle.std.proofs.Math.Seq.{take-append_seam}
+use Rattle.std.specs.Global.{Vec}
+use Rattle.std.specs.Io.KnownBytes.{Appends, Keeps}
+use Rattle.canonical_nquads.specs.Canonical.{text_of_pieces}
+use Rattle.engines.specs.Outputs.{GrewInPart}
+
+pub kept_after : (old mid new : Option (List ℕ)) (text : List ℕ) → Appends old mid text → Keeps mid new → Appends old new text
+kept_after None mid new text a k = tt
+kept_after (Some xs) None new text a k = absurd a
+kept_after (Some xs) (Some ys) None text a k = absurd k
+kept_after (Some xs) (Some ys) (Some zs) text a k = k ∙ a
+
+take_whole : (xs : List ℕ) → take (length xs) xs ≡ xs
+take_whole [] = refl
+take_whole (x ∷ xs) = ap (λ ys. x ∷ ys) (take_whole xs)
+
+appends_same : (old new : Option (List ℕ)) (xs ys : List ℕ) → xs ≡ ys → Appends old new ys → Appends old new xs
+appends_same None new xs ys e a = tt
+appends_same (Some zs) None xs ys e a = a
+appends_same (Some zs) (Some ws) xs ys e a = a ∙ ap (λ t. zs ++ t) (sym e)
+
+-- the whole text is a beginning of it
+pub whole_is_part : (old mid new : Option (List ℕ)) (text : List ℕ) → Appends old mid text → Keeps mid new → GrewInPart (record { before = old; after = new }) text
+whole_is_part old mid new text a k = (length text, appends_same old new (take (length text) text) text (take_whole text) (kept_after old mid new text a k))
+
+pub on_err : {T E : Type 0} {P : Type 0} (r : Result T E) → P → OnErr r P
+on_err (Ok x) p = tt
+on_err (Err e) p = p
+
+-- ---- pieces
+
+pub nothing_yet : (old : Option (List ℕ)) → Appends old old []
+nothing_yet None = tt
+nothing_yet (Some xs) = sym (append-nil xs)
+
+appended : (a b c : Option (List ℕ)) (x y : List ℕ) → Appends a b x → Appends b c y → Appends a c (x ++ y)
+appended None b c x y p q = tt
+appended (Some us) None c x y p q = absurd p
+appended (Some us) (Some bs) None x y p q = q
+appended (Some us) (Some bs) (Some cs) x y p q = q ∙ ap (λ (t : List ℕ). t ++ y) p ∙ append_assoc us x y
+
+module _ (pieces : List (Vec ℕ)) (i : ℕ) (piece : Vec ℕ) (lt : i < length pieces) (is : piece ≡ get_or pieces i piece) where
+  -- the pieces before it, it, and those behind it
+  split : text_of_pieces pieces ≡ text_of_pieces (take i pieces) ++ (piece.items ++ text_of_pieces (drop (i + 1) pieces))
+  split =
+      ap text_of_pieces (sym (take-append-drop i pieces) ∙ ap (λ (ps : List (Vec ℕ)). take i pieces ++ ps) (drop_more pieces i piece lt ∙ ap (λ (p : Vec ℕ). p ∷ drop (i + 1) pieces) (sym is)))
+      ∙ flat_map-append (λ (p : Vec ℕ). p.items) (take i pieces) (piece ∷ drop (i + 1) pieces)
+
+  more : text_of_pieces (take (i + 1) pieces) ≡ text_of_pieces (take i pieces) ++ piece.items
+  more =
+      ap text_of_pieces (take_more pieces i piece lt ∙ ap (λ (p : Vec ℕ). take i pieces ++ p ∷ []) (sym is))
+      ∙ flat_map-append (λ (p : Vec ℕ). p.items) (take i pieces) (piece ∷ []) ∙ ap (λ (t : List ℕ). text_of_pieces (take i pieces) ++ t) (append-nil piece.items)
+
+  pub one_more : (a b c : Option (List ℕ)) → Appends a b (text_of_pieces (take i pieces)) → Appends b c piece.items → Appends a c (text_of_pieces (take (i + 1) pieces))
+  one_more a b c p q = subst (Appends a c) (sym more) (appended a b c (text_of_pieces (take i pieces)) piece.items p q)
+
+  -- where a beginning of it was written, a beginning of the whole was
+  pub part_of_one : (a b c : Option (List ℕ)) (n : ℕ) → Appends a b (text_of_pieces (take i pieces)) → Appends b c (take n piece.items)
+      → GrewInPart (record { before = a; after = c }) (text_of_pieces pieces)
+  part_of_one a b c n p q =
+      let front = text_of_pieces (take i pieces) in
+      let behind = text_of_pieces (drop (i + 1) pieces) in
+      let written = front ++ take n piece.items in
+      let whole : text_of_pieces pieces ≡ written ++ (drop n piece.items ++ behind) =
+      split ∙ ap (λ (t : List ℕ). front ++ (t ++ behind)) (sym (take-append-drop n piece.items))
+      ∙ ap (λ (t : List ℕ). front ++ t) (append_assoc (take n piece.items) (drop n piece.items) behind)
+      ∙ sym (append_assoc front (take n piece.items) (drop n piece.items ++ behind)) in
+      (length written, subst (Appends a c) (sym (take-append_seam written (drop n piece.items ++ behind)) ∙ ap (take (length written)) (sym whole)) (appended a b c front (take n piece.items) p q))
+
+pub all_of_them : (pieces : List (Vec ℕ)) (i : ℕ) (a b : Option (List ℕ)) → take i pieces ≡ pieces → Appends a b (text_of_pieces (take i pieces)) → Appends a b (text_of_pieces pieces)
+all_of_them pieces i a b e p = subst (λ (ps : List (Vec ℕ)). Appends a b (text_of_pieces ps)) e p
