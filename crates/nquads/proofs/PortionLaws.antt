@@ -1,7 +1,7 @@
 -- Reading a text in portions of whole lines.
 use Rattle.std.specs.Prelude.{◌&&◌, IfOk, IfSome}
 use Rattle.std.proofs.Common.{◌≡◌, ◌+◌, ◌-◌, ◌<◌, ◌≤◌, ◌⊎◌, inl, inr, ℕ, Vec, Global, Bool, true, false, cond, eqb, List, [], ◌∷◌, ◌++◌, length, take, drop, get_or, Option, Some, None, Result, Ok, Err, refl, sym, ap, ◌∙◌, subst, arith, append_assoc, length-append}
-use Rattle.std.proofs.lemmas.List.{append-nil, take-append-drop}
+use Rattle.std.proofs.lemmas.List.{append-nil, drop_at, take-append-drop}
 use Rattle.std.proofs.lemmas.Bool.Decides.{leb_tells}
 use Rattle.std.proofs.lemmas.Str.{IsUtf8-nil}
 use Rattle.std.proofs.Math.Seq.{take-append-add, take-append_seam, get_or-append_right, get_or-append_seam}
@@ -342,7 +342,7 @@ given_behind (Some xs) (Some ys) (Some zs) first more h k = h ∙ ap (λ t. firs
 
 -- more came behind what no line of ended
 pub further_begun : (before old new : Option (List ℕ)) (limit : ℕ) (read : PartlyRead) (rest : Vec ℕ Global) (is_all : Bool) → IsPartlyRead before old read
-    → IsFilled limit old new read.rest.items rest.items is_all → IsPartlyRead before new (record { front = read.front; len = read.len; rest = rest; is_all = is_all; room = read.room })
+    → IsFilled limit old new read.rest.items rest.items is_all → IsPartlyRead before new (record { front = read.front; len = read.len; rest = rest; is_all = is_all })
 further_begun before old new limit read rest is_all is filled = record {
   front = is.front;
   taken = subst (Consumes before new) (append_assoc is.front read.rest.items filled.given ∙ ap (λ t. is.front ++ t) (sym filled.cut))
@@ -352,16 +352,16 @@ further_begun before old new limit read rest is_all is filled = record {
   all = filled.all;
 }
 
--- where there was room for them
-pub filled_behind : (limit : ℕ) (old new : Option (List ℕ)) (empty had begun bytes : List ℕ) (is_all : Bool) → empty ≡ [] → had ≡ empty ++ begun → IsFilled limit old new had bytes is_all → IsFilled limit old new begun bytes is_all
-filled_behind limit old new empty had begun bytes is_all e h filled = subst (λ t. IsFilled limit old new t bytes is_all) (h ∙ ap (λ t. t ++ begun) e) filled
+-- what is behind whole lines
+pub begun_after : (text lines begun had : List ℕ) → ArePieces text lines begun → had ≡ drop (length lines) text → had ≡ begun
+begun_after text lines begun had pieces is = is ∙ ap (drop (length lines)) pieces.2 ∙ drop_at lines begun (length lines) refl
 
 -- whole lines were read, and more came behind the others
-pub further_read : (before old new : Option (List ℕ)) (limit : ℕ) (read : PartlyRead) (lines begun : List ℕ) (both : ReadText) (rest room : Vec ℕ Global) (is_all : Bool)
+pub further_read : (before old new : Option (List ℕ)) (limit : ℕ) (read : PartlyRead) (lines begun : List ℕ) (both : ReadText) (rest : Vec ℕ Global) (is_all : Bool)
     → IsPartlyRead before old read → ArePieces read.rest.items lines begun → IsFilled limit old new begun rest.items is_all
     → ((front : List ℕ) → IsFrontRead front read.front → IsReadText (front ++ lines) both)
-    → IsPartlyRead before new (record { front = Some both; len = read.len + length lines; rest = rest; is_all = is_all; room = room })
-further_read before old new limit read lines begun both rest room is_all is pieces filled said =
+    → IsPartlyRead before new (record { front = Some both; len = read.len + length lines; rest = rest; is_all = is_all })
+further_read before old new limit read lines begun both rest is_all is pieces filled said =
     let cut : (is.front ++ read.rest.items) ++ filled.given ≡ (is.front ++ lines) ++ rest.items =
     ap (λ t. (is.front ++ t) ++ filled.given) pieces.2 ∙ ap (λ t. t ++ filled.given) (sym (append_assoc is.front lines begun)) ∙ append_assoc (is.front ++ lines) begun filled.given
     ∙ ap (λ t. (is.front ++ lines) ++ t) (sym filled.cut) in

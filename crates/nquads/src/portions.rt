@@ -1,5 +1,5 @@
 //! A text that is read in portions: once the lines of one are read, the next one comes.
-ghost use Rattle.std.specs.Prelude.{◌≡◌, ◌≤◌, ◌<◌, ◌+◌, ◌-◌, ◌^◌, ◌++◌, ℕ, List, false, length, slice_index, IfOk, IfErr, IfSome, Option, Err, if◌then◌else◌};
+ghost use Rattle.std.specs.Prelude.{◌≡◌, ◌≤◌, ◌<◌, ◌+◌, ◌-◌, ◌^◌, ◌++◌, ℕ, List, false, length, drop, slice_index, IfOk, IfErr, IfSome, Option, Err, if◌then◌else◌};
 ghost use Rattle.nquads.specs.Long.{IsAnswer, front_within, is_device};
 ghost use Rattle.nquads.specs.Pieces.{ArePieces};
 ghost use Rattle.nquads.specs.declared.fault.BaseFault.TheVariants.{OutOfMemory};
@@ -31,8 +31,6 @@ pub struct PartlyRead {
     pub rest: Vec<u8>,
     /// Whether no more will come.
     pub is_all: bool,
-    /// Room for the next bytes.
-    pub room: Vec<u8>,
 }
 
 /// Where the last LF ends.
@@ -134,6 +132,18 @@ fn portion_behind(read: &ReadText, threads: usize, portion: usize) -> usize
     }
 }
 
+/// The bytes of a text that come at this place or later, in its memory.
+fn bytes_from(text: Vec<u8>, place: usize) -> Vec<u8>
+    requires { place ≤ length text.items }
+    ensures { result.items ≡ drop place text.items }
+{
+    let mut text = text;
+    let left = text.len() - place;
+    text.copy_within(place.., 0);
+    text.truncate(left);
+    text
+}
+
 /// What has come of a text of which no line has an end, and more.
 fn begun_further<R: Read>(
     reader: &mut Watched<R>,
@@ -199,35 +209,31 @@ fn read_further<T: Threads + Sync, R: Read>(
         front,
         len,
         rest,
-        mut room,
         is_all,
     } = read;
-    let Some((lines, begun)) = whole_lines(rest.as_slice()) else {
+    let Some((lines, _)) = whole_lines(rest.as_slice()) else {
         let read = PartlyRead {
             front,
             len,
             rest,
-            room,
             is_all,
         };
         return begun_further(reader, read, portion);
     };
-    room.clear();
-    room.extend_from_slice(begun)?;
     let said = match read_text(rt, alloc, lines, lines_before(&front), threads) {
         Ok(said) => said,
         Err(fault) => return Err(fault),
     };
-    let len = len + lines.len();
+    let end = lines.len();
     let front = and_then(rt, front, said)?;
-    let limit = begun.len() + portion_behind(&front, threads, portion);
-    let is_all = fill(reader, &mut room, limit)?;
+    let mut rest = bytes_from(rest, end);
+    let limit = rest.len() + portion_behind(&front, threads, portion);
+    let is_all = fill(reader, &mut rest, limit)?;
     Ok(PartlyRead {
         front: Some(front),
-        len,
-        rest: room,
+        len: len + end,
+        rest,
         is_all,
-        room: rest,
     })
 }
 
@@ -261,7 +267,6 @@ fn read_lines_of<T: Threads + Sync, R: Read>(
         len: 0,
         rest,
         is_all,
-        room: Vec::new(alloc),
     };
     while !read.is_all && read.len + read.rest.len() <= limit {
         read = match read_further(rt, alloc, reader, read, threads, portion) {
