@@ -13,7 +13,7 @@ use std::thread::Threads;
 use terms::DataSet;
 
 /// So many threads, and portions of more than so many bytes.
-const WAYS: [(usize, u32); 8] = [
+const WAYS: [(usize, u32); 9] = [
     (0, 1000),
     (1, 1000),
     (1, 5),
@@ -22,6 +22,7 @@ const WAYS: [(usize, u32); 8] = [
     (3, 1000),
     (8, 1000),
     (8, 20),
+    (4, 368),
 ];
 
 /// A reader that gives one byte of a text at a time.
@@ -34,8 +35,70 @@ fn slow(text: &[u8]) -> Watched<Slow<'_>>
     })
 }
 
+/// Sixteen quads of two terms, each of them twice, and three quads more. Several threads read the first sixteen lines, and then go on in portions.
+const FEW_TERMS: &str = "\
+    <x:a> <x:a> <x:a> .\n\
+    <x:a> <x:a> <x:b> .\n\
+    <x:a> <x:b> <x:a> .\n\
+    <x:a> <x:b> <x:b> .\n\
+    <x:b> <x:a> <x:a> .\n\
+    <x:b> <x:a> <x:b> .\n\
+    <x:b> <x:b> <x:a> .\n\
+    <x:b> <x:b> <x:b> .\n\
+    <x:a> <x:a> <x:a> <x:a> .\n\
+    <x:a> <x:a> <x:b> <x:a> .\n\
+    <x:a> <x:b> <x:a> <x:a> .\n\
+    <x:a> <x:b> <x:b> <x:a> .\n\
+    <x:b> <x:a> <x:a> <x:a> .\n\
+    <x:b> <x:a> <x:b> <x:a> .\n\
+    <x:b> <x:b> <x:a> <x:a> .\n\
+    <x:b> <x:b> <x:b> <x:a> .\n\
+    <x:b> <x:b> <x:b> <x:a> .\n\
+    <x:b> <x:b> <x:a> <x:a> .\n\
+    <x:b> <x:a> <x:b> <x:a> .\n\
+    <x:b> <x:a> <x:a> <x:a> .\n\
+    <x:a> <x:b> <x:b> <x:a> .\n\
+    <x:a> <x:b> <x:a> <x:a> .\n\
+    <x:a> <x:a> <x:b> <x:a> .\n\
+    <x:a> <x:a> <x:a> <x:a> .\n\
+    <x:b> <x:b> <x:b> .\n\
+    <x:b> <x:b> <x:a> .\n\
+    <x:b> <x:a> <x:b> .\n\
+    <x:b> <x:a> <x:a> .\n\
+    <x:a> <x:b> <x:b> .\n\
+    <x:a> <x:b> <x:a> .\n\
+    <x:a> <x:a> <x:b> .\n\
+    <x:a> <x:a> <x:a> .\n\
+    <x:c> <x:p> <x:b> .\n\
+    <x:b> <x:p> <x:c> <x:g> .\n\
+    <x:b> <x:a> <x:a> .\n\
+";
+
+/// The canonical text of the same.
+const FEW_TERMS_TOLD: &str = "\
+    <x:a> <x:a> <x:a> .\n\
+    <x:a> <x:a> <x:a> <x:a> .\n\
+    <x:a> <x:a> <x:b> .\n\
+    <x:a> <x:a> <x:b> <x:a> .\n\
+    <x:a> <x:b> <x:a> .\n\
+    <x:a> <x:b> <x:a> <x:a> .\n\
+    <x:a> <x:b> <x:b> .\n\
+    <x:a> <x:b> <x:b> <x:a> .\n\
+    <x:b> <x:a> <x:a> .\n\
+    <x:b> <x:a> <x:a> <x:a> .\n\
+    <x:b> <x:a> <x:b> .\n\
+    <x:b> <x:a> <x:b> <x:a> .\n\
+    <x:b> <x:b> <x:a> .\n\
+    <x:b> <x:b> <x:a> <x:a> .\n\
+    <x:b> <x:b> <x:b> .\n\
+    <x:b> <x:b> <x:b> <x:a> .\n\
+    <x:b> <x:p> <x:c> <x:g> .\n\
+    <x:c> <x:p> <x:b> .\n\
+";
+
 /// Texts that are cut at several places, and the canonical text of what each spells.
-const CUT: [(&str, &str); 9] = [
+const CUT: [(&str, &str); 10] = [
+    (FEW_TERMS, FEW_TERMS_TOLD),
     ("\n\n\n\n\n\n\n\n\n", ""),
     (
         "<x:b> <x:p> <x:c> .\r\n<x:a> <x:p> <x:c> .\r\n",
