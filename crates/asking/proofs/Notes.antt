@@ -1,9 +1,9 @@
 -- Notes, one after another.
-use Rattle.std.proofs.Common.{◌≡◌, Bool, true, List, [], ◌∷◌, ◌++◌, Option, Some, None, Result, Ok, Err, ◌⊎◌, inl, inr, refl, ap, subst, sym, ◌∙◌, append_assoc}
+use Rattle.std.proofs.Common.{◌≡◌, Bool, true, List, [], ◌∷◌, ◌++◌, ℕ, ◌≤◌, ◌-◌, length, take, drop, get_or, Option, Some, None, Result, Ok, Err, inl, inr, refl, ap, subst, sym, ◌∙◌, arith, append_assoc}
 use Rattle.std.specs.Prelude.{map, slice_get, OnOk}
 use Rattle.std.specs.List.{AllByRecursion}
 use Rattle.std.specs.Result.{IfErr, IsErrAnd}
-use Rattle.std.proofs.lemmas.List.{append-nil}
+use Rattle.std.proofs.lemmas.List.{append-nil, drop_at, take_rest}
 use Rattle.sets.proofs.Every.{all_joined, all_weaker}
 use Rattle.reads.specs.Reads.{View, Read, Answer, says}
 use Rattle.reads.specs.Runs.{Agrees}
@@ -17,6 +17,10 @@ use Rattle.asking.specs.Goes.{AllAllowed, AreAllowed, AreNoted, Ends, Goes, Stop
 agrees_before : (ns ms : List Note) (d : View) → Agrees (ns ++ ms) d → Agrees ns d
 agrees_before [] ms d a = tt
 agrees_before (n ∷ ns) ms d a = (a.0, agrees_before ns ms d a.1)
+
+agrees_after : (ns ms : List Note) (d : View) → Agrees (ns ++ ms) d → Agrees ms d
+agrees_after [] ms d a = a
+agrees_after (n ∷ ns) ms d a = agrees_after ns ms d a.1
 
 agrees_last : (ns : List Note) (n : Note) (d : View) → Agrees (ns ++ n ∷ []) d → n.answer ≡ says n.read d
 agrees_last [] n d a = a.0
@@ -152,3 +156,15 @@ module _ {S : Type 0} {asks : S → Read → Result Answer Stop → S → Type 0
         → Goes asks allowed s s' ns ns' None → IfErr result (λ it. Stops asks allowed s s' it)
     stops_short (Ok x) e a = tt
     stops_short {A} (Err it) e a = (ns', subst (λ ms. Goes asks allowed s s' ms ns' (Some it)) none (goes_short {A = A} (Err it) e a))
+
+-- the first of some notes, and those behind it
+pub first_of : (notes : List Note) (n : Note) → n ≡ get_or notes 0 n → 1 ≤ length notes → notes ≡ n ∷ take (length notes - 1) (drop 1 notes)
+first_of [] n is some = absurd (omega (arith, some))
+first_of (m ∷ ms) n is some = λ i. sym is i ∷ sym (take_rest (m ∷ ms) 1) i
+
+-- what was noted last, behind so many notes, is of the reads that were asked for, and agrees with what all notes agree with
+pub noted_behind : (reads : List Read) (notes notes' tail : List Note) (n : ℕ) (d : View) → AreNoted reads notes notes' → length notes ≡ n → tail ≡ drop n notes' → Agrees notes' d
+    → (map (λ m. m.read) tail ≡ reads) × Agrees tail d
+noted_behind reads notes notes' tail n d noted e is a =
+    let last : tail ≡ noted.0 = is ∙ ap (drop n) noted.1 ∙ drop_at notes noted.0 n e in
+    (ap (map (λ m. m.read)) last ∙ noted.2, subst (λ ms. Agrees ms d) (sym last) (agrees_after notes noted.0 d (subst (λ ms. Agrees ms d) noted.1 a)))

@@ -1,7 +1,6 @@
 -- Scans that are asked for at once, and the notes of them.
-use Rattle.std.specs.Prelude.{Bool, true, filter, map, drop, take}
+use Rattle.std.specs.Prelude.{Bool, true, filter, map, drop}
 use Rattle.std.proofs.Common.{◌≡◌, ◌≤◌, ◌<◌, ◌+◌, ◌-◌, ℕ, zero, suc, List, [], ◌∷◌, ◌++◌, length, get_or, Option, Some, refl, sym, ap, ◌∙◌, subst, arith, add-one, drop-cons}
-use Rattle.std.proofs.lemmas.List.{drop_at, take_rest}
 use Rattle.sets.proofs.Every.{all_map}
 use Rattle.datasets.specs.declared.id.Id.{Id}
 use Rattle.datasets.specs.declared.read.Read.TheVariants.{Scan}
@@ -12,30 +11,19 @@ use Rattle.reads.specs.Reads.{View, Read, says, told_quads}
 use Rattle.reads.specs.Runs.{Agrees}
 use Rattle.reads.specs.declared.note.Note.{Note}
 use Rattle.asking.specs.Goes.{AreAllowed, AreNoted}
+use Rattle.asking.proofs.Notes.{noted_behind}
 use Rattle.eval.specs.Scans.{scan_of, scans_of, AskedPatterns, TellScans}
 
 -- the scans are allowed that are for patterns that may be asked for
 pub asked_scans : (allowed : Read → Bool) (ts : List (TriplePattern Id)) (graph : Option Id) → AskedPatterns allowed graph ts → AreAllowed allowed (scans_of ts graph)
 asked_scans allowed ts graph h = all_map (λ r. allowed r ≡ true) (λ t. Scan (scan_of t graph)) ts h
 
-agrees_after : (ns ms : List Note) (d : View) → Agrees (ns ++ ms) d → Agrees ms d
-agrees_after [] ms d a = a
-agrees_after (n ∷ ns) ms d a = agrees_after ns ms d a.1
-
 -- what was noted last tells of the scans that were asked for
 pub lot_told : (ts : List (TriplePattern Id)) (graph : Option Id) (notes notes' tail : List Note) (n : ℕ) (d : View)
     → AreNoted (scans_of ts graph) notes notes' → length notes ≡ n → tail ≡ drop n notes' → Agrees notes' d → TellScans ts graph tail d
 lot_told ts graph notes notes' tail n d noted e is a =
-    let last : tail ≡ noted.0 = is ∙ ap (drop n) noted.1 ∙ drop_at notes noted.0 n e in
-    record {
-      scans = ap (map (λ m. m.read)) last ∙ noted.2;
-      agrees = subst (λ ms. Agrees ms d) (sym last) (agrees_after notes noted.0 d (subst (λ ms. Agrees ms d) noted.1 a));
-    }
-
--- the first of some notes, and those behind it
-pub first_of : (notes : List Note) (n : Note) → n ≡ get_or notes 0 n → 1 ≤ length notes → notes ≡ n ∷ take (length notes - 1) (drop 1 notes)
-first_of [] n is some = absurd (omega (arith, some))
-first_of (m ∷ ms) n is some = λ i. sym is i ∷ sym (take_rest (m ∷ ms) 1) i
+    let behind = noted_behind (scans_of ts graph) notes notes' tail n d noted e is a in
+    record { scans = behind.0; agrees = behind.1 }
 
 -- the first of the notes has the quads of the first scan, and the others tell of the other scans
 pub told_one : (t : TriplePattern Id) (ts : List (TriplePattern Id)) (graph : Option Id) (n : Note) (notes : List Note) (d : View) → TellScans (t ∷ ts) graph (n ∷ notes) d

@@ -1,8 +1,8 @@
 -- What notes tell is what there is.
 use Rattle.std.specs.Prelude.{Bool, true, false, IfSome, drop, take, map, filter, is_none, if◌then◌else◌}
-use Rattle.std.proofs.Common.{◌≡◌, ℕ, zero, suc, ◌-◌, ◌<◌, ◌≤◌, List, [], ◌∷◌, ◌++◌, length, get_or, Option, Some, None, refl, sym, ap, ◌∙◌, subst, arith}
+use Rattle.std.proofs.Common.{◌≡◌, ℕ, zero, suc, ◌<◌, List, [], ◌∷◌, ◌++◌, length, get_or, Option, Some, None, refl, sym, ap, ◌∙◌, subst, arith}
 use Rattle.std.proofs.lemmas.Bool.{false≢true}
-use Rattle.std.proofs.lemmas.List.{drop_at, take_rest, append-nil}
+use Rattle.std.proofs.lemmas.List.{append-nil}
 use Rattle.sets.specs.Sets.{has, set_of}
 use Rattle.sets.proofs.SetLaws.{sorted-set_of}
 use Rattle.sets.proofs.Every.{all_kept, all_map, all_joined}
@@ -16,6 +16,7 @@ use Rattle.reads.specs.Reads.{View, Delta, Read, Answer, says}
 use Rattle.reads.specs.Runs.{Agrees}
 use Rattle.reads.specs.declared.note.Note.{Note}
 use Rattle.asking.specs.Goes.{AreAllowed, AreNoted}
+use Rattle.asking.proofs.Notes.{noted_behind}
 use Rattle.update.specs.Told.{first_told}
 use Rattle.update.specs.Whole.{WholeGraphs, is_known, told_in, KnowsWhole}
 use Rattle.reads.specs.Presence.{scan_for}
@@ -113,11 +114,6 @@ no_names k later = chosen k.has_graphs
     chosen true = refl
     chosen false = refl
 
--- the first of some notes, and those behind it
-pub first_of : (notes : List Note) (n : Note) → n ≡ get_or notes 0 n → 1 ≤ length notes → notes ≡ n ∷ take (length notes - 1) (drop 1 notes)
-first_of [] n is some = absurd (omega (arith, some))
-first_of (m ∷ ms) n is some = λ i. sym is i ∷ sym (take_rest (m ∷ ms) 1) i
-
 -- ---- the notes of a lot
 
 -- what asks for the quads of which it wasn't told is allowed where what asks for all of them is
@@ -139,20 +135,12 @@ allowed_all allowed k c h =
     let names = all_joined (λ r. allowed r ≡ true) _ _ (allowed_names allowed k c.there h.there) (allowed_names allowed k c.gone h.gone) in
     all_joined (λ r. allowed r ≡ true) _ _ (allowed_untold allowed k c.present h.present) (all_joined (λ r. allowed r ≡ true) _ _ (allowed_untold allowed k c.absent h.absent) names)
 
-agrees_after : (ns ms : List Note) (d : View) → Agrees (ns ++ ms) d → Agrees ms d
-agrees_after [] ms d a = a
-agrees_after (n ∷ ns) ms d a = agrees_after ns ms d a.1
-
 -- the last notes are those of what was asked for at once
 pub lot_told : (k : WhatIsKnown) (reads : List Read) (notes notes' tail : List Note) (n : ℕ) (d : View)
     → AreNoted reads notes notes' → length notes ≡ n → tail ≡ drop n notes' → Knows k d → Agrees notes' d → Tell k reads tail d
 lot_told k reads notes notes' tail n d noted e is knows a =
-    let last : tail ≡ noted.0 = is ∙ ap (drop n) noted.1 ∙ drop_at notes noted.0 n e in
-    record {
-      knows = knows;
-      are_noted = ap (map (λ m. m.read)) last ∙ noted.2;
-      agrees = subst (λ ms. Agrees ms d) (sym last) (agrees_after notes noted.0 d (subst (λ ms. Agrees ms d) noted.1 a));
-    }
+    let behind = noted_behind reads notes notes' tail n d noted e is a in
+    record { knows = knows; are_noted = behind.0; agrees = behind.1 }
 
 -- with no reads behind
 pub tell_no_more : (k : WhatIsKnown) (reads : List Read) (notes : List Note) (d : View) → Tell k reads notes d → Tell k (reads ++ []) notes d

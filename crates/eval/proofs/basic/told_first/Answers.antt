@@ -4,9 +4,10 @@ use Rattle.datasets.specs.Dataset.{matches}
 use Rattle.datasets.specs.Id.{id_order}
 use Rattle.meaning.specs.Solutions.{solutions_among}
 use Rattle.reads.specs.Reads.{applied}
+use Rattle.asking.proofs.Notes.{first_of}
 use Rattle.eval.specs.Changes.{seen_through}
 use Rattle.eval.specs.Scans.{TellScans, scan_of}
-use Rattle.eval.proofs.Lots.{first_of, told_one}
+use Rattle.eval.proofs.Lots.{told_one}
 use Rattle.eval.proofs.Scanned.{solutions_scanned}
 use Rattle.eval.proofs.Seen.{scan_seen}
 use Rattle.eval.proofs.basic.told_first.Goals as goal

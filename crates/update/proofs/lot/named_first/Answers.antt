@@ -1,6 +1,7 @@
 use Rattle.std.proofs.Common.{◌∙◌, sym, subst, ◌++◌, ◌∷◌}
 use Rattle.update.specs.Known.{questions_for_untold, Tell}
-use Rattle.update.proofs.KnownQuads.{name_known, name_noted, first_of}
+use Rattle.asking.proofs.Notes.{first_of}
+use Rattle.update.proofs.KnownQuads.{name_known, name_noted}
 use Rattle.update.proofs.lot.named_first.Goals as goal
 
 pub returns-then-has_graphs : goal.returns-then-has_graphs

@@ -1,6 +1,7 @@
 use Rattle.std.proofs.Common.{◌∙◌, subst, ◌++◌, ◌∷◌}
 use Rattle.update.specs.Known.{scans_for_untold, Tell}
-use Rattle.update.proofs.KnownQuads.{first_known, first_noted, first_of}
+use Rattle.asking.proofs.Notes.{first_of}
+use Rattle.update.proofs.KnownQuads.{first_known, first_noted}
 use Rattle.update.proofs.presence.told_first.Goals as goal
 
 pub returns-in-Some : goal.returns-in-Some
