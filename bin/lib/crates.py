@@ -134,9 +134,18 @@ def build_library(crate, flags, keeps):
     return status
 
 
+def measured():
+    """How many seconds the proof of each crate took once, by its name. Which proofs are begun first hangs on them, and nothing else."""
+    with open(f"{ROOT}/bin/lib/seconds.txt", encoding="utf-8") as it:
+        return {name: int(seconds) for name, seconds in (line.split() for line in it)}
+
+
+SECONDS = measured()
+
+
 def likely_cost(crate):
-    """How dear a proof of the crate is likely to be, in lines: its own, and what a start takes with the libraries that it reads."""
-    return crate.count(rb"\n") + 200 + 15 * len(crate.below())
+    """How dear a proof of the crate is likely to be, in lines, of which a second proves some ten: as it once was, or by its own and what a start takes with the libraries that it reads."""
+    return 10 * SECONDS.get(crate.name, 0) or crate.count(rb"\n") + 200 + 15 * len(crate.below())
 
 
 def add_proofs(work, crates, failed, keeps):
