@@ -120,6 +120,16 @@ class Work:
         return rt.in_lanes(self.tasks)
 
 
+def built_at(crate):
+    """When the library was built."""
+    return os.path.getmtime(f"{crate.folder}/out/rlib/stamp")
+
+
+def is_built(crate):
+    """Whether the library is built from what stands there, and over those below it as they were built last: it fits no others, even of the same text."""
+    return crate.is_built() and all(built_at(it) <= built_at(crate) for it in crate.below())
+
+
 def build_library(crate, flags, keeps):
     """Proves and builds a library: over kept work, or where there is none of it or of what it stands on, and none is wanted, from nothing, with its statements alone, which is faster. What the gate looks for beyond a proof, as a contract that no call can meet, is left to it."""
     if keeps or any(it.has_kept() for it in [*crate.below(), crate]):
@@ -154,8 +164,9 @@ def add_proofs(work, crates, failed, keeps):
     def prove(crate, given, jobs):
         if not all(given[it.name, "proof"] for it in crate.below()):
             return False, ""
-        if crate.makes_rlib() and crate.is_built():
+        if crate.makes_rlib() and is_built(crate):
             return True, ""
+        shutil.rmtree(f"{crate.folder}/out/rlib", ignore_errors=True)
         os.makedirs(f"{crate.folder}/out", exist_ok=True)
         with open(f"{crate.folder}/out/log", "w+", errors="replace") as crate.out:
             flags = ["--jobs", str(jobs)]
