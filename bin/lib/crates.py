@@ -132,10 +132,11 @@ def is_built(crate):
 
 def build_library(crate, flags, keeps):
     """Proves and builds a library: over kept work, or where there is none of it or of what it stands on, and none is wanted, from nothing, with its statements alone, which is faster. What the gate looks for beyond a proof, as a contract that no call can meet, is left to it."""
+    stamp, kept = crate.stamp(), f"{crate.folder}/out/rlib"
+    # what is there may be of the same text, and then the toolchain leaves it
+    shutil.rmtree(kept, ignore_errors=True)
     if keeps or any(it.has_kept() for it in [*crate.below(), crate]):
         return crate.build_rlib(flags, anew=False)
-    stamp, kept = crate.stamp(), f"{crate.folder}/out/rlib"
-    shutil.rmtree(kept, ignore_errors=True)
     os.makedirs(kept)
     status = crate.call(rtlib.RATTLE, "build", *crate.words(flags, keeps=False), "--statements", "-o", crate.rlib)
     if not status:
@@ -166,7 +167,6 @@ def add_proofs(work, crates, failed, keeps):
             return False, ""
         if crate.makes_rlib() and is_built(crate):
             return True, ""
-        shutil.rmtree(f"{crate.folder}/out/rlib", ignore_errors=True)
         os.makedirs(f"{crate.folder}/out", exist_ok=True)
         with open(f"{crate.folder}/out/log", "w+", errors="replace") as crate.out:
             flags = ["--jobs", str(jobs)]
