@@ -1,6 +1,6 @@
 -- Lines that rise are the set of themselves, whatever the order in which they came before.
 use Rattle.std.specs.Prelude.{Bool, ◌&&◌, ◌||◌}
-use Rattle.std.proofs.Common.{◌≡◌, ℕ, ◌+◌, ◌<◌, true, cond, List, [], ◌∷◌, ◌++◌, length, get_or, take, map, filter, refl, sym, ap, ◌∙◌}
+use Rattle.std.proofs.Common.{◌≡◌, ℕ, ◌+◌, ◌<◌, true, cond, List, [], ◌∷◌, ◌++◌, length, get_or, take, map, filter, refl, sym, ap, subst, ◌∙◌}
 use Rattle.std.specs.List.{list_any, list_all, flat_map, AllByRecursion}
 use Rattle.std.specs.List.Sorted.{IsPermutation, IsStrictlySortedBy}
 use Rattle.std.specs.declared.cmp.Ordering.{Ordering}
@@ -12,7 +12,7 @@ use Rattle.std.proofs.lemmas.Grind.{flat_map-append}
 use Rattle.std.proofs.lemmas.List.Sorted.{list_any-IsPermutation, All-permutation}
 use Rattle.std.proofs.lemmas.List.Sums.{AllPass-from_list_all, list_all-from_AllPass}
 use Rattle.std.proofs.Math.Bool.{or_comm}
-use Rattle.std.proofs.lemmas.List.Elements.{filter-append}
+use Rattle.std.proofs.lemmas.List.Elements.{All-filter, filter-append}
 use Rattle.std.proofs.lemmas.List.Folds.{list_any-append}
 use Rattle.std.proofs.lemmas.Map.Keys.{sorted_tail, sorted_head}
 use Rattle.sets.specs.Sets.{set_of, has}
@@ -24,7 +24,10 @@ use Rattle.terms.specs.TermLaws.{text_total, text_exact}
 use Rattle.canonical_nquads.specs.Canonical.{ended, text_of_pieces}
 use Rattle.canonical_nquads.specs.declared.rising.Rising.{Rising}
 use Rattle.canonical_nquads.specs.declared.rising_pieces.RisingInPieces.{RisingInPieces}
-use Rattle.canonical_nquads.specs.Rising.{IsRising, IsRisingInPieces}
+use Rattle.datasets.specs.declared.quad.Quad.{Quad}
+use Rattle.canonical_nquads.specs.Placed.{quad_text_at}
+use Rattle.canonical_nquads.specs.declared.text_parts.OrderedPart.{OrderedPart}
+use Rattle.canonical_nquads.specs.Rising.{IsRising, IsRisingInPieces, AreInOrder, StandBehind}
 use Rattle.std.specs.Global.{Vec}
 use Rattle.canonical_nquads.proofs.CanonicalLaws.{any-map}
 
@@ -131,6 +134,26 @@ module _ {A : Type 0} (f : A → List ℕ) (g : ℕ → List ℕ) (kept : ℕ �
 
 pub still_all : {A : Type 0} (p : A → Bool) (xs ys : List A) → IsPermutation xs ys → list_all p xs ≡ true → list_all p ys ≡ true
 still_all p xs ys moved h = list_all-from_AllPass p ys (All-permutation (λ x. p x ≡ true) xs ys moved (AllPass-from_list_all p xs h))
+
+-- what all pass, those that are kept pass in any order
+pub still_kept : {A : Type 0} (p keep : A → Bool) (xs ys : List A) → IsPermutation (filter keep xs) ys → list_all p xs ≡ true → list_all p ys ≡ true
+still_kept p keep xs ys moved h = list_all-from_AllPass p ys (All-permutation (λ x. p x ≡ true) (filter keep xs) ys moved (All-filter keep (λ x. p x ≡ true) xs (AllPass-from_list_all p xs h)))
+
+-- a text, the lines of quads behind it in some order, and those of a part behind these
+pub stand_both : (texts : List (List ℕ)) (quads low high : List (Quad ℕ)) (part : OrderedPart) (first made : RisingInPieces) (lines : List (List ℕ))
+    → ((those these : List (Quad ℕ)) → IsPermutation low those → IsPermutation high these → IsPermutation quads (those ++ these))
+    → AreInOrder texts high part → (k : StandBehind texts low lines first)
+    → ((before : List (List ℕ)) → IsRisingInPieces before first → IsRisingInPieces (before ++ map (quad_text_at texts) part.quads.items) made)
+    → StandBehind texts quads lines made
+stand_both texts quads low high part first made lines both h k more =
+    let line = quad_text_at texts in
+    record {
+      order = k.order ++ part.quads.items;
+      moved = both k.order part.quads.items k.moved h.moved;
+      rise = subst (λ (all : List (List ℕ)). IsRisingInPieces all made)
+          (append_assoc lines (map line k.order) (map line part.quads.items) ∙ ap (λ all. lines ++ all) (sym (map-append line k.order part.quads.items)))
+          (more (lines ++ map line k.order) k.rise);
+    }
 
 -- one more of a list that is gone through, and the end
 pub map_next : {A : Type 0} (f : A → List ℕ) (lines : List (List ℕ)) (xs : List A) (i : ℕ) (x : A) → i < length xs → x ≡ get_or xs i x

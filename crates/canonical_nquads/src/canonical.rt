@@ -11,9 +11,9 @@ ghost use Rattle.canonical_nquads.specs.Canonical.{ended, text_of_pieces, canoni
 ghost use Rattle.canonical_nquads.specs.Placed.{text_at, graph_text_at, quad_text_at, graph_line_at, is_name_at, is_in_at, IsTextOf};
 
 use crate::rising::rising_text;
-use crate::rising_pieces::rising_pieces_by;
 use crate::text_line::TextLine;
-use crate::text_order::{in_order_or, names_by_text, quads_by_text, quads_by_text_by};
+use crate::text_order::{in_order_or, names_by_text, quads_by_text, ranks_by};
+use crate::text_pieces::rising_pieces_by;
 use datasets::Quad;
 use rayon::prelude::*;
 use sets::set_of;
@@ -327,14 +327,14 @@ fn pieces_of_lines_by<T: Threads + Sync>(
         ++ map (graph_line_at texts.now)
         (filter (λ name. not (contains nat_eq full.now name)) names.now)))) }
 {
-    let sorted = quads_by_text_by(rt, alloc, texts, quads)?;
-    let quads_in_order = in_order_or(&sorted, quads);
+    let ranks = ranks_by(rt, alloc, texts)?;
     let names_in_order = names_by_text(alloc, texts, names)?;
     let found = rising_pieces_by(
         rt,
         alloc,
         texts,
-        quads_in_order,
+        ranks.as_slice(),
+        quads,
         &names_in_order,
         full,
         threads,

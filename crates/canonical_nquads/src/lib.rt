@@ -14,6 +14,7 @@ mod tags;
 mod text_line;
 mod text_order;
 mod text_parts;
+mod text_pieces;
 mod writer;
 
 pub use canonical::{canonical_pieces, canonical_pieces_by, canonical_text};

@@ -26,10 +26,10 @@ const SAMPLED: usize = 64;
 const MOST_ROOM: usize = 1_073_741_824;
 
 /// How many pieces there are for each of several threads, so that none waits for long for the last.
-const PIECES: usize = 2;
+pub(crate) const PIECES: usize = 2;
 
 /// Into how many pieces a text is parted among so many threads.
-fn pieces_for(threads: usize) -> usize {
+pub(crate) fn pieces_for(threads: usize) -> usize {
     if threads <= 1 {
         return 1;
     }
@@ -39,12 +39,12 @@ fn pieces_for(threads: usize) -> usize {
 /// A text in pieces, one behind another, whose lines rise, as far as it is made, and its last line.
 #[derive(Drop)]
 pub(crate) struct RisingInPieces {
-    pieces: Vec<Vec<u8>>,
-    last: Vec<u8>,
+    pub(crate) pieces: Vec<Vec<u8>>,
+    pub(crate) last: Vec<u8>,
 }
 
 /// A text as one piece.
-fn as_piece(alloc: Global, made: Rising) -> Result<RisingInPieces, AllocError>
+pub(crate) fn as_piece(alloc: Global, made: Rising) -> Result<RisingInPieces, AllocError>
     ensures { IfOk result (λ whole. (lines : List (List ℕ)) → IsRising lines made
         → IsRisingInPieces lines whole) }
 {
@@ -79,7 +79,7 @@ fn behind(
 }
 
 /// A text and the text of the lines of these quads behind it, if they rise on.
-fn behind_quads(
+pub(crate) fn behind_quads(
     alloc: Global,
     low: RisingInPieces,
     high: RisingInPieces,
@@ -161,7 +161,7 @@ fn rising_piece(
 
 /// The text of the lines of these quads, made by so many threads, if they rise, each piece where its thread made it. The thread that calls makes
 /// all others: of those that new ones make, two often share a processor at first.
-fn rising_quads<T: Threads + Sync>(
+pub(crate) fn rising_quads<T: Threads + Sync>(
     rt: &T,
     alloc: Global,
     texts: &[TextLine],
@@ -193,43 +193,5 @@ fn rising_quads<T: Threads + Sync>(
     match (low?, high?) {
         (Some(low), Some(high)) => behind_quads(alloc, low, high, texts, rest),
         _ => Ok(None),
-    }
-}
-
-/// The lines of the graphs that have no quad and those of the quads, made by so many threads, if each is above the one before it, in pieces
-/// that stand one behind another.
-pub(crate) fn rising_pieces_by<T: Threads + Sync>(
-    rt: &T,
-    alloc: Global,
-    texts: &[TextLine],
-    quads: &[Quad<u32>],
-    names: &[u32],
-    full: &HashSet<u32>,
-    threads: usize,
-) -> Result<Option<Vec<Vec<u8>>>, AllocError>
-    requires quads { list_all (is_quad_within texts.now) quads.now ≡ true }
-    requires names { list_all (is_within texts.now) names.now ≡ true }
-    ensures { IfOk result (λ found. IfSome found
-        (λ pieces. text_of_pieces pieces.items ≡ flat_map ended
-        (set_of text_cmp (map (quad_text_at texts.now) quads.now
-        ++ map (graph_line_at texts.now)
-        (filter (λ name. not (contains nat_eq full.now name)) names.now))))) }
-{
-    let mut made = Rising {
-        text: Vec::new(alloc),
-        last: Vec::new(alloc),
-    };
-    let mut line = Vec::new(alloc);
-    let graphs_rise = push_graphs(&mut made, &mut line, texts, names, full)?;
-    if !graphs_rise {
-        return Ok(None);
-    }
-    let low = as_piece(alloc, made)?;
-    let Some(high) = rising_quads(rt, alloc, texts, quads, pieces_for(threads))? else {
-        return Ok(None);
-    };
-    match behind_quads(alloc, low, high, texts, quads)? {
-        Some(whole) => Ok(Some(whole.pieces)),
-        None => Ok(None),
     }
 }
