@@ -371,8 +371,8 @@ pub fn canonical_pieces(
     in_one_piece(alloc, text)
 }
 
-/// The same pieces, their lines made by so many threads, where they can be had, and put in order by as many as there are processors. No piece
-/// is moved once it is made.
+/// The same pieces, made by so many threads, where they can be had. Of quads that do not stand in the order of their texts each of four parts is
+/// put in order, and its lines are made, by a thread of its own. No piece is moved once it is made.
 pub fn canonical_pieces_by<T: Threads + Sync>(
     rt: &T,
     alloc: Global,
