@@ -9,14 +9,13 @@ use command_line::{Fault, File};
 use delta::Outcome;
 use devices::Watched;
 use engines::{Runs, read_base_by, read_block_by, run_by};
-use numbering::{Numbered, number};
+use numbering::{Numbered, number, number_by};
 use pool::{Open, run_block};
 use rules::Block;
 use std::alloc::{AllocError, Global};
 use std::io::{Read, Write};
 use std::sync::Wait;
 use std::thread::Threads;
-use store::{Alone, Together};
 use terms::DataSet;
 
 /// By workers on threads of their own, from 1 to 64.
@@ -48,9 +47,9 @@ impl<'r, T: Threads + Wait + Sync> Runs for Workers<'r, T> {
         block: Block,
     ) -> Result<Numbered, AllocError> {
         if self.count == 1 {
-            return number(&Alone, alloc, dataset, block);
+            return number(alloc, dataset, block);
         }
-        number(&Together::new(self.rt), alloc, dataset, block)
+        number_by(self.rt, alloc, dataset, block, self.count as usize)
     }
 
     #[tactic(auto, using(engines::proofs::Composed::whole_run))]

@@ -15,7 +15,6 @@ use rules::Block;
 use serial::run;
 use std::alloc::{AllocError, Global};
 use std::io::{Read, Write};
-use store::Alone;
 use terms::DataSet;
 
 /// One request after another.
@@ -39,7 +38,7 @@ impl Runs for OneByOne {
         dataset: DataSet,
         block: Block,
     ) -> Result<Numbered, AllocError> {
-        number(&Alone, alloc, dataset, block)
+        number(alloc, dataset, block)
     }
 
     fn outcome(&self, alloc: Global, numbered: &Numbered) -> Result<Outcome, AllocError> {

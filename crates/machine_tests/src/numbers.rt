@@ -6,19 +6,18 @@ use datasets::{Id, Quad};
 use dict::Dict;
 use meaning::Request;
 use nquads::{BaseFault, read_bytes};
-use numbering::{Numbered, number};
+use numbering::{Numbered, number, number_by};
 use reads::{CompactView, View};
 use rules::{Block, split};
 use std::alloc::{AllocError, Global};
 use std::test::Fail;
 use std::thread::Threads;
-use store::{Alone, Together};
 use terms::{DataSet, Term, canonical};
 
 // A base and a block that is read at numbers.
 fn numbered_over(alloc: Global, base: &str, block: Block) -> Result<Numbered, BaseFault> {
     let base = read_bytes(alloc, base.as_bytes())?;
-    Ok(number(&Alone, alloc, base, block)?)
+    Ok(number(alloc, base, block)?)
 }
 
 /// A base and a block at numbers.
@@ -142,12 +141,12 @@ fn falling(alloc: Global, quads: u32) -> Result<Vec<u8>, AllocError> {
 
 // The block at numbers, over a base that one thread puts in order.
 fn by_one(alloc: Global, base: DataSet) -> Result<Numbered, Fail> {
-    Ok(number(&Alone, alloc, base, split(alloc, MOVED)?)?)
+    Ok(number(alloc, base, split(alloc, MOVED)?)?)
 }
 
 // The same by threads.
 fn by_threads<T: Threads + Sync>(rt: &T, alloc: Global, base: DataSet) -> Result<Numbered, Fail> {
-    Ok(number(&Together::new(rt), alloc, base, split(alloc, MOVED)?)?)
+    Ok(number_by(rt, alloc, base, split(alloc, MOVED)?, 3)?)
 }
 
 // Whether a dataset is the same at other numbers.

@@ -20,9 +20,6 @@ use terms::laws::{lists_grow_as_datasets, lists_unite};
 /// Terms are few where there are so many quads for each.
 const QUADS_OF_A_TERM: usize = 8;
 
-/// How many pieces there are for each of several threads where terms are few, so that none waits for long for the last.
-const PIECES: usize = 2;
-
 /// What has come of a text.
 #[derive(Drop)]
 pub struct PartlyRead {
@@ -69,13 +66,13 @@ fn lines_before(front: &Option<ReadText>) -> usize
     }
 }
 
-/// Reads a text before which so many lines come, in so many pieces, each by a thread.
+/// Reads a text before which so many lines come, by so many threads.
 fn read_text<T: Threads + Sync>(
     rt: &T,
     alloc: Global,
     text: &[u8],
     before: usize,
-    pieces: usize,
+    threads: usize,
 ) -> Result<ReadText, BaseFault>
     requires { before + length text.now < 2 ^ 64 - 1 }
     ensures ok { IfOk result (IsReadText text.now) }
@@ -83,8 +80,8 @@ fn read_text<T: Threads + Sync>(
 {
     lines_are_read();
     lists_grow_as_datasets();
-    if 1 < pieces {
-        if let Ok(read) = read_pieces(rt, alloc, text, pieces) {
+    if 1 < threads {
+        if let Ok(read) = read_pieces(rt, alloc, text, threads) {
             return Ok(read);
         }
     }
@@ -133,17 +130,6 @@ fn portion_behind(read: &ReadText, threads: usize, portion: usize) -> usize
     } else {
         MOST_BYTES
     }
-}
-
-/// Into how many pieces the lines behind these are parted among so many threads. Each piece has a table of its terms, which are put among those
-/// of the others.
-fn pieces_behind(front: &Option<ReadText>, threads: usize) -> usize {
-    if let Some(read) = front {
-        if 1 < threads && have_few_terms(read) {
-            return threads.saturating_mul(PIECES);
-        }
-    }
-    threads
 }
 
 /// The bytes of a text that come at this place or later, in its memory.
@@ -234,8 +220,7 @@ fn read_further<T: Threads + Sync, R: Read>(
         };
         return begun_further(reader, read, portion);
     };
-    let pieces = pieces_behind(&front, threads);
-    let said = match read_text(rt, alloc, lines, lines_before(&front), pieces) {
+    let said = match read_text(rt, alloc, lines, lines_before(&front), threads) {
         Ok(said) => said,
         Err(fault) => return Err(fault),
     };
@@ -337,8 +322,7 @@ fn ended<T: Threads + Sync>(
     if limit < len + rest.len() {
         return Err(fault_within(alloc, rest.as_slice(), before, limit - len));
     }
-    let pieces = pieces_behind(&front, threads);
-    let last = match read_text(rt, alloc, rest.as_slice(), before, pieces) {
+    let last = match read_text(rt, alloc, rest.as_slice(), before, threads) {
         Ok(last) => last,
         Err(fault) => return Err(fault),
     };

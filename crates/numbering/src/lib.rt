@@ -15,4 +15,4 @@ mod plans;
 mod requests;
 
 pub use naming::named;
-pub use numbered::{Numbered, number};
+pub use numbered::{Numbered, number, number_by};

@@ -1,5 +1,5 @@
 //! The numbers of a dictionary's terms, found by the terms' hashes.
-ghost use Rattle.std.specs.Prelude.{◌≡◌, true, IfOk, IfSome};
+ghost use Rattle.std.specs.Prelude.{◌≡◌, true, IfSome};
 ghost use Rattle.datasets.specs.declared.id.Id.TheVariants.{Known as AtNumber};
 ghost use Rattle.dict.specs.Dictionary.{term_of, is_known};
 ghost use Rattle.store.specs.Held.{is_held};
@@ -22,7 +22,7 @@ const EMPTY: u32 = u32::MAX;
 #[derive(Drop)]
 pub(crate) struct Numbers<'a> {
     dict: &'a Dict,
-    slots: Vec<u32>,
+    slots: &'a [u32],
 }
 
 impl<'a> Model for Numbers<'a> {
@@ -59,24 +59,27 @@ fn put_slot(slots: &mut [u32], hash: usize, place: u32) {
     }
 }
 
-impl<'a> Numbers<'a> {
-    /// The numbers of this dictionary's terms. The slots lead to the terms that will be asked for, each of which is given with its number. An
-    /// error comes only where memory runs out.
-    pub(crate) fn new(
-        alloc: Global,
-        dict: &'a Dict,
-        asked: &[Term],
-        numbers: &[Id],
-    ) -> Result<Numbers<'a>, AllocError>
-        ensures { IfOk result (λ numbers. numbers ≡ dict.entry.now) }
-    {
-        let mut slots = vec![in alloc; EMPTY; asked.len().saturating_mul(2)]?;
-        for (term, number) in asked.iter().zip(numbers.iter()) {
-            if let Id::Known(place) = number {
-                put_slot(slots.as_mut_slice(), hash_of(term), *place);
-            }
+/// Slots that lead to the terms that will be asked for, each of which is given with its number. An error comes only where memory runs out.
+pub(crate) fn slots_for(
+    alloc: Global,
+    asked: &[Term],
+    numbers: &[Id],
+) -> Result<Vec<u32>, AllocError> {
+    let mut slots = vec![in alloc; EMPTY; asked.len().saturating_mul(2)]?;
+    for (term, number) in asked.iter().zip(numbers.iter()) {
+        if let Id::Known(place) = number {
+            put_slot(slots.as_mut_slice(), hash_of(term), *place);
         }
-        Ok(Numbers { dict, slots })
+    }
+    Ok(slots)
+}
+
+impl<'a> Numbers<'a> {
+    /// The numbers of this dictionary's terms, found by these slots.
+    pub(crate) fn new(dict: &'a Dict, slots: &'a [u32]) -> Numbers<'a>
+        ensures { result ≡ dict.entry.now }
+    {
+        Numbers { dict, slots }
     }
 
     // The place of a term, if the slots lead to it.
@@ -88,7 +91,7 @@ impl<'a> Numbers<'a> {
         let terms = self.dict.terms();
         let hash = hash_of(term);
         for step in 0..REACH {
-            let place = *self.slots.get(slot_at(self.slots.as_slice(), hash, step))?;
+            let place = *self.slots.get(slot_at(self.slots, hash, step))?;
             let found = terms.get(place as usize)?;
             if found == term {
                 return Some(place);

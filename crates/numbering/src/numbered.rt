@@ -1,23 +1,24 @@
 //! Bases and blocks at numbers of terms.
-ghost use Rattle.std.specs.Prelude.{◌≡◌, true, map, IfOk};
+ghost use Rattle.std.specs.Prelude.{◌≡◌, true, Ok, IfOk};
 ghost use Rattle.std.specs.List.{list_all};
-ghost use Rattle.dict.specs.Dictionary.{term_of, is_known};
-ghost use Rattle.meaning_laws.specs.Renaming.{renamed_request, request_known};
+ghost use Rattle.meaning_laws.specs.Renaming.{request_known};
 ghost use Rattle.rules.specs.Terms.{terms_of};
 ghost use Rattle.numbering.specs.Gathered.{HasTerms};
 ghost use Rattle.numbering.specs.Numbered.{IsNumbered};
+ghost use Rattle.store.specs.Base.{IsBaseOf};
 ghost use Rattle.store.specs.Held.{is_held};
 
 use crate::gathered::distinct;
-use crate::lookup::Numbers;
+use crate::lookup::slots_for;
 use crate::orders::orders_for;
-use crate::requests::number_requests;
+use crate::requests::{number_part, number_requests_by};
 use datasets::Id;
 use dict::Dict;
 use meaning::Request;
 use rules::Block;
 use std::alloc::{AllocError, Global};
-use store::{Base, Hands};
+use std::thread::Threads;
+use store::{Alone, Base, Hands, Together};
 use terms::{DataSet, Term};
 
 /// A base and a block at numbers of terms, by the base's dictionary.
@@ -46,52 +47,82 @@ fn copies_of(alloc: Global, terms: &[Term]) -> Result<Vec<Term>, AllocError>
     Ok(copies)
 }
 
-// A block's requests at the numbers of a dictionary, of which some are given for their terms. A request at terms is let go as soon as it has its
-// numbers.
-fn number_block(
-    alloc: Global,
-    dict: &Dict,
-    terms: &[Term],
-    numbers: &[Id],
-    block: Block,
-) -> Result<Vec<Request<Id>>, AllocError>
-    requires { list_all (request_known (is_held dict.now)) block ≡ true }
-    ensures renamed { IfOk result (λ list. map (renamed_request (term_of dict.now)) list.items
-        ≡ block) }
-    ensures known { IfOk result (λ list. list_all (request_known (is_known dict.now)) list.items
-        ≡ true) }
-{
-    let requests = block.into_vec();
-    let numbers = Numbers::new(alloc, dict, terms, numbers)?;
-    number_requests(alloc, &numbers, requests)
+/// A base, the terms of a block, which are in its dictionary, and their numbers.
+#[derive(Drop)]
+struct Based {
+    base: Base,
+    asked: Vec<Term>,
+    ids: Vec<Id>,
 }
 
-/// A base and a block at numbers, by the dictionary of the terms of the base and of the block's accepted requests. The base's terms have
-/// their numbers from the sort that makes the dictionary, into which they go, and the base is kept in the orders that the block can use. An
-/// error comes only where memory runs out.
-pub fn number<H: Hands>(
-    hands: &H,
+impl Based {
+    /// The base of a dataset and the terms of a block's accepted requests. The base's terms have their numbers from the sort that makes the
+    /// dictionary, into which they go, and the base is kept in the orders that the block can use.
+    fn new<H: Hands>(
+        hands: &H,
+        alloc: Global,
+        dataset: DataSet,
+        block: &Block,
+    ) -> Result<Based, AllocError>
+        requires { H.Ready }
+        ensures base { IfOk result (λ b. IsBaseOf dataset b.base) }
+        ensures held { IfOk result (λ b. list_all (request_known (is_held b.base.terms)) block.now
+            ≡ true) }
+    {
+        let orders = orders_for(alloc, block)?;
+        let terms = terms_of(alloc, block)?;
+        let asked = copies_of(alloc, terms.as_slice())?;
+        let (base, ids) = Base::new(hands, alloc, dataset, terms, &orders)?;
+        Ok(Based { base, asked, ids })
+    }
+
+    /// Slots that lead to the block's terms.
+    fn slots(&self, alloc: Global) -> Result<Vec<u32>, AllocError> {
+        slots_for(alloc, self.asked.as_slice(), self.ids.as_slice())
+    }
+
+    /// The base with these requests, and all else let go.
+    fn with(self, block: Result<Vec<Request<Id>>, AllocError>) -> Result<Numbered, AllocError>
+        ensures { IfOk result (λ n. (n.base ≡ self.base) × (block ≡ Ok n.block)) }
+    {
+        let Based { base, asked, ids } = self;
+        drop(asked);
+        drop(ids);
+        match block {
+            Ok(block) => Ok(Numbered { base, block }),
+            Err(error) => {
+                drop(base);
+                Err(error)
+            }
+        }
+    }
+}
+
+/// A base and a block at numbers, by the dictionary of the terms of the base and of the block's accepted requests. An error comes only where
+/// memory runs out.
+pub fn number(alloc: Global, dataset: DataSet, block: Block) -> Result<Numbered, AllocError>
+    ensures { IfOk result (λ n. IsNumbered dataset block n.base n.block.items) }
+{
+    let based = Based::new(&Alone, alloc, dataset, &block)?;
+    let slots = based.slots(alloc)?;
+    let terms = based.base.terms();
+    let numbered = number_part(alloc, terms, slots.as_slice(), block.into_vec());
+    based.with(numbered)
+}
+
+/// The same, put in order and numbered by several threads.
+pub fn number_by<T: Threads + Sync>(
+    rt: &T,
     alloc: Global,
     dataset: DataSet,
     block: Block,
+    threads: usize,
 ) -> Result<Numbered, AllocError>
-    requires { H.Ready }
     ensures { IfOk result (λ n. IsNumbered dataset block n.base n.block.items) }
 {
-    let orders = orders_for(alloc, &block)?;
-    let terms = terms_of(alloc, &block)?;
-    let asked = copies_of(alloc, terms.as_slice())?;
-    let made = Base::new(hands, alloc, dataset, terms, &orders);
-    drop(orders);
-    let (base, ids) = made?;
-    let numbered = number_block(alloc, base.terms(), asked.as_slice(), ids.as_slice(), block);
-    drop(asked);
-    drop(ids);
-    match numbered {
-        Ok(block) => Ok(Numbered { base, block }),
-        Err(error) => {
-            drop(base);
-            Err(error)
-        }
-    }
+    let based = Based::new(&Together::new(rt), alloc, dataset, &block)?;
+    let slots = based.slots(alloc)?;
+    let (terms, requests) = (based.base.terms(), block.into_vec());
+    let numbered = number_requests_by(rt, alloc, terms, slots.as_slice(), requests, threads);
+    based.with(numbered)
 }

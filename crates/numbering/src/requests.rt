@@ -2,6 +2,7 @@
 ghost use Rattle.std.specs.Prelude.{◌≡◌, true, map, IfOk};
 ghost use Rattle.std.specs.List.{list_all};
 ghost use Rattle.std.specs.Option.{option_map};
+ghost use Rattle.std.specs.Thread.{IsSync};
 ghost use Rattle.dict.specs.Dictionary.{term_of, is_known};
 ghost use Rattle.meaning_laws.specs.Renaming.{renamed_slot, renamed_template, renamed_target, renamed_graphs, renamed_operation, renamed_request, option_known, slot_known, graph_known, template_known, target_known, graphs_known, operation_known, request_known};
 ghost use Rattle.store.specs.Held.{is_held};
@@ -9,11 +10,13 @@ ghost use Rattle.store.specs.Held.{is_held};
 use crate::lookup::Numbers;
 use crate::plans::number_plan;
 use algebra::{GraphOperation, Modify, Operation, Pattern, QuadTemplate, Slot, Target};
-use dict::Id;
+use dict::{Dict, Id};
 use meaning::Request;
+use radix::place_for_last;
 use rules::Checked;
 use sets::Items;
 use std::alloc::{AllocError, Global};
+use std::thread::{Threads, join};
 use terms::Term;
 
 fn number_slot(numbers: &Numbers<'_>, slot: &Slot<Term>) -> Slot<Id>
@@ -206,5 +209,63 @@ pub(crate) fn number_requests(
     for request in requests {
         list.push(number_request(alloc, numbers, &request)?)?;
     }
+    Ok(list)
+}
+
+/// The same, by the dictionary and the slots that lead to its terms.
+pub(crate) fn number_part(
+    alloc: Global,
+    dict: &Dict,
+    slots: &[u32],
+    requests: Vec<Checked>,
+) -> Result<Vec<Request<Id>>, AllocError>
+    requires { list_all (request_known (is_held dict.now)) requests.items ≡ true }
+    ensures { IfOk result (λ list. (map (renamed_request (term_of dict.now)) list.items
+        ≡ requests.items)
+        × (list_all (request_known (is_known dict.now)) list.items ≡ true)) }
+{
+    let numbers = Numbers::new(dict, slots);
+    let list = number_requests(alloc, &numbers, requests)?;
+    Ok(list)
+}
+
+/// The same, by so many threads.
+pub(crate) fn number_requests_by<T: Threads + Sync>(
+    rt: &T,
+    alloc: Global,
+    dict: &Dict,
+    slots: &[u32],
+    mut requests: Vec<Checked>,
+    threads: usize,
+) -> Result<Vec<Request<Id>>, AllocError>
+    requires { list_all (request_known (is_held dict.now)) requests.items ≡ true }
+    ensures { IfOk result (λ list. (map (renamed_request (term_of dict.now)) list.items
+        ≡ requests.items)
+        × (list_all (request_known (is_known dict.now)) list.items ≡ true)) }
+{
+    if threads <= 1 {
+        return number_part(alloc, dict, slots, requests);
+    }
+    let last = requests.split_off(place_for_last(requests.len(), threads))?;
+    let others = threads - 1;
+    let (high, low) = join(
+        rt,
+        move || -> Result<Vec<Request<Id>>, AllocError>
+            requires { list_all (request_known (is_held dict.now)) last.items ≡ true }
+            ensures { IfOk result (λ list. (map (renamed_request (term_of dict.entry.now))
+                list.items ≡ last.items)
+                × (list_all (request_known (is_known dict.entry.now)) list.items ≡ true)) }
+        { number_part(alloc, dict, slots, last) },
+        move || -> Result<Vec<Request<Id>>, AllocError>
+            requires { IsSync T.row
+                × (list_all (request_known (is_held dict.now)) requests.items ≡ true) }
+            ensures { IfOk result (λ list. (map (renamed_request (term_of dict.entry.now))
+                list.items ≡ requests.items)
+                × (list_all (request_known (is_known dict.entry.now)) list.items ≡ true)) }
+        { number_requests_by(rt, alloc, dict, slots, requests, others) },
+    );
+    let mut list = low?;
+    let mut more = high?;
+    list.append(&mut more)?;
     Ok(list)
 }

@@ -9,7 +9,6 @@ use reads::{CompactView, View};
 use rules::{Block, split};
 use std::alloc::{AllocError, Global};
 use std::test::Fail;
-use store::Alone;
 use terms::{DataSet, Term};
 
 const BASE: &str = "<x:c> <x:b> <x:a> <x:d> .\n";
@@ -79,7 +78,7 @@ fn base(alloc: Global) -> Result<DataSet, BaseFault> {
 /// Whether the base comes to its numbers.
 fn comes_to_numbers(alloc: Global, block: Block) -> Result<bool, BaseFault> {
     let dataset = base(alloc)?;
-    let numbered = number(&Alone, alloc, dataset, block)?;
+    let numbered = number(alloc, dataset, block)?;
     let is_numbered = is_numbered(alloc, &numbered);
     let is_compacted = is_compacted(alloc, &numbered);
     drop(numbered);
@@ -89,7 +88,7 @@ fn comes_to_numbers(alloc: Global, block: Block) -> Result<bool, BaseFault> {
 // To numbers and back.
 fn back(alloc: Global, dataset: DataSet, block: Block) -> Result<DataSet, AllocError> {
     let _ = dataset.parts();
-    let numbered = number(&Alone, alloc, dataset, block)?;
+    let numbered = number(alloc, dataset, block)?;
     let dataset = numbered.base.dataset().compact(alloc)?;
     named(alloc, numbered.base.into_terms(), dataset)
 }
@@ -133,7 +132,7 @@ fn inserted(numbered: &Numbered) -> Option<Id> {
 fn numbered_insertion(alloc: Global, base: &str) -> Result<Numbered, Fail> {
     let block = split(alloc, INSERTION)?;
     let dataset = read_bytes(alloc, base.as_bytes())?;
-    Ok(number(&Alone, alloc, dataset, block)?)
+    Ok(number(alloc, dataset, block)?)
 }
 
 /// Whether the subject has its number, in a dictionary of so many terms.

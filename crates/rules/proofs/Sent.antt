@@ -1,4 +1,4 @@
--- A checked request may come from another thread.
+-- A request may come from another thread.
 use mathlib.Core.List.{[], ◌∷◌}
 use Prim.Native.Nat.{ℕ}
 use mir.Syntax.{Ty}
@@ -91,10 +91,10 @@ module _ (T : RattleType) (s : IsSend T) where
   operations : IsSend (Items.the_row (Operation.the_row T))
   operations = let o = operation in search (sendable, crosses) depth 20
 
-  request : IsSend (Result.the_row (Items.the_row (Operation.the_row T)) Refusal.the_row)
+  pub request : IsSend (Result.the_row (Items.the_row (Operation.the_row T)) Refusal.the_row)
   request = let o = operations in let r = refusal.the_field_send in search sendable depth 20
 
-checked : IsSend (Result.the_row (Items.the_row (Operation.the_row Term.the_row)) Refusal.the_row)
+pub checked : IsSend (Result.the_row (Items.the_row (Operation.the_row Term.the_row)) Refusal.the_row)
 checked = request Term.the_row term
 
 pub tried : IsSend (Result.the_row (Result.the_row (Items.the_row (Operation.the_row Term.the_row)) Refusal.the_row) AllocError.the_row)

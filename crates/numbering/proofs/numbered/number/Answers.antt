@@ -1,25 +1,25 @@
-use Rattle.std.proofs.Common.{ap, sym, ◌∙◌, List, map}
+use Rattle.std.proofs.Common.{◌≡◌, true, map, ap, sym, subst, ◌∙◌, List}
+use Rattle.std.specs.Global.{Vec}
 use Rattle.std.specs.List.{list_all}
+use Rattle.std.proofs.lemmas.Result.{IfOk-at_ok, IfOk-weaker}
 use Rattle.datasets.specs.declared.id.Id.{Id}
 use Rattle.terms.specs.declared.term.Term.{Term}
 use Rattle.dict.specs.Dictionary.{term_of, is_known}
 use Rattle.meaning.specs.Run.{Request}
 use Rattle.meaning_laws.specs.Renaming.{renamed_request, request_known}
-use Rattle.store.specs.Held.{is_held}
-use Rattle.numbering.proofs.Holding.{block_held}
+use Rattle.store.specs.Base.{Base, IsBaseOf}
 use Rattle.numbering.proofs.numbered.number.Goals as goal
 
-pub number_block-numbered-requires : goal.number_block-numbered-requires
-number_block-numbered-requires g c =
-    let held = is_held c.in_ok-base.base.terms in
-    ap (λ (ts : List Term). list_all (request_known (is_held ts)) c.args.block) c.terms.ensures
-    ∙ block_held held c.args.block (c.in_ok-terms.ensures held c.in_ok-base.ensures.held)
-
-pub returns-in-Ok : goal.returns-in-Ok
-returns-in-Ok g c =
-    let requests : List (Request Id) = c.in-Ok.block.items in
+pub returns : goal.returns
+returns c =
+    IfOk-weaker c.with.result _ _
+    (λ n h.
+    let base = ap (λ (b : Base). b.terms) (sym h.0) in
+    let terms = c.terms-terms.ensures in
+    let done = IfOk-at_ok (λ (list : Vec (Request Id)). (map (renamed_request (term_of c.terms-terms.result.now)) list.items ≡ c.into_vec.result.items) × (list_all (request_known (is_known c.terms-terms.result.now)) list.items ≡ true)) h.1 c.number_part-numbered.ensures in
     record {
-      base = c.in_ok-base.ensures.base;
-      block_is = ap (λ (ts : List Term). map (renamed_request (term_of ts)) requests) (sym c.terms.ensures) ∙ c.in-Ok.ensures.renamed;
-      block_known = ap (λ (ts : List Term). list_all (request_known (is_known ts)) requests) (sym c.terms.ensures) ∙ c.in-Ok.ensures.known;
-    }
+      base = subst (IsBaseOf c.args.dataset) (sym h.0) c.in_ok-based.ensures.base;
+      block_is = ap (λ (ts : List Term). map (renamed_request (term_of ts)) n.block.items) (sym (terms ∙ base)) ∙ done.0 ∙ c.into_vec.ensures;
+      block_known = ap (λ (ts : List Term). list_all (request_known (is_known ts)) n.block.items) (sym (terms ∙ base)) ∙ done.1;
+    })
+    c.with.ensures
