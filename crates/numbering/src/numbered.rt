@@ -21,6 +21,9 @@ use std::thread::Threads;
 use store::{Alone, Base, Hands, Together};
 use terms::{DataSet, Term};
 
+/// So many requests are worth a thread that numbers them.
+const WORTH_A_THREAD: usize = 64;
+
 /// A base and a block at numbers of terms, by the base's dictionary.
 #[derive(Drop)]
 pub struct Numbered {
@@ -110,7 +113,7 @@ pub fn number(alloc: Global, dataset: DataSet, block: Block) -> Result<Numbered,
     based.with(numbered)
 }
 
-/// The same, put in order and numbered by several threads.
+/// The same, put in order by several threads, and the requests numbered by so many, where there are enough of them.
 pub fn number_by<T: Threads + Sync>(
     rt: &T,
     alloc: Global,
@@ -123,6 +126,7 @@ pub fn number_by<T: Threads + Sync>(
     let based = Based::new(&Together::new(rt), alloc, dataset, &block)?;
     let slots = based.slots(alloc)?;
     let (terms, requests) = (based.base.terms(), block.into_vec());
+    let threads = threads.min(requests.len() / WORTH_A_THREAD + 1);
     let numbered = number_requests_by(rt, alloc, terms, slots.as_slice(), requests, threads);
     based.with(numbered)
 }

@@ -8,7 +8,14 @@ use Rattle.dict.specs.Dictionary.{term_of, is_known}
 use Rattle.meaning.specs.Run.{Request}
 use Rattle.meaning_laws.specs.Renaming.{renamed_request, request_known}
 use Rattle.store.specs.Base.{Base, IsBaseOf}
+use Rattle.store.specs.Held.{is_held}
 use Rattle.numbering.proofs.numbered.number_by.Goals as goal
+
+pub number_requests_by-numbered-requires-after_bounds : goal.number_requests_by-numbered-requires-after_bounds
+number_requests_by-numbered-requires-after_bounds g c κs within =
+    ap (λ (ts : List Term). list_all (request_known (is_held ts)) c.into_vec-requests.result.items) c.terms-terms.ensures
+    ∙ ap (λ (rs : List (Request Term)). list_all (request_known (is_held c.in_ok-based.based.base.terms)) rs) c.into_vec-requests.ensures
+    ∙ c.in_ok-based.ensures.held
 
 pub returns : goal.returns
 returns g c =
