@@ -2,7 +2,7 @@
 ghost use Rattle.std.specs.Prelude.{IsTrue};
 ghost use Rattle.update.specs.Asked.{AreShort, IsShort};
 
-use crate::numbers::{has_quads, numbered};
+use crate::numbers::{has_quads, numbered, numbered_by};
 use datasets::Id;
 use delta::Outcome;
 use meaning::{Refusal, Reply, Request};
@@ -10,6 +10,7 @@ use numbering::Numbered;
 use serial::run;
 use std::alloc::{AllocError, Global};
 use std::test::Fail;
+use std::thread::Threads;
 
 /// A block over a base, and what it comes to.
 struct Row {
@@ -173,6 +174,21 @@ fn numbered_rounds(alloc: Global) -> Result<Numbered, Fail> {
 #[test]
 fn changes_are_joined(rt: HostRuntime) -> Result<(), Fail> {
     let numbered = numbered_rounds(rt.alloc())?;
+    let is_joined = is_joined(rt.alloc(), &numbered);
+    drop(numbered);
+    assert!(rt; is_joined?);
+    Ok(())
+}
+
+// The same at numbers that threads find.
+fn rounds_by_threads<T: Threads + Sync>(rt: &T, alloc: Global) -> Result<Numbered, Fail> {
+    let block = rounds(alloc)?;
+    numbered_by(rt, alloc, block.as_str())
+}
+
+#[test]
+fn changes_numbered_by_threads_are_joined(rt: HostRuntime) -> Result<(), Fail> {
+    let numbered = rounds_by_threads(&rt, rt.alloc())?;
     let is_joined = is_joined(rt.alloc(), &numbered);
     drop(numbered);
     assert!(rt; is_joined?);

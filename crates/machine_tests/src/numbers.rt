@@ -144,9 +144,23 @@ fn by_one(alloc: Global, base: DataSet) -> Result<Numbered, Fail> {
     Ok(number(alloc, base, split(alloc, MOVED)?)?)
 }
 
-// The same by threads.
-fn by_threads<T: Threads + Sync>(rt: &T, alloc: Global, base: DataSet) -> Result<Numbered, Fail> {
-    Ok(number_by(rt, alloc, base, split(alloc, MOVED)?, 3)?)
+// A block at numbers, over a base that several threads put in order, by three threads where it has enough requests.
+fn by_threads<T: Threads + Sync>(
+    rt: &T,
+    alloc: Global,
+    base: DataSet,
+    block: &[u8],
+) -> Result<Numbered, Fail> {
+    Ok(number_by(rt, alloc, base, split(alloc, block)?, 3)?)
+}
+
+/// A block over no base, at numbers that threads find.
+pub fn numbered_by<T: Threads + Sync>(
+    rt: &T,
+    alloc: Global,
+    block: &str,
+) -> Result<Numbered, Fail> {
+    by_threads(rt, alloc, falling_base(alloc, 0)?, block.as_bytes())
 }
 
 // Whether a dataset is the same at other numbers.
@@ -187,7 +201,7 @@ fn is_numbered_alike<T: Threads + Sync>(
     one: &Numbered,
     quads: u32,
 ) -> Result<bool, Fail> {
-    let other = by_threads(rt, alloc, falling_base(alloc, quads)?)?;
+    let other = by_threads(rt, alloc, falling_base(alloc, quads)?, MOVED)?;
     let are_alike = are_alike(alloc, one, &other, quads as usize);
     drop(other);
     Ok(are_alike?)
