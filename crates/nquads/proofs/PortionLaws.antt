@@ -1,6 +1,6 @@
 -- Reading a text in portions of whole lines.
 use Rattle.std.specs.Prelude.{◌&&◌, IfOk, IfSome}
-use Rattle.std.proofs.Common.{◌≡◌, ◌+◌, ◌-◌, ◌<◌, ◌≤◌, ◌⊎◌, inl, inr, ℕ, Vec, Global, Bool, true, false, cond, eqb, List, [], ◌∷◌, ◌++◌, length, take, drop, get_or, Option, Some, None, Result, Ok, Err, refl, sym, ap, ◌∙◌, subst, arith, append_assoc, length-append}
+use Rattle.std.proofs.Common.{◌≡◌, ◌+◌, ◌-◌, ◌<◌, ◌≤◌, ◌⊎◌, inl, inr, ℕ, Vec, Box, Global, Bool, true, false, cond, eqb, List, [], ◌∷◌, ◌++◌, length, take, drop, get_or, Option, Some, None, Result, Ok, Err, refl, sym, ap, ◌∙◌, subst, arith, append_assoc, length-append}
 use Rattle.std.proofs.lemmas.List.{append-nil, drop_at, take-append-drop}
 use Rattle.std.proofs.lemmas.Bool.Decides.{leb_tells}
 use Rattle.std.proofs.lemmas.Str.{IsUtf8-nil}
@@ -18,13 +18,15 @@ use Rattle.nquads_lines.proofs.Ends.{lines_first}
 use Rattle.nquads.specs.declared.fault.BaseFault.{BaseFault}
 use Rattle.nquads.specs.declared.fault.BaseFault.TheVariants as fault
 use Rattle.nquads.specs.declared.reader.ReadText.{ReadText}
+use Rattle.nquads.specs.declared.pieces.ReadPieces.{ReadPieces}
+use Rattle.nquads.specs.declared.pieces.ReadPieces.TheVariants.{Only, Behind'}
 use Rattle.nquads.specs.declared.portions.PartlyRead.{PartlyRead}
 use Rattle.nquads.specs.Spelled.{AreLines, none, Spells, IsBad, IsFirstBad, IsFirstBadOf}
 use Rattle.nquads.specs.Pieces.{ArePieces}
 use Rattle.nquads.specs.Whole.{read_from, no_quads, ReadsText}
 use Rattle.nquads.specs.Long.{front_within, but_last, ended_lines, counted_lines, IsAnswer}
 use Rattle.nquads.specs.Checked.{first_bad, StopsAt}
-use Rattle.nquads.specs.Portions.{IsReadText, EndsWithLine, IsFrontRead, ends_of, IsPartlyRead, StopsBehind, StopsWithin}
+use Rattle.nquads.specs.Portions.{IsReadText, EndsWithLine, IsFrontRead, AreRead, IsBehind, ends_of, ends_in, IsPartlyRead, StopsBehind, StopsWithin}
 use Rattle.nquads.proofs.WholeLaws.{whole_found, no_bad_in}
 use Rattle.nquads.proofs.LongLaws.{first_bad_is, all_good, within, beyond, front_within-front}
 use Rattle.nquads.proofs.PieceLaws.{lines_before, are_both, in_parts, united_spelled}
@@ -61,6 +63,14 @@ few_ends text read is = let a : length (lines text) ≤ length text + 1 = few_li
 
 pub parts_length : (text first rest : List ℕ) → ArePieces text first rest → length text ≡ length first + length rest
 parts_length text first rest pieces = ap length pieces.2 ∙ length-append first rest
+
+pub few_in_pieces : (text : List ℕ) (pieces : ReadPieces) → AreRead text pieces → ends_in pieces ≤ length text
+few_in_pieces text (Only read) are = few_ends text read are
+few_in_pieces text (Behind' p first last) are =
+    let some : ends_in first ≤ length are.0 = few_in_pieces are.0 first are.3 in
+    let more : last.ends ≤ length are.1 = few_ends are.1 last are.4 in
+    let all : length text ≡ length are.0 + length are.1 = parts_length text are.0 are.1 are.2 in
+    omega arith
 
 -- the first bad line of a text is one of its lines
 pub bad_within : (text : List ℕ) (n : ℕ) → IsFirstBad text n → n ≤ length text + 1
@@ -134,6 +144,25 @@ pub then_reads : LinesAreRead → ListsUnite → (front later : ReadText) (r : R
     → IfOk r (λ both. (whole text : List ℕ) → IsFrontRead whole (Some front) → IsReadText text later → IsReadText (whole ++ text) both)
 then_reads read unite front later (Ok both) is = then_read read unite front later both is.0 is.1
 then_reads read unite front later (Err e) is = tt
+
+-- ---- pieces behind whole lines
+
+pub only_behind : (front : Option ReadText) (more : ReadText) (r : Result ReadText BaseFault)
+    → IfOk r (λ read. (whole text : List ℕ) → IsFrontRead whole front → IsReadText text more → IsReadText (whole ++ text) read) → IfOk r (λ read. read.ends ≡ ends_of front + more.ends)
+    → IfOk r (IsBehind front (Only more))
+only_behind front more (Ok read) said ends = record { said = λ whole text is are. said whole text is are; ends = ends }
+only_behind front more (Err e) said ends = tt
+
+pub last_behind : (p : Box (Unit {0}) Global) (front : Option ReadText) (first : ReadPieces) (last before : ReadText) (r : Result ReadText BaseFault) → IsBehind front first before
+    → IfOk r (λ read. (whole text : List ℕ) → IsFrontRead whole (Some before) → IsReadText text last → IsReadText (whole ++ text) read) → IfOk r (λ read. read.ends ≡ before.ends + last.ends)
+    → IfOk r (IsBehind front (Behind' p first last))
+last_behind p front first last before (Ok read) is said ends = record {
+  said = λ whole text front_is are.
+      let ended : EndsWithLine (whole ++ are.0) = (whole ++ are.2.0, ap (λ t. whole ++ t) are.2.1 ∙ sym (append_assoc whole are.2.0 (10 ∷ []))) in
+      subst (λ t. IsReadText t read) (append_assoc whole are.0 are.1 ∙ ap (λ t. whole ++ t) (sym are.2.2)) (said (whole ++ are.0) are.1 (ended, is.said whole are.0 front_is are.3) are.4);
+  ends = let some : before.ends ≡ ends_of front + ends_in first = is.ends in let all : read.ends ≡ before.ends + last.ends = ends in omega arith;
+}
+last_behind p front first last before (Err e) is said ends = tt
 
 -- ---- bad lines among others
 

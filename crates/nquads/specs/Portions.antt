@@ -5,7 +5,10 @@ use Rattle.nquads_lines.specs.Lines.{lines}
 use Rattle.nquads.specs.declared.fault.BaseFault.{BaseFault}
 use Rattle.nquads.specs.declared.fault.BaseFault.TheVariants as fault
 use Rattle.nquads.specs.declared.reader.ReadText.{ReadText}
+use Rattle.nquads.specs.declared.pieces.ReadPieces.{ReadPieces}
+use Rattle.nquads.specs.declared.pieces.ReadPieces.TheVariants.{Only, Behind'}
 use Rattle.nquads.specs.declared.portions.PartlyRead.{PartlyRead}
+use Rattle.nquads.specs.Pieces.{ArePieces}
 use Rattle.nquads_lines.specs.declared.stop.Line.{Line}
 use Rattle.nquads.specs.Spelled.{AreLines, Spells, IsFirstBad, IsFirstBadOf}
 use Rattle.nquads.specs.Long.{ended_lines}
@@ -19,6 +22,16 @@ pub record IsReadText (text : List ℕ) (read : ReadText) : Type 0 where
 abbrev pub EndsWithLine : List ℕ → Type 0
 EndsWithLine text = (front : List ℕ) × (text ≡ front ++ 10 ∷ [])
 
+-- the same of what was read in pieces, of which each but the last ends with an LF
+abbrev pub AreRead : List ℕ → ReadPieces → Type 0
+AreRead text (Only read) = IsReadText text read
+AreRead text (Behind' p first last) = (front rest : List ℕ) × ArePieces text front rest × AreRead front first × IsReadText rest last
+
+-- how many lines of all pieces have an end
+abbrev pub ends_in : ReadPieces → ℕ
+ends_in (Only read) = read.ends
+ends_in (Behind' p first last) = ends_in first + last.ends
+
 -- nothing, or whole lines and what they say
 abbrev pub IsFrontRead : List ℕ → Option ReadText → Type 0
 IsFrontRead front None = front ≡ []
@@ -28,6 +41,11 @@ IsFrontRead front (Some read) = EndsWithLine front × IsReadText front read
 abbrev pub ends_of : Option ReadText → ℕ
 ends_of None = 0
 ends_of (Some read) = read.ends
+
+-- what the lines say that were read, and behind them a text in pieces
+pub record IsBehind (front : Option ReadText) (pieces : ReadPieces) (read : ReadText) : Type 0 where
+  pub said : (lines text : List ℕ) → IsFrontRead lines front → AreRead text pieces → IsReadText (lines ++ text) read
+  pub ends : read.ends ≡ ends_of front + ends_in pieces
 
 -- of the bytes that a reader had left before, some came: first whole lines, which were read, and then others
 pub record IsPartlyRead (before now : Option (List ℕ)) (read : PartlyRead) : Type 0 where

@@ -1,24 +1,26 @@
 //! A text that is read in portions: once the lines of one are read, the next one comes.
-ghost use Rattle.std.specs.Prelude.{◌≡◌, ◌≤◌, ◌<◌, ◌+◌, ◌-◌, ◌^◌, ◌++◌, ℕ, List, false, length, drop, slice_index, IfOk, IfErr, IfSome, Option, Err, if◌then◌else◌};
+ghost use Rattle.std.specs.Prelude.{◌≡◌, ◌≤◌, ◌<◌, ◌+◌, ◌-◌, ◌^◌, ◌++◌, ℕ, List, false, length, drop, slice_index, IfOk, IfErr, IfSome, MatchOption, Option, Err, if◌then◌else◌};
+ghost use Rattle.std.specs.Thread.{IsSync};
+ghost use Rattle.devices.specs.Front.{IsFilled, is_device as is_unread};
 ghost use Rattle.nquads.specs.Long.{IsAnswer, front_within, is_device};
 ghost use Rattle.nquads.specs.Pieces.{ArePieces};
 ghost use Rattle.nquads.specs.declared.fault.BaseFault.TheVariants.{OutOfMemory};
-ghost use Rattle.nquads.specs.Portions.{IsReadText, IsFrontRead, IsPartlyRead, DidNotCome, StopsBehind, StopsWithin, ends_of};
+ghost use Rattle.nquads.specs.Portions.{AreRead, IsBehind, IsPartlyRead, DidNotCome, StopsBehind, StopsWithin, ends_of, ends_in};
 
 use crate::base::{MOST_BYTES, check_lines, ended_front};
 use crate::fault::BaseFault;
-use crate::pieces::{read_pieces, united};
+use crate::pieces::{ReadPieces, and_pieces, read_pieces};
 use crate::reader::{ReadText, read_counted};
-use devices::{Watched, fill};
+use devices::{ReadFault, Watched, fill};
 use nquads_lines::laws::lines_are_read;
 use std::alloc::Global;
 use std::io::Read;
-use std::thread::Threads;
+use std::thread::{Threads, join_mut};
 use terms::DataSet;
-use terms::laws::{lists_grow_as_datasets, lists_unite};
+use terms::laws::lists_grow_as_datasets;
 
-/// Terms are few where there are so many quads for each.
-const QUADS_OF_A_TERM: usize = 8;
+/// Terms are few where a piece has so many quads for each.
+const QUADS_OF_A_TERM: usize = 2;
 
 /// What has come of a text.
 #[derive(Drop)]
@@ -66,16 +68,16 @@ fn lines_before(front: &Option<ReadText>) -> usize
     }
 }
 
-/// Reads a text before which so many lines come, by so many threads.
+/// Reads a text before which so many lines come, in pieces by so many threads.
 fn read_text<T: Threads + Sync>(
     rt: &T,
     alloc: Global,
     text: &[u8],
     before: usize,
     threads: usize,
-) -> Result<ReadText, BaseFault>
+) -> Result<ReadPieces, BaseFault>
     requires { before + length text.now < 2 ^ 64 - 1 }
-    ensures ok { IfOk result (IsReadText text.now) }
+    ensures ok { IfOk result (AreRead text.now) }
     ensures err { IfErr result (StopsBehind before text.now) }
 {
     lines_are_read();
@@ -87,45 +89,32 @@ fn read_text<T: Threads + Sync>(
     }
     // The first bad line of a piece may not be that of the text, and one table may have room where several have not.
     match read_counted(alloc, text) {
-        Ok(read) => Ok(read),
+        Ok(read) => Ok(ReadPieces::Only(read)),
         Err(BaseFault::BadLine(number)) => Err(BaseFault::BadLine(before + number)),
         Err(fault) => Err(fault),
     }
 }
 
-/// The lines that were read, and these behind them.
-fn and_then<T: Threads + Sync>(
-    rt: &T,
-    front: Option<ReadText>,
-    more: ReadText,
-) -> Result<ReadText, BaseFault>
-    requires { ends_of front + more.ends < 2 ^ 64 }
-    ensures ok { IfOk result (λ read. (lines text : List ℕ) → IsFrontRead lines front
-        → IsReadText text more → IsReadText (lines ++ text) read) }
-    ensures ends { IfOk result (λ read. read.ends ≡ ends_of front + more.ends) }
-    ensures err { IfErr result (λ e. e ≡ OutOfMemory) }
-{
-    lines_are_read();
-    lists_unite();
-    match front {
-        Some(front) => united(rt, front, more),
-        None => Ok(more),
-    }
-}
-
 /// Whether lines say few terms for their quads.
-fn have_few_terms(read: &ReadText) -> bool {
+fn has_few_terms(read: &ReadText) -> bool {
     let parts = read.dataset.parts();
     parts.terms.len() <= parts.quads.len() / QUADS_OF_A_TERM
 }
 
-/// How many bytes come behind these lines. The terms that several threads read of a portion are put among those of the lines before it by one
+/// The same of the last of some pieces.
+fn have_few_terms(pieces: &ReadPieces) -> bool {
+    match pieces {
+        ReadPieces::Only(last) | ReadPieces::Behind(_, last) => has_few_terms(last),
+    }
+}
+
+/// How many bytes come behind these pieces. The terms that several threads read of a portion are put among those of the lines before it by one
 /// thread: where they are not few, all that is left comes at once.
-fn portion_behind(read: &ReadText, threads: usize, portion: usize) -> usize
+fn portion_behind(pieces: &ReadPieces, threads: usize, portion: usize) -> usize
     requires { portion < 2 ^ 32 }
     ensures { result < 2 ^ 32 }
 {
-    if threads <= 1 || have_few_terms(read) {
+    if threads <= 1 || have_few_terms(pieces) {
         portion
     } else {
         MOST_BYTES
@@ -177,6 +166,73 @@ fn begun_further<R: Read>(
     }
 }
 
+/// The lines that were read and these pieces behind them, put together by a thread of its own, while more bytes come.
+fn and_pieces_while_filled<T: Threads + Sync, R: Read>(
+    rt: &T,
+    reader: &mut Watched<R>,
+    bytes: &mut Vec<u8>,
+    limit: usize,
+    front: Option<ReadText>,
+    pieces: ReadPieces,
+) -> (Result<ReadText, BaseFault>, Result<bool, ReadFault>)
+    requires failures { reader.old.failures < 2 ^ 64 - 1 }
+    requires limit { limit < 2 ^ 63 }
+    requires ends { ends_of front + ends_in pieces < 2 ^ 64 }
+    ensures read { IfOk result.0 (IsBehind front pieces) }
+    ensures err { IfErr result.0 (λ e. e ≡ OutOfMemory) }
+    ensures filled { IfOk result.1 (IsFilled limit (R.remaining reader.old.inner)
+        (R.remaining reader.new.inner) bytes.old.items bytes.new.items) }
+    ensures count { reader.new.failures ≡ (if is_unread result.1 then reader.old.failures + 1
+        else reader.old.failures) }
+{
+    let mut given = Some((front, pieces));
+    join_mut(
+        rt,
+        &mut || -> Result<ReadText, BaseFault>
+            requires { IsSync T.row × MatchOption given ⊥
+                (λ g. ends_of g.0 + ends_in g.1 < 2 ^ 64) }
+            ensures { IfSome given.entry (λ g. IfOk result (IsBehind g.0 g.1)
+                × IfErr result (λ e. e ≡ OutOfMemory)) }
+        {
+            match given.take() {
+                Some((front, pieces)) => and_pieces(rt, front, pieces),
+                None => unreachable!(),
+            }
+        },
+        &mut || fill(reader, bytes, limit),
+    )
+}
+
+/// The same, while more bytes come where there are several threads, and else before they do.
+fn and_then_filled<T: Threads + Sync, R: Read>(
+    rt: &T,
+    reader: &mut Watched<R>,
+    bytes: &mut Vec<u8>,
+    limit: usize,
+    front: Option<ReadText>,
+    pieces: ReadPieces,
+    threads: usize,
+) -> Result<(ReadText, bool), BaseFault>
+    requires failures { reader.old.failures < 2 ^ 64 - 1 }
+    requires limit { limit < 2 ^ 63 }
+    requires ends { ends_of front + ends_in pieces < 2 ^ 64 }
+    ensures read { IfOk result (λ r. IsBehind front pieces r.0) }
+    ensures filled { IfOk result (λ r. IsFilled limit (R.remaining reader.old.inner)
+        (R.remaining reader.new.inner) bytes.old.items bytes.new.items r.1) }
+    ensures err { IfErr result DidNotCome }
+    ensures count { reader.new.failures ≡ (if is_device result then reader.old.failures + 1
+        else reader.old.failures) }
+{
+    let (read, filled) = if threads <= 1 {
+        (and_pieces(rt, front, pieces), fill(reader, bytes, limit))
+    } else {
+        and_pieces_while_filled(rt, reader, bytes, limit, front, pieces)
+    };
+    // Where the reader failed, that is told.
+    let is_all = filled?;
+    Ok((read?, is_all))
+}
+
 /// Reads the whole lines of what has come, and then more comes.
 fn read_further<T: Threads + Sync, R: Read>(
     rt: &T,
@@ -220,17 +276,16 @@ fn read_further<T: Threads + Sync, R: Read>(
         };
         return begun_further(reader, read, portion);
     };
-    let said = match read_text(rt, alloc, lines, lines_before(&front), threads) {
-        Ok(said) => said,
+    let pieces = match read_text(rt, alloc, lines, lines_before(&front), threads) {
+        Ok(pieces) => pieces,
         Err(fault) => return Err(fault),
     };
     let end = lines.len();
-    let front = and_then(rt, front, said)?;
     let mut rest = bytes_from(rest, end);
-    let limit = rest.len() + portion_behind(&front, threads, portion);
-    let is_all = fill(reader, &mut rest, limit)?;
+    let limit = rest.len() + portion_behind(&pieces, threads, portion);
+    let (read, is_all) = and_then_filled(rt, reader, &mut rest, limit, front, pieces, threads)?;
     Ok(PartlyRead {
-        front: Some(front),
+        front: Some(read),
         len: len + end,
         rest,
         is_all,
@@ -326,7 +381,7 @@ fn ended<T: Threads + Sync>(
         Ok(last) => last,
         Err(fault) => return Err(fault),
     };
-    let read = and_then(rt, front, last)?;
+    let read = and_pieces(rt, front, last)?;
     Ok(read.dataset)
 }
 

@@ -1,8 +1,5 @@
 use Rattle.std.proofs.Common.{◌+◌, ◌*◌}
-use Rattle.nquads.proofs.pieces.+fn-read_pieces-join+arg2+fn-read_pieces-join+arg3+read_pieces.Given as goal
-
-abbrev pub decreases-join+arg2 : goal.decreases-join+arg2
-decreases-join+arg2 g l = 3
+use Rattle.nquads.proofs.pieces.+fn-read_pieces-join+arg3+read_pieces.Given as goal
 
 abbrev pub decreases-join+arg3 : goal.decreases-join+arg3
 decreases-join+arg3 g l = 2 * l.others + 1
