@@ -22,7 +22,7 @@ pub record IsReadText (text : List ℕ) (read : ReadText) : Type 0 where
 abbrev pub EndsWithLine : List ℕ → Type 0
 EndsWithLine text = (front : List ℕ) × (text ≡ front ++ 10 ∷ [])
 
--- the same of what was read in pieces, of which each but the last ends with an LF
+-- what a text says that was read in pieces, each but the last ending with an LF, and how many of its lines have an end
 abbrev pub AreRead : List ℕ → ReadPieces → Type 0
 AreRead text (Only read) = IsReadText text read
 AreRead text (Behind' p first last) = (front rest : List ℕ) × ArePieces text front rest × AreRead front first × IsReadText rest last

@@ -117,6 +117,7 @@ fn read_piece(alloc: Global, bytes: &[u8]) -> Result<ReadText, BaseFault>
     read_counted(alloc, bytes)
 }
 
+/// The same, as one piece.
 fn read_whole(alloc: Global, bytes: &[u8]) -> Result<ReadPieces, BaseFault>
     ensures { IfOk result (AreRead bytes.now) }
 {
