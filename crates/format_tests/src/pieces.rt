@@ -22,7 +22,7 @@ const WAYS: [(usize, u32); 9] = [
     (3, 1000),
     (8, 1000),
     (8, 20),
-    (4, 368),
+    (2, 368),
 ];
 
 /// A reader that gives one byte of a text at a time.
@@ -35,7 +35,7 @@ fn slow(text: &[u8]) -> Watched<Slow<'_>>
     })
 }
 
-/// Sixteen quads of two terms, each of them twice, and three quads more. Several threads read the first sixteen lines, and then go on in portions.
+/// Sixteen quads of two terms, each of them twice, and three quads more. Two threads read the first sixteen lines, and then go on in portions.
 const FEW_TERMS: &str = "\
     <x:a> <x:a> <x:a> .\n\
     <x:a> <x:a> <x:b> .\n\
