@@ -159,13 +159,22 @@ fn front_of_others<'a, R: Wait>(
     Ok(went.then_some(front))
 }
 
+// Whether one worker goes through them alone.
+fn alone_goes_through(alloc: Global, topic: &Topic<'_>) -> Result<bool, AllocError>
+    requires { IsDataset topic.now.base }
+{
+    let (shared, pass) = opened_alone(alloc, topic)?;
+    let went = goes_through(alloc, &shared, topic, pass);
+    drop(shared);
+    Ok(went)
+}
+
 /// A block of two requests.
 pub const BLOCK: &str =
     "INSERT DATA { <x:a> <x:p> <x:b> }\n----\nINSERT DATA { <x:a> <x:p> <x:b> , <x:c> }";
 
-#[test]
-fn calls_that_never_wait(rt: HostRuntime) -> Result<(), Fail> {
-    let alloc = rt.alloc();
+// Whether one worker goes through the calls alone, and how many requests are committed as another sees it then.
+fn went_through<R: Wait>(rt: &R, alloc: Global) -> Result<(bool, Option<usize>), Fail> {
     let numbered = numbered(alloc, "", BLOCK)?;
     let base = IndexedView::new(alloc, View::new(alloc), &[])?;
     let topic = Topic {
@@ -173,9 +182,24 @@ fn calls_that_never_wait(rt: HostRuntime) -> Result<(), Fail> {
         base: &base,
         block: &numbered.block,
     };
-    let front = front_of_others(&rt, alloc, &topic);
+    let went = alone_goes_through(alloc, &topic);
+    let front = front_of_others(rt, alloc, &topic);
     drop(base);
     drop(numbered);
-    assert!(rt; front? == Some(1));
+    Ok((went?, front?))
+}
+
+// A caller alone is never told that the book is taken.
+#[test]
+fn calls_succeed(rt: HostRuntime) -> Result<(), Fail> {
+    let (went, _) = went_through(&rt, rt.alloc())?;
+    assert!(rt; went);
+    Ok(())
+}
+
+#[test]
+fn front_counts_others(rt: HostRuntime) -> Result<(), Fail> {
+    let (_, front) = went_through(&rt, rt.alloc())?;
+    assert!(rt; front == Some(1));
     Ok(())
 }
