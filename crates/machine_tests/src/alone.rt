@@ -4,6 +4,7 @@ ghost use Rattle.update.specs.Asked.{IsShort};
 ghost use Rattle.shared.specs.Calls.{IsSoundAt};
 ghost use Rattle.shared.specs.Duty.{IsPassFor};
 
+use crate::lines::{Told, told_by};
 use crate::numbers::request_at;
 use crate::topic::Topic;
 use block_machine::Reply;
@@ -98,22 +99,53 @@ pub fn executed<'a>(
     }
 }
 
-// Whether the run of incarnation 0 of a request is published.
-fn publishes<'a>(
+// What the publication of a run is told, or nothing where it made no event.
+fn told_of<'a>(
     alloc: Global,
     shared: &SharedBlock<'a>,
     topic: &Topic<'a>,
     pass: &mut Pass<'a>,
-    place: usize,
+    turn: (usize, u64),
     run: &Finished,
-) -> bool
+) -> Option<Told>
     requires pass { IsPassFor (record { table = shared.now; subject = topic.now }) pass.old }
-    requires sound { IsSoundAt topic.now place run.now }
+    requires sound { IsSoundAt topic.now turn.0 run.now }
     ensures { IsPassFor (record { table = shared.now; subject = topic.now }) pass.new }
 {
     let _terms = topic.terms;
-    let reply = shared.try_publish(alloc, pass, place, 0, run);
-    matches!(reply, Ok(Reply::Published))
+    let (place, incarnation) = turn;
+    match shared.try_publish(alloc, pass, place, incarnation, run) {
+        Ok(reply) => Some(told_by(&reply)),
+        Err(_) => None,
+    }
+}
+
+/// The pass that has run the request and published the run as that of each of these incarnations, if it was told so.
+pub fn published_as<'a>(
+    alloc: Global,
+    shared: &SharedBlock<'a>,
+    topic: &Topic<'a>,
+    pass: Pass<'a>,
+    place: usize,
+    calls: &[(u64, Told)],
+) -> Option<Pass<'a>>
+    requires { IsPassFor (record { table = shared.now; subject = topic.now }) pass }
+    ensures { IfSome result (IsPassFor (record { table = shared.now; subject = topic.now })) }
+{
+    let Some(request) = request_at(topic.block, place) else {
+        return None;
+    };
+    let (mut pass, run) = executed(alloc, shared, topic, pass, place, request);
+    let Some(run) = run else {
+        return None;
+    };
+    for (incarnation, told) in calls {
+        let turn = (place, *incarnation);
+        if told_of(alloc, shared, topic, &mut pass, turn, &run) != Some(*told) {
+            return None;
+        }
+    }
+    Some(pass)
 }
 
 /// The pass that has run incarnation 0 of the request and published the run, if it did.
@@ -127,16 +159,5 @@ pub fn published<'a>(
     requires { IsPassFor (record { table = shared.now; subject = topic.now }) pass }
     ensures { IfSome result (IsPassFor (record { table = shared.now; subject = topic.now })) }
 {
-    let Some(request) = request_at(topic.block, place) else {
-        return None;
-    };
-    let (mut pass, run) = executed(alloc, shared, topic, pass, place, request);
-    let Some(run) = run else {
-        return None;
-    };
-    if publishes(alloc, shared, topic, &mut pass, place, &run) {
-        Some(pass)
-    } else {
-        None
-    }
+    published_as(alloc, shared, topic, pass, place, &[(0, Told::Published)])
 }

@@ -3,11 +3,12 @@ ghost use Rattle.std.specs.Prelude.{◌≡◌, ◌+◌, ◌<◌, ◌≤◌, vec_
 ghost use Rattle.reads.specs.Reads.{IsDataset};
 ghost use Rattle.shared.specs.Duty.{IsPassFor};
 
-use crate::alone::published;
+use crate::alone::{published, published_as};
 use crate::lines::{Step, Told, told_by};
 use crate::numbers::numbered;
 use crate::topic::Topic;
 use block_machine::Reply;
+use numbering::Numbered;
 use reads::{IndexedView, View};
 use shared::{Pass, SharedBlock};
 use std::alloc::{AllocError, Global};
@@ -159,47 +160,79 @@ fn front_of_others<'a, R: Wait>(
     Ok(went.then_some(front))
 }
 
-// Whether one worker goes through them alone.
-fn alone_goes_through(alloc: Global, topic: &Topic<'_>) -> Result<bool, AllocError>
+// The same of one request by the events of a journal: it is given up once, a publication comes too late, and the next is committed.
+fn goes_by_journal<'a>(
+    alloc: Global,
+    shared: &SharedBlock<'a>,
+    topic: &Topic<'a>,
+    mut pass: Pass<'a>,
+) -> bool
+    requires { IsPassFor (record { table = shared.now; subject = topic.now }) pass }
+{
+    let before = [
+        (Step::Take(0), Told::Taken(0)),
+        (Step::GiveUp(0, 0), Told::Given),
+        (Step::Take(0), Told::Taken(1)),
+    ];
+    let publications = [(0, Told::Stale), (1, Told::Published)];
+    let after = [
+        (Step::Begin(0, 1), Told::Begun),
+        (Step::Commit(0), Told::Committed),
+    ];
+    if !are_told(alloc, shared, topic, &mut pass, &before) {
+        return false;
+    }
+    match published_as(alloc, shared, topic, pass, 0, &publications) {
+        Some(mut pass) => are_told(alloc, shared, topic, &mut pass, &after),
+        None => false,
+    }
+}
+
+// Whether one worker alone goes through these.
+fn alone_goes(alloc: Global, topic: &Topic<'_>) -> Result<bool, AllocError>
     requires { IsDataset topic.now.base }
 {
     let (shared, pass) = opened_alone(alloc, topic)?;
-    let went = goes_through(alloc, &shared, topic, pass);
+    let went = goes_by_journal(alloc, &shared, topic, pass);
     drop(shared);
     Ok(went)
+}
+
+// A numbered block over a base of its own.
+fn topic_of<'a>(numbered: &'a Numbered, base: &'a IndexedView) -> Topic<'a>
+    ensures { result.base ≡ base.now }
+{
+    Topic {
+        terms: numbered.base.terms(),
+        base,
+        block: &numbered.block,
+    }
+}
+
+#[test]
+fn calls_succeed(rt: HostRuntime) -> Result<(), Fail> {
+    let alloc = rt.alloc();
+    let numbered = numbered(alloc, "", "\n")?;
+    let base = IndexedView::new(alloc, View::new(alloc), &[])?;
+    let went = alone_goes(alloc, &topic_of(&numbered, &base));
+    drop(base);
+    drop(numbered);
+    assert!(rt; went?);
+    Ok(())
 }
 
 /// A block of two requests.
 pub const BLOCK: &str =
     "INSERT DATA { <x:a> <x:p> <x:b> }\n----\nINSERT DATA { <x:a> <x:p> <x:b> , <x:c> }";
 
-// Whether one worker goes through the calls alone, and how many requests are committed as another sees it then.
-fn went_through<R: Wait>(rt: &R, alloc: Global) -> Result<(bool, Option<usize>), Fail> {
-    let numbered = numbered(alloc, "", BLOCK)?;
-    let base = IndexedView::new(alloc, View::new(alloc), &[])?;
-    let topic = Topic {
-        terms: numbered.base.terms(),
-        base: &base,
-        block: &numbered.block,
-    };
-    let went = alone_goes_through(alloc, &topic);
-    let front = front_of_others(rt, alloc, &topic);
-    drop(base);
-    drop(numbered);
-    Ok((went?, front?))
-}
-
-// A caller alone is never told that the book is taken.
-#[test]
-fn calls_succeed(rt: HostRuntime) -> Result<(), Fail> {
-    let (went, _) = went_through(&rt, rt.alloc())?;
-    assert!(rt; went);
-    Ok(())
-}
-
 #[test]
 fn front_counts_others(rt: HostRuntime) -> Result<(), Fail> {
-    let (_, front) = went_through(&rt, rt.alloc())?;
-    assert!(rt; front == Some(1));
+    let alloc = rt.alloc();
+    let numbered = numbered(alloc, "", BLOCK)?;
+    let base = IndexedView::new(alloc, View::new(alloc), &[])?;
+    let front = front_of_others(&rt, alloc, &topic_of(&numbered, &base));
+    drop(base);
+    drop(numbered);
+    assert!(rt; front? == Some(1));
     Ok(())
 }
