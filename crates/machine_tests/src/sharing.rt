@@ -160,7 +160,8 @@ fn front_of_others<'a, R: Wait>(
     Ok(went.then_some(front))
 }
 
-// The same of one request by the events of a journal: it is given up once, a publication comes too late, and the next is committed.
+// The calls that never wait, by one worker, of a request that asks nothing: it is given up once, a publication comes too late, and the next
+// incarnation is committed.
 fn goes_by_journal<'a>(
     alloc: Global,
     shared: &SharedBlock<'a>,
@@ -188,7 +189,7 @@ fn goes_by_journal<'a>(
     }
 }
 
-// Whether one worker alone goes through these.
+// Whether a worker alone goes through them.
 fn alone_goes(alloc: Global, topic: &Topic<'_>) -> Result<bool, AllocError>
     requires { IsDataset topic.now.base }
 {
