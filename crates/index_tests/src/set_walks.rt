@@ -8,7 +8,7 @@ use quad_index::Order;
 use quad_lists::{BESIDE_SPOG, KnownQuad, QuadList, known_quads, known_set};
 use quad_sets::lists::merged;
 use quad_sets::{QuadSet, QuadSlice};
-use radix::{by_number, sample, set_by_number};
+use radix::{by_numbers, sample, set_by_numbers};
 use sets::set_of;
 use std::alloc::{AllocError, Global};
 
@@ -473,13 +473,13 @@ fn sets_are_lent_in_parts(rt: HostRuntime) -> Result<(), AllocError> {
 }
 
 // Whether the set of known quads is this one, by their numbers as objects and as subjects.
-fn is_set_by_number(
+fn is_set_by_numbers(
     alloc: Global,
     known: &[KnownQuad],
     set: &[KnownQuad],
 ) -> Result<bool, AllocError> {
-    let by_object = set_by_number(alloc, known, |quad: &KnownQuad| quad.object)?;
-    let by_subject = set_by_number(alloc, known, |quad: &KnownQuad| quad.subject)?;
+    let by_object = set_by_numbers(alloc, known, 1, |quad: &KnownQuad, _| quad.object)?;
+    let by_subject = set_by_numbers(alloc, known, 1, |quad: &KnownQuad, _| quad.subject)?;
     Ok(by_object.as_slice() == set && by_subject.as_slice() == set)
 }
 
@@ -487,7 +487,7 @@ fn is_set_by_number(
 fn has_known_set(alloc: Global, quads: &[Quad<Id>], count: usize) -> Result<bool, AllocError> {
     let known = known_of(alloc, quads)?;
     let set = known_set(Vec::from_slice(alloc, &known)?);
-    Ok(set.len() == count && is_set_by_number(alloc, &known, &set)?)
+    Ok(set.len() == count && is_set_by_numbers(alloc, &known, &set)?)
 }
 
 #[test]
@@ -504,7 +504,10 @@ fn vectors_come_to_sets(rt: HostRuntime) -> Result<(), AllocError> {
 fn a_list_is_put_by_numbers(rt: HostRuntime) -> Result<(), AllocError> {
     let alloc = rt.alloc();
     let list = Vec::from_slice(alloc, &[70_000u32, 5, u32::MAX, 5_000, 0, 70_000])?;
-    let put = by_number(alloc, list, |number: &u32| *number)?;
+    let put = by_numbers(alloc, list, 2, |number: &u32, key| match key {
+        0 => *number % 1_000,
+        _ => *number / 1_000,
+    })?;
     let wanted = [0u32, 5, 5_000, 70_000, 70_000, u32::MAX];
     assert!(rt; put.as_slice() == wanted.as_slice());
     Ok(())

@@ -10,7 +10,7 @@ use crate::key::Arrangement;
 use crate::known::KnownQuad;
 use crate::matching::matches;
 use datasets::{Id, QuadPattern};
-use radix::{is_set, set_by_number};
+use radix::{is_set, set_by_numbers};
 use sets::set_of;
 use std::alloc::{AllocError, Global};
 
@@ -43,7 +43,7 @@ fn set_from(
 {
     match arrangement {
         // Those with one predicate stand by object, graph and subject, so that by subject they are in order.
-        Arrangement::Pogs => set_by_number(alloc, known, |quad| quad.subject),
+        Arrangement::Pogs => set_by_numbers(alloc, known, 1, |quad, _| quad.subject),
         _ => Ok(set_of(Vec::from_slice(alloc, known)?)),
     }
 }
