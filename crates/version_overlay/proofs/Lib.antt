@@ -1,5 +1,6 @@
 pub mod Changing
 pub mod Generations
+pub mod LatestChanges
 pub mod Presences
 pub mod Scanning
 pub mod Speaking

@@ -1,7 +1,7 @@
 //! Reads with their answers, in little memory once the answers are not needed for now.
 ghost use Rattle.std.specs.Prelude.{◌≡◌, ◌↔◌, IsTrue, IfOk, IfSome};
 ghost use Rattle.quad_lists.specs.Known.{quad_of};
-ghost use Rattle.reads.specs.Presence.{presence};
+ghost use Rattle.reads.specs.Presence.{presence, scan_for as the_scan_for};
 ghost use Rattle.reads.specs.Reads.{says};
 ghost use Rattle.version_overlay.specs.LeanNote.{note_of};
 ghost use Rattle.version_overlay.specs.Settled.{changed_by};
@@ -53,6 +53,16 @@ fn is_presence(
         return Ok(same_bool(told, there));
     }
     Ok(presence_answer(alloc, quad, there)?.is_same(answer))
+}
+
+// Whether a read is the scan for this quad.
+fn is_scan_for(quad: &KnownQuad, read: &Read<Id>) -> bool
+    ensures { IsTrue result ↔ (read.now ≡ the_scan_for (quad_of quad.now)) }
+{
+    match quad_scanned(read) {
+        Some(asked) => asked == *quad,
+        None => same_reads(read, &scan_for(quad.to_quad())),
+    }
 }
 
 // The quad that the read asks for alone, and whether it was there: if it asks for one, of known terms, and the answer tells that.
@@ -138,11 +148,21 @@ impl<'a> LeanNote<'a> {
         }
     }
 
+    // Whether this is the read.
+    fn is_read(&self, read: &Read<Id>) -> bool
+        ensures { IsTrue result ↔ (read.now ≡ self.now.read) }
+    {
+        match &self.form {
+            Form::Presence(quad, _) => is_scan_for(quad, read),
+            Form::Whole(note) => same_reads(read, note.read()),
+        }
+    }
+
     /// Whether this is the read with the answer.
     pub fn is_note(&self, alloc: Global, note: &Note) -> Result<bool, AllocError>
         ensures { IfOk result (λ same. IsTrue same ↔ (note.now ≡ self.now)) }
     {
-        if !same_reads(&note.read, &self.read()) {
+        if !self.is_read(&note.read) {
             return Ok(false);
         }
         self.is_answer(alloc, &note.answer)

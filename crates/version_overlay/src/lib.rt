@@ -8,6 +8,7 @@
 pub mod along;
 mod filters;
 mod generation;
+mod latest;
 mod lean_note;
 mod level;
 mod settled;

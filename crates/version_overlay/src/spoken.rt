@@ -1,29 +1,37 @@
 //! Which requests may have spoken of what a read asks for, found without a look at all of them.
 //!
-//! There are two generations. Requests speak in the current one; an older one is dropped whole, once all its requests are settled, and the
-//! current one takes its place. So what is kept is of the requests that aren't settled, and of about as many more.
+//! The latest changes are kept as they are. Once they are many, what they speak of is put into the current one of two generations; the older one
+//! is dropped whole, once all its requests are settled, and the current one takes its place. So what is kept is of the requests that aren't
+//! settled, and of about as many more.
 ghost use Rattle.std.specs.Prelude.{◌≡◌, ◌≤◌, ◌==◌, ℕ, true, false, IfOk, OnOk};
 ghost use Rattle.std.specs.List.{list_any};
 ghost use Rattle.reads.specs.Reads.{Read as Asked, covers};
 ghost use Rattle.version_overlay.specs.Generation.{IsKept};
+ghost use Rattle.version_overlay.specs.Latest.{AreSeen};
 
 use crate::filters::put_all;
 use crate::generation::Generation;
+use crate::latest::{Latest, keep_from, push_latest, put_each};
 use datasets::{Id, Read};
 use delta::Delta;
 use quad_hints::SeenQuads;
 use quad_index::OrderSet;
 use std::alloc::{AllocError, Global};
 
-/// Which requests may have spoken of what. A filter stands before the generations, made once for all of them.
+/// So many changes are kept as they are.
+const LATEST: usize = 16;
+
+/// Which requests may have spoken of what. A filter stands before all, made once.
 #[derive(Drop)]
 pub struct Spoken {
     orders: OrderSet,
     seen: SeenQuads,
     older: Generation,
     current: Generation,
+    latest: Vec<Latest>,
     ghost older_kept: { IsKept seen older },
     ghost current_kept: { IsKept seen current },
+    ghost latest_kept: { AreSeen seen latest.items },
 }
 
 impl Spoken {
@@ -39,6 +47,7 @@ impl Spoken {
             seen: SeenQuads::new(alloc),
             older: Generation::new(alloc, orders),
             current: Generation::new(alloc, orders),
+            latest: Vec::new(alloc),
         }
     }
 
@@ -50,7 +59,24 @@ impl Spoken {
             → speaks self.new read j ≡ true }
     {
         put_all(&mut self.seen, delta)?;
-        self.current.put(alloc, delta, request)
+        self.make_room(alloc)?;
+        let delta = delta.copied(alloc)?;
+        self.latest.push(Latest { request, delta })?;
+        Ok(())
+    }
+
+    // Where the latest are many, what they speak of is put into the current generation.
+    fn make_room(&mut self, alloc: Global) -> Result<(), AllocError>
+        ensures seen { self.new.seen ≡ self.old.seen }
+        ensures kept { (read : Asked) (j : ℕ) → speaks self.old read j ≡ true
+            → speaks self.new read j ≡ true }
+    {
+        if self.latest.len() < LATEST {
+            return Ok(());
+        }
+        put_each(alloc, &mut self.current, self.latest.as_slice())?;
+        self.latest.clear();
+        Ok(())
     }
 
     /// Whether a request may have spoken of what the read asks for. It is a look at the filter, and takes no memory.
@@ -74,6 +100,7 @@ impl Spoken {
         }
         let mut found = self.older.requests(alloc, read)?;
         found.append(&mut self.current.requests(alloc, read)?)?;
+        push_latest(&mut found, self.latest.as_slice(), read)?;
         Ok(found)
     }
 
@@ -82,6 +109,7 @@ impl Spoken {
         ensures { (read : Asked) (j : ℕ) → low ≤ j → speaks self.old read j ≡ true
             → speaks self.new read j ≡ true }
     {
+        keep_from(&mut self.latest, low);
         self.drop_older_below(alloc, low);
         self.drop_older_below(alloc, low);
     }

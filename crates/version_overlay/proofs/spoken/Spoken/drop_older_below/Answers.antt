@@ -8,4 +8,4 @@ pub invariant_of-self : goal.invariant_of-self
 invariant_of-self c =
     let seen = c.args.self.now.seen in
     let kept : Generation → Type 0 = λ g. IsKept seen g in
-    record { older_kept = subst kept (sym c.replace.ensures.value) c.args.self.now.current_kept; current_kept = subst kept (sym c.replace.ensures.after) (kept_by_none seen c.new-next.result c.new-next.ensures) }
+    record { older_kept = subst kept (sym c.replace.ensures.value) c.args.self.now.current_kept; current_kept = subst kept (sym c.replace.ensures.after) (kept_by_none seen c.new-next.result c.new-next.ensures); latest_kept = c.args.self.now.latest_kept }
