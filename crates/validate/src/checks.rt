@@ -90,6 +90,10 @@ pub fn check_list(
     ensures { IfOk result (λ verdict. ListVerdict (shown kept.now.slots.items) i note.now.note.read
         (whole kept.now.slots.items note.now).touching verdict) }
 {
+    // All lower requests were settled when it was made.
+    if i <= note.low && note.touching.is_empty() {
+        return Ok(Verdict::Same);
+    }
     let read = &note.note.read();
     let along = candidates_for(alloc, kept, note.low, i, read)?;
     if let Some(j) = blocker(kept, note.low, &along, i, read) {
