@@ -75,4 +75,4 @@ keeps_front slots front latest standings k i still s same first can after is one
 pub asked_keeps : (base : View) (old new : List Slot) (front latest : ℕ) (standings : List Standing) (i : ℕ) (read : Read) (found : Asked) → IsAsked base old new i read found → KeepsBeside old front latest standings → is_closed (status_of old i) ≡ false
     → KeepsBeside new front latest standings
 asked_keeps base old new front latest standings i read (asked.Blocked j) h k still = subst (λ s. KeepsBeside s front latest standings) (sym h.1) k
-asked_keeps base old new front latest standings i read (asked.Answered a again) h k still = keeps_stand old front latest standings k i still _ new h.1.1 refl
+asked_keeps base old new front latest standings i read (asked.Answered a) h k still = keeps_stand old front latest standings k i still _ new h.1 refl

@@ -2,7 +2,7 @@
 ghost use Rattle.std.specs.Prelude.{◌≡◌, ◌<◌, ◌≤◌, ◌+◌, ◌^◌, ℕ, length, map, nat_le, slice_get, Some, None, IfSome, true, false, IsTrue, IfOk, OnOk, OnErr, option_copied};
 ghost use Rattle.reads.specs.Reads.{View as Base};
 ghost use Rattle.incarnations.specs.Kept.{kept_note_of};
-ghost use Rattle.incarnations.specs.Statuses.{stands_after, is_closed as closed, IsPlain};
+ghost use Rattle.incarnations.specs.Statuses.{stands_after, is_closed as closed, IsPlain, IsTold};
 ghost use Rattle.incarnations.specs.Slots.{Noted as Described, transcript_of};
 ghost use Rattle.validate.specs.Below.{view_at, slot_at};
 ghost use Rattle.validate.specs.Verdicts.{NoteVerdict};
@@ -159,8 +159,7 @@ impl<'a> Machine<'a> {
         self.slots.replies(alloc, self.front)
     }
 
-    /// One event of a worker, with what its read says of the base, and with its reply twice: to keep, and to tell. A check compares touching
-    /// lists. It takes memory before it changes anything.
+    /// One event of a worker, with what its read says of the base. A check compares touching lists. It takes memory before it changes anything.
     pub fn step(
         &mut self,
         alloc: Global,
@@ -168,30 +167,25 @@ impl<'a> Machine<'a> {
         worker: u32,
         event: &Event,
         scans: &[Scanned<'_>],
-    ) -> Result<(Reply, Reply), AllocError>
+    ) -> Result<Reply, AllocError>
         requires ready { IsReady base.now self.old }
         requires scans { scans.now ≡ questions_of base.now event.now }
-        ensures same { IfOk result (λ replies. replies.1 ≡ replies.0) }
-        ensures allowed { IfOk result (λ replies. IsAllowed base.now self.old worker event.now
-            replies.0) }
-        ensures changed { IfOk result (λ replies. self.new
-            ≡ after self.old worker event.now replies.0) }
+        ensures told { IfOk result (IsTold event.now) }
+        ensures allowed { IfOk result (λ reply. IsAllowed base.now self.old worker event.now reply) }
+        ensures changed { IfOk result (λ reply. self.new
+            ≡ after self.old worker event.now reply) }
         ensures err { OnErr result (self.new ≡ self.old) }
     {
         match event {
-            Event::Take(i) => Ok(twice(self.take(worker, *i))),
+            Event::Take(i) => Ok(self.take(worker, *i)),
             Event::Read(i, n, _) => self.read(alloc, base, &scans[0], worker, *i, *n),
             Event::Publish(i, n, finished) => {
-                let reply = self.publish(alloc, worker, *i, *n, finished.as_ref())?;
-                Ok(twice(reply))
+                self.publish(alloc, worker, *i, *n, finished.as_ref())
             }
-            Event::Begin(i, n) => Ok(twice(self.begin(worker, *i, *n))),
-            Event::Check(i, n) => {
-                let reply = self.check(alloc, base, worker, *i, *n, false)?;
-                Ok(twice(reply))
-            }
-            Event::Commit(i) => Ok(twice(self.commit(worker, *i))),
-            Event::GiveUp(i, n) => Ok(twice(self.give_up(worker, *i, *n))),
+            Event::Begin(i, n) => Ok(self.begin(worker, *i, *n)),
+            Event::Check(i, n) => self.check(alloc, base, worker, *i, *n, false),
+            Event::Commit(i) => Ok(self.commit(worker, *i)),
+            Event::GiveUp(i, n) => Ok(self.give_up(worker, *i, *n)),
         }
     }
 
@@ -236,27 +230,24 @@ impl<'a> Machine<'a> {
         worker: u32,
         i: usize,
         n: u64,
-    ) -> Result<(Reply, Reply), AllocError>
+    ) -> Result<Reply, AllocError>
         requires { scanned.now.dataset ≡ base.now }
-        ensures same { IfOk result (λ replies. replies.1 ≡ replies.0) }
-        ensures allowed { IfOk result (λ replies. IsAllowed scanned.now.dataset self.old worker
-            (Event.Read i n scanned.now.read) replies.0) }
-        ensures changed { IfOk result (λ replies. self.new
-            ≡ after self.old worker (Event.Read i n scanned.now.read) replies.0) }
+        ensures allowed { IfOk result (λ reply. IsAllowed scanned.now.dataset self.old worker
+            (Event.Read i n scanned.now.read) reply) }
+        ensures changed { IfOk result (λ reply. self.new
+            ≡ after self.old worker (Event.Read i n scanned.now.read) reply) }
         ensures err { OnErr result (self.new ≡ self.old) }
     {
         let status = self.slots.status(i);
         if let Some(refusal) = incarnations::refused_execution(status, n, worker) {
-            return Ok(twice(refusal));
+            return Ok(refusal);
         }
         self.slots.settle(alloc, self.front)?;
         let asked = scanned.read();
         self.slots.put_in_order(alloc, asked);
         match self.slots.read(alloc, base, scanned, i)? {
-            Asked::Blocked(j) => Ok((Reply::Blocked(j), Reply::Blocked(j))),
-            Asked::Answered(answer, again) => {
-                Ok((Reply::Answered(answer), Reply::Answered(again)))
-            }
+            Asked::Blocked(j) => Ok(Reply::Blocked(j)),
+            Asked::Answered(answer) => Ok(Reply::Answered(answer)),
         }
     }
 
@@ -331,8 +322,8 @@ impl<'a> Machine<'a> {
         Reply::Begun
     }
 
-    /// A check whose reply is chosen: where both `Passed` and `Aborted` are lawful it is the one that `passed` says. The reply comes twice: to
-    /// keep, and to tell. It takes memory before it changes anything.
+    /// A check whose reply is chosen: where both `Passed` and `Aborted` are lawful it is the one that `passed` says. It takes memory before it
+    /// changes anything.
     pub fn check_as(
         &mut self,
         alloc: Global,
@@ -341,19 +332,18 @@ impl<'a> Machine<'a> {
         i: usize,
         n: u64,
         passed: bool,
-    ) -> Result<(Reply, Reply), AllocError>
+    ) -> Result<Reply, AllocError>
         requires { IsReady base.now self.old }
-        ensures same { IfOk result (λ replies. replies.1 ≡ replies.0) }
-        ensures wanted { IfOk result (λ replies. IsAllowed base.now self.old worker
-            (Event.Check i n) (wanted_reply passed) → replies.0 ≡ wanted_reply passed) }
-        ensures allowed { IfOk result (λ replies. IsAllowed base.now self.old worker
-            (Event.Check i n) replies.0) }
-        ensures changed { IfOk result (λ replies. self.new
-            ≡ after self.old worker (Event.Check i n) replies.0) }
+        ensures plain { IfOk result IsPlain }
+        ensures wanted { IfOk result (λ reply. IsAllowed base.now self.old worker (Event.Check i n)
+            (wanted_reply passed) → reply ≡ wanted_reply passed) }
+        ensures allowed { IfOk result (λ reply. IsAllowed base.now self.old worker (Event.Check i n)
+            reply) }
+        ensures changed { IfOk result (λ reply. self.new
+            ≡ after self.old worker (Event.Check i n) reply) }
         ensures err { OnErr result (self.new ≡ self.old) }
     {
-        let reply = self.check(alloc, base, worker, i, n, passed)?;
-        Ok(twice(reply))
+        self.check(alloc, base, worker, i, n, passed)
     }
 
     /// Checks the next note, unless an estimate blocks. If `passed` is wanted it compares the noted answer with what it would be now: `Passed`
@@ -498,27 +488,4 @@ fn settled_view(
             Err(error)
         }
     }
-}
-
-// A reply that is no answer, twice. It takes no memory.
-fn twice(reply: Reply) -> (Reply, Reply)
-    requires { IsPlain reply }
-    ensures first { result.0 ≡ reply }
-    ensures second { result.1 ≡ reply }
-{
-    let again = match &reply {
-        Reply::Taken(n) => Reply::Taken(*n),
-        Reply::Answered(_) => unreachable!(),
-        Reply::Blocked(j) => Reply::Blocked(*j),
-        Reply::Published => Reply::Published,
-        Reply::Begun => Reply::Begun,
-        Reply::Passed => Reply::Passed,
-        Reply::Aborted => Reply::Aborted,
-        Reply::Committed => Reply::Committed,
-        Reply::Given => Reply::Given,
-        Reply::Stale => Reply::Stale,
-        Reply::NotYours => Reply::NotYours,
-        Reply::NotYet => Reply::NotYet,
-    };
-    (reply, again)
 }

@@ -103,11 +103,11 @@ impl<'a> Book<'a> {
         history_goes_on();
         self.journal.reserve(1)?;
         let room = room(alloc, self.spare.take())?;
-        let (reply, told) = self.machine.step(alloc, self.base, worker, &event, scans)?;
-        let (packed, spare) = PackedEntry::new(worker, event, reply, room);
+        let reply = self.machine.step(alloc, self.base, worker, &event, scans)?;
+        let (packed, spare) = PackedEntry::new(worker, event, &reply, room);
         self.spare = spare;
         match self.journal.push(packed) {
-            Ok(()) => Ok(told),
+            Ok(()) => Ok(reply),
             Err(_) => unreachable!(),
         }
     }
@@ -175,13 +175,13 @@ impl<'a> Book<'a> {
         history_goes_on();
         self.journal.reserve(1)?;
         let room = room(alloc, self.spare.take())?;
-        let (reply, told) = self
+        let reply = self
             .machine
             .check_as(alloc, self.base, worker, i, n, passed)?;
-        let (packed, spare) = PackedEntry::new(worker, Event::Check(i, n), reply, room);
+        let (packed, spare) = PackedEntry::new(worker, Event::Check(i, n), &reply, room);
         self.spare = spare;
         match self.journal.push(packed) {
-            Ok(()) => Ok(told),
+            Ok(()) => Ok(reply),
             Err(_) => unreachable!(),
         }
     }

@@ -1,5 +1,6 @@
 //! Copies of what a journal keeps.
 ghost use Rattle.std.specs.Prelude.{◌≡◌, IfOk};
+ghost use Rattle.incarnations.specs.Statuses.{IsPlain};
 ghost use Rattle.book.specs.Run.{kept};
 
 use block_machine::{Event, Reply};
@@ -34,5 +35,26 @@ pub fn kept_event(event: Event, reply: &Reply) -> Event
             _ => Event::Publish(i, n, None),
         },
         other => other,
+    }
+}
+
+/// A reply that is no answer again. It takes no memory.
+pub(crate) fn again(reply: &Reply) -> Reply
+    requires { IsPlain reply.now }
+    ensures { result ≡ reply.now }
+{
+    match reply {
+        Reply::Taken(n) => Reply::Taken(*n),
+        Reply::Answered(_) => unreachable!(),
+        Reply::Blocked(j) => Reply::Blocked(*j),
+        Reply::Published => Reply::Published,
+        Reply::Begun => Reply::Begun,
+        Reply::Passed => Reply::Passed,
+        Reply::Aborted => Reply::Aborted,
+        Reply::Committed => Reply::Committed,
+        Reply::Given => Reply::Given,
+        Reply::Stale => Reply::Stale,
+        Reply::NotYours => Reply::NotYours,
+        Reply::NotYet => Reply::NotYet,
     }
 }

@@ -1,8 +1,10 @@
 //! What a journal keeps of each answered event.
 ghost use Rattle.std.specs.Prelude.{◌≡◌};
+ghost use Rattle.incarnations.specs.Statuses.{IsPlain, IsTold};
 ghost use Rattle.book.specs.JournalEntry.{count_of, kept_of, journal_entry_of};
 
-use block_machine::{Entry, Event, Reply};
+use crate::copies::again;
+use block_machine::{Event, Reply};
 use datasets::{Id, Read};
 use delta::{Delta, Finished};
 use reads::Answered;
@@ -43,39 +45,36 @@ pub fn count(answer: &Answered) -> u64
 }
 
 // What is kept of a read.
-fn kept_read(i: usize, n: u64, read: Read<Id>, reply: Reply) -> Kept
-    ensures { result ≡ kept_of (Event.Read i n read) reply }
+fn kept_read(i: usize, n: u64, read: Read<Id>, reply: &Reply) -> Kept
+    ensures { result ≡ kept_of (Event.Read i n read) reply.now }
 {
     match reply {
-        Reply::Answered(answer) => Kept::Answered(i, n, read, count(&answer)),
-        other => Kept::Other(Event::Read(i, n, read), other),
+        Reply::Answered(answer) => Kept::Answered(i, n, read, count(answer)),
+        other => Kept::Other(Event::Read(i, n, read), again(other)),
     }
 }
 
 // What is kept of a publication.
-fn kept_publication(i: usize, n: u64, finished: Finished, reply: Reply) -> Kept
-    ensures { result ≡ kept_of (Event.Publish i n (Some finished)) reply }
+fn kept_publication(i: usize, n: u64, finished: Finished, reply: &Reply) -> Kept
+    requires { IsPlain reply.now }
+    ensures { result ≡ kept_of (Event.Publish i n (Some finished)) reply.now }
 {
     match reply {
         Reply::Published => Kept::Published(i, n, finished.delta, finished.reply),
-        other => Kept::Other(Event::Publish(i, n, Some(finished)), other),
+        other => Kept::Other(Event::Publish(i, n, Some(finished)), again(other)),
     }
 }
 
 impl JournalEntry {
-    /// What a journal keeps of an answered event.
-    pub fn new(entry: Entry) -> JournalEntry
-        ensures { result ≡ journal_entry_of entry }
+    /// What a journal keeps of a worker's event that was answered so.
+    pub fn new(worker: u32, event: Event, reply: &Reply) -> JournalEntry
+        requires { IsTold event reply.now }
+        ensures { result ≡ journal_entry_of (record { worker = worker; event = event; reply = reply.now }) }
     {
-        let Entry {
-            worker,
-            event,
-            reply,
-        } = entry;
         let kept = match event {
             Event::Read(i, n, read) => kept_read(i, n, read, reply),
             Event::Publish(i, n, Some(finished)) => kept_publication(i, n, finished, reply),
-            other => Kept::Other(other, reply),
+            other => Kept::Other(other, again(reply)),
         };
         JournalEntry { worker, kept }
     }

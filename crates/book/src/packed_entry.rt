@@ -1,12 +1,13 @@
 //! Entries of a journal in little memory.
 ghost use Rattle.std.specs.Prelude.{◌≡◌, IfSome};
+ghost use Rattle.incarnations.specs.Statuses.{IsTold};
 ghost use Rattle.book.specs.JournalEntry.{journal_entry_of};
 ghost use Rattle.book.specs.PackedEntry.{count_if, entry_of, kept_shown};
 ghost use Rattle.book.specs.Run.{kept};
 
 use crate::copies::kept_event;
 use crate::journal_entry::{JournalEntry, Kept, count};
-use block_machine::{Entry, Event, Reply};
+use block_machine::{Event, Reply};
 use datasets::{Id, Read};
 use quad_lists::KnownQuad;
 use reads::presence::{quad_scanned, scan_for};
@@ -112,7 +113,9 @@ fn packed_answer(worker: u32, i: usize, n: u64, read: &Read<Id>, count: u64) -> 
     })
 }
 
-// An answered event in little memory: the answer to a read, or a step of a request that was not refused.
+// An answered event in little memory: the answer to a read, or a step of a request that was not refused. It looks at the event where that
+// lies: an event that is passed on as it is gets taken apart and put together again at each call.
+#[inline(never)]
 fn packed(worker: u32, event: &Event, reply: &Reply) -> Option<Form>
     ensures { IfSome result (λ form. entry_of form
         ≡ journal_entry_of (record { worker = worker; event = kept event.now reply.now; reply = reply.now })) }
@@ -146,31 +149,37 @@ fn packed(worker: u32, event: &Event, reply: &Reply) -> Option<Form>
 
 impl PackedEntry {
     /// What a journal keeps of a worker's event under this reply, and the room that it does not need. An event of the many is not moved.
+    #[inline(always)]
     pub(crate) fn new(
         worker: u32,
         event: Event,
-        reply: Reply,
+        reply: &Reply,
         room: Box<JournalEntry>,
     ) -> (PackedEntry, Option<Box<JournalEntry>>)
+        requires { IsTold event reply.now }
         ensures { result.0 ≡ journal_entry_of (record {
           worker = worker;
           event =
-              kept event reply;
-          reply = reply;
+              kept event reply.now;
+          reply = reply.now;
         }) }
     {
-        if let Some(form) = packed(worker, &event, &reply) {
-            return (PackedEntry { form }, Some(room));
+        match packed(worker, &event, reply) {
+            Some(form) => (PackedEntry { form }, Some(room)),
+            None => (PackedEntry::whole(worker, event, reply, room), None),
         }
-        let event = kept_event(event, &reply);
-        let mut room = room;
-        *room = JournalEntry::new(Entry {
-            worker,
-            event,
-            reply,
-        });
+    }
+
+    // The same, of any event, in this room.
+    #[inline(never)]
+    fn whole(worker: u32, event: Event, reply: &Reply, mut room: Box<JournalEntry>) -> PackedEntry
+        requires { IsTold event reply.now }
+        ensures { result ≡ journal_entry_of (record
+            { worker = worker; event = kept event reply.now; reply = reply.now }) }
+    {
+        *room = JournalEntry::new(worker, kept_event(event, reply), reply);
         let form = Form::Whole(room);
-        (PackedEntry { form }, None)
+        PackedEntry { form }
     }
 
     /// The worker whose event it is.

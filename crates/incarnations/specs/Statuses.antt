@@ -2,6 +2,8 @@
 use Rattle.std.specs.Prelude.{ℕ, Bool, true, false, ◌==◌, if◌then◌else◌, nat_le, Option, Some, None}
 use Rattle.incarnations.specs.declared.state.Status.{Status}
 use Rattle.incarnations.specs.declared.state.Status.TheVariants.{Ready, Executing, Executed, Committed as HasCommitted}
+use Rattle.incarnations.specs.declared.state.Event.{Event}
+use Rattle.incarnations.specs.declared.state.Event.TheVariants.{Read}
 use Rattle.incarnations.specs.declared.state.Reply.{Reply}
 use Rattle.incarnations.specs.declared.state.Reply.TheVariants.{Answered, Stale, NotYours}
 
@@ -28,6 +30,11 @@ stands_after (Some moment) latest = nat_le latest moment
 abbrev pub IsPlain : Reply → Type 0
 IsPlain (Answered answer) = ⊥
 IsPlain _ = Unit {0}
+
+-- a reply that such an event can have: only a read is answered
+abbrev pub IsTold : Event → Reply → Type 0
+IsTold (Read i n read) reply = Unit {0}
+IsTold _ reply = IsPlain reply
 
 -- an event of this incarnation of a request that this worker executes: the refusal, if there is one
 abbrev pub execution_refusal : Option Status → ℕ → ℕ → Option Reply

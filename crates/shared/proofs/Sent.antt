@@ -62,6 +62,7 @@ use Rattle.quad_hints.specs.contracts.seen.Seen as Seen
 use Rattle.quad_hints.specs.contracts.seen.SeenQuads as SeenQuads
 use Rattle.quad_hints.specs.contracts.sorted_hints.SortedHints as SortedHints
 use Rattle.version_overlay.specs.contracts.generation.Generation as Generation
+use Rattle.version_overlay.specs.contracts.latest.Latest as Latest
 use Rattle.version_overlay.specs.contracts.spoken.Spoken as Spoken
 use Rattle.version_overlay.specs.contracts.level.Level as Level
 use Rattle.version_overlay.specs.contracts.settled.Settled as Settled
@@ -300,14 +301,17 @@ hints = let o = ordered_hints in let h = hint in search (sendable, crosses) dept
 generation : IsSend (Generation.the_field).row
 generation = let h = hints in let i = id.the_send in let o = order_set in search (sendable, crosses, maps.crosses) depth 20
 
+delta_field : IsSend (Delta.the_field).row
+delta_field = let p = parts in let y = parts_sync in search (sendable, crosses) depth 20
+
+latest : IsSend (Latest.the_row)
+latest = let d = delta_field in search (sendable, crosses) depth 20
+
 spoken : IsSend (Spoken.the_field).row
-spoken = let g = generation in let s = seen_quads in let o = order_set in search (sendable, crosses) depth 20
+spoken = let g = generation in let s = seen_quads in let o = order_set in let l = latest in search (sendable, crosses) depth 20
 
 order_send : IsSend (Order.the_row)
 order_send = let e = entries_send in let a = arrangement.the_field_send in search (sendable, crosses) depth 20
-
-delta_field : IsSend (Delta.the_field).row
-delta_field = let p = parts in let y = parts_sync in search (sendable, crosses) depth 20
 
 level : IsSend (Level.the_row)
 level = let d = delta_field in let o = order_send in search (sendable, crosses) depth 20

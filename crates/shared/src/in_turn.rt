@@ -26,6 +26,7 @@ fn lets_go_on(reply: &Reply) -> bool
 }
 
 // Makes one event on a book that the pass holds, and keeps its reply, for which there is room before. It answers whether the worker goes on.
+#[inline(always)]
 fn make_next<'a>(
     alloc: Global,
     book: &mut Book<'a>,

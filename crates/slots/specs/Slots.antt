@@ -27,6 +27,6 @@ slots_of slots = map (slot_by (whole slots)) slots
 -- what a read comes to, and what it leaves: a note, where it is answered
 abbrev pub IsAsked : View → List Slot → List Slot → ℕ → Read → Asked → Type 0
 IsAsked base old new i read (asked.Blocked j) = (blocker old i read ≡ Some j) × (new ≡ old)
-IsAsked base old new i read (asked.Answered a again) =
+IsAsked base old new i read (asked.Answered a) =
     ((blocker old i read ≡ None) × (a ≡ says read (view_at base old i)))
-    × ((again ≡ a) × (new ≡ slice_set old i (with_note (slot_at old i) (note_now base old i read))))
+    × (new ≡ slice_set old i (with_note (slot_at old i) (note_now base old i read)))

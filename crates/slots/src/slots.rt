@@ -245,9 +245,8 @@ impl<'a> Slots<'a> {
             Found::Blocked(j) => return Ok(Asked::Blocked(j)),
             Found::Noted(noted, answer) => (noted, answer),
         };
-        let again = answer.copied(alloc)?;
         slot::note(&mut self.kept.slots[i], noted)?;
-        Ok(Asked::Answered(answer, again))
+        Ok(Asked::Answered(answer))
     }
 
     /// The requests below `to` will not change again: they are settled, as far as there is memory.

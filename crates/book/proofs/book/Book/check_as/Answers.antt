@@ -37,4 +37,4 @@ returns-clause-entry c =
     let items : c.push.new.self.items ≡ old.journal.items ++ journal_entry_of (record { worker = c.args.worker; event = event; reply = reply }) ∷ [] =
     c.in-Ok.ensures.items ∙ (λ t. c.in_ok-reserve.ensures.items t ++ c.new-packed.ensures t ∷ []) in
     run_more old.terms.now old.base.now old.block.now old.journal.items old.machine c.self.invariant c.args.worker event reply c.in_ok-reply.ensures.allowed c.push.new.self.items items
-    ∙ (λ t. record (c.self.view_is t) { history = (c.self.view_is t).history ++ record { worker = c.args.worker; event = event; reply = sym c.in_ok-reply.ensures.same t } ∷ [] })
+    ∙ (λ t. record (c.self.view_is t) { history = (c.self.view_is t).history ++ record { worker = c.args.worker; event = event; reply = reply } ∷ [] })

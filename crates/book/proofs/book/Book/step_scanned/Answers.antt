@@ -1,5 +1,4 @@
 use Rattle.std.proofs.Common.{◌≡◌, ◌+◌, ◌^◌, ◌<◌, [], ◌∷◌, ◌++◌, length, arith, sym, ◌∙◌, subst}
-use Rattle.incarnations.specs.declared.state.Reply.{Reply}
 use Rattle.block_machine.specs.Machine.{State, IsReady, IsAllowed}
 use Rattle.book.specs.JournalEntry.{journal_entry_of}
 use Rattle.book.specs.Run.{Run, run_of_journal, setting, setting_of, state_of, IsSoundEvent, kept}
@@ -35,13 +34,13 @@ returns-clause-entry c =
     let items : c.push.new.self.items ≡ old.journal.items ++ journal_entry_of (record { worker = c.args.worker; event = kept c.args.event reply; reply = reply }) ∷ [] =
     c.in-Ok.ensures.items ∙ (λ t. c.in_ok-reserve.ensures.items t ++ c.new-packed.ensures t ∷ []) in
     run_more old.terms.now old.base.now old.block.now old.journal.items old.machine c.self.invariant c.args.worker c.args.event reply c.in_ok-reply.ensures.allowed c.push.new.self.items items
-    ∙ (λ t. record (c.self.view_is t) { history = (c.self.view_is t).history ++ record { worker = c.args.worker; event = kept c.args.event (sym c.in_ok-reply.ensures.same t); reply = sym c.in_ok-reply.ensures.same t } ∷ [] })
+    ∙ (λ t. record (c.self.view_is t) { history = (c.self.view_is t).history ++ record { worker = c.args.worker; event = kept c.args.event reply; reply = reply } ∷ [] })
 
 pub returns-clause-lawful : goal.returns-clause-lawful
 unfolding setting
 returns-clause-lawful c =
     let old = c.self.inside in
-    let allowed : IsAllowed old.base.now (state_of (run_of_journal old.terms.now old.base.now old.block.now old.journal.items)) c.args.worker c.args.event c.in_ok-reply.told =
-    subst (λ (r : Reply). IsAllowed old.base.now (state_of (run_of_journal old.terms.now old.base.now old.block.now old.journal.items)) c.args.worker c.args.event r) (sym c.in_ok-reply.ensures.same)
-    (subst (λ (s : State). IsAllowed old.base.now s c.args.worker c.args.event c.in_ok-reply.reply) c.self.invariant.state c.in_ok-reply.ensures.allowed) in
-    subst (λ (r : Run). IsAllowed r.base (state_of r) c.args.worker c.args.event c.in_ok-reply.told) c.self.view_is allowed
+    let reply = c.in_ok-reply.reply in
+    let allowed : IsAllowed old.base.now (state_of (run_of_journal old.terms.now old.base.now old.block.now old.journal.items)) c.args.worker c.args.event reply =
+    subst (λ (s : State). IsAllowed old.base.now s c.args.worker c.args.event reply) c.self.invariant.state c.in_ok-reply.ensures.allowed in
+    subst (λ (r : Run). IsAllowed r.base (state_of r) c.args.worker c.args.event reply) c.self.view_is allowed

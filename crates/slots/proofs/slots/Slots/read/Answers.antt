@@ -39,13 +39,10 @@ returns-clause-ok c =
     let found = subst (IsFound c.args.scanned.now.dataset c.self.inside.kept.slots.items c.self.inside.kept.low c.args.i c.args.scanned.now.read) c.in-Noted.is c.in_ok-j.ensures in
     let now = found.1.1.0 ∙ now_is c.self.inside.kept.slots.items c.self.inside.kept.low (speaks c.self.inside.kept.spoken) c.self.inside.kept.settled c.self.invariant c.args.self.now c.self.view_is c.args.i c.requires.still c.args.scanned.now.dataset c.args.scanned.now.read in (
       (blocker_is c.self.inside.kept.slots.items c.self.inside.kept.low (speaks c.self.inside.kept.spoken) c.self.inside.kept.settled c.self.invariant c.args.self.now c.self.view_is c.args.i c.requires.still c.args.scanned.now.read ∙ found.0, found.1.1.1 ∙ ap (λ (n : Noted). n.answer) now),
-      (
-        c.in_ok-again.ensures,
-        view_set c.self.inside.kept.slots.items c.self.inside.kept.low (speaks c.self.inside.kept.spoken) c.self.inside.kept.settled c.self.invariant c.args.self.now c.self.view_is c.args.i c.requires.still c.index_mut.result.now c.note.new.slot c.index_mut.ensures.value
-            (λ f (z : Slot). with_note z (f c.in-Noted.noted)) (noted_by c.note.new.slot c.index_mut.result.now c.in-Noted.noted c.in_ok-note.ensures.ok)
-            (low_same c.self.inside.kept.low c.note.new.slot.notes (c.index_mut.result.now.notes ++ c.in-Noted.noted ∷ []) (ap (λ (z : KeptSlot). z.notes) c.in_ok-note.ensures.ok)
-            (low_append c.self.inside.kept.low c.index_mut.result.now.notes c.in-Noted.noted (lows_of c.self.inside.kept.slots.items c.self.inside.kept.low (speaks c.self.inside.kept.spoken) c.self.inside.kept.settled c.self.invariant c.args.self.now c.self.view_is c.args.i c.requires.still c.index_mut.result.now c.note.new.slot c.index_mut.ensures.value)
-            (let e = found.1.0 in omega (arith, e))))
-            ∙ ap (λ (n : Noted). slice_set c.args.self.now c.args.i (with_note (slot_at c.args.self.now c.args.i) n)) now,
-      ),
+      view_set c.self.inside.kept.slots.items c.self.inside.kept.low (speaks c.self.inside.kept.spoken) c.self.inside.kept.settled c.self.invariant c.args.self.now c.self.view_is c.args.i c.requires.still c.index_mut.result.now c.note.new.slot c.index_mut.ensures.value
+          (λ f (z : Slot). with_note z (f c.in-Noted.noted)) (noted_by c.note.new.slot c.index_mut.result.now c.in-Noted.noted c.in_ok-note.ensures.ok)
+          (low_same c.self.inside.kept.low c.note.new.slot.notes (c.index_mut.result.now.notes ++ c.in-Noted.noted ∷ []) (ap (λ (z : KeptSlot). z.notes) c.in_ok-note.ensures.ok)
+          (low_append c.self.inside.kept.low c.index_mut.result.now.notes c.in-Noted.noted (lows_of c.self.inside.kept.slots.items c.self.inside.kept.low (speaks c.self.inside.kept.spoken) c.self.inside.kept.settled c.self.invariant c.args.self.now c.self.view_is c.args.i c.requires.still c.index_mut.result.now c.note.new.slot c.index_mut.ensures.value)
+          (let e = found.1.0 in omega (arith, e))))
+          ∙ ap (λ (n : Noted). slice_set c.args.self.now c.args.i (with_note (slot_at c.args.self.now c.args.i) n)) now,
     )
