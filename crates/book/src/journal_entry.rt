@@ -67,7 +67,7 @@ fn kept_publication(i: usize, n: u64, finished: Finished, reply: &Reply) -> Kept
 
 impl JournalEntry {
     /// What a journal keeps of a worker's event that was answered so.
-    pub fn new(worker: u32, event: Event, reply: &Reply) -> JournalEntry
+    pub(crate) fn new(worker: u32, event: Event, reply: &Reply) -> JournalEntry
         requires { IsTold event reply.now }
         ensures { result ≡ journal_entry_of (record { worker = worker; event = event; reply = reply.now }) }
     {
