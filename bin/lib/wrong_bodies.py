@@ -171,7 +171,8 @@ class Copy:
 
     def reported(self, line, spans):
         """The function of which a line reports a goal, if it is one of those that the edits change, and what it reports."""
-        goal = re.match(r"note: (?:\./)?(src/\S+?):(\d+):(\d+): it is not proved", line)
+        # a goal that no rule fits, as the condition of a type, has words of its own
+        goal = re.match(r"note: (?:\./)?(src/\S+?):(\d+):(\d+): (?:it is not proved|`search` found no proof)", line)
         if goal:
             at = int(goal[2]), int(goal[3])
             within = [it.function for it in spans.get(goal[1], []) if it.start <= at < it.end]

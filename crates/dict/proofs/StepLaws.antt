@@ -5,7 +5,7 @@ use Rattle.std.specs.List.{AllZip, list_any, range_with_len}
 use Rattle.std.specs.List.Sorted.{IsSortedByKey}
 use Rattle.std.specs.Ordering.{eq_by_cmp, is_eq, is_lt}
 use Rattle.std.specs.declared.cmp.Ordering.{Ordering}
-use Rattle.std.specs.declared.cmp.Ordering.TheVariants.{Less, Greater}
+use Rattle.std.specs.declared.cmp.Ordering.TheVariants.{Less}
 use Rattle.std.proofs.lemmas.Bool.{false≢true, cases_lt}
 use Rattle.std.proofs.lemmas.List.{get_or_append_left, get_or_default, length-append, length-drop, drop_more, drop_all}
 use Rattle.std.proofs.lemmas.List.FromFn.{get_or-range_with_len, length-range_with_len}
@@ -20,23 +20,8 @@ use Rattle.dict.specs.Ranks.{term_in, ends_with, with_next, taken, IsStep, AreSt
 use Rattle.dict.proofs.Numbers.{before_made}
 use Rattle.dict.proofs.Numbering.{taken_more}
 
--- ---- steps that are told
+-- ---- one more step that is told
 
-pub step_first : (list : List Placed) (place : ℕ) → place ≡ 0 → IsStep list place Greater
-step_first list place none = record { first = λ e. refl; later = λ d after lt. absurd (omega (arith, none, after)) }
-
-pub step_past : (list : List Placed) (place : ℕ) → 0 < place → length list ≤ place → IsStep list place Greater
-step_past list place after past = record { first = λ e. refl; later = λ d a lt. absurd (omega (arith, past, lt)) }
-
-pub step_here : (list : List Placed) (place : ℕ) (x y : Placed) (step : Ordering) → 0 < place → place < length list
-    → step ≡ term_order (term_in (get_or list place x)) (term_in (get_or list (place - 1) y)) → IsStep list place step
-step_here list place x y step after lt is = record {
-  first = λ none. absurd (omega (arith, none, after));
-  later = λ d a l.
-      is ∙ (λ i. term_order (term_in (get_or_default list place x d lt i)) (term_in (get_or_default list (place - 1) y d (omega (arith, lt)) i)));
-}
-
--- one more
 pub steps_more : (list : List Placed) (steps new : List Ordering) (s : Ordering) → new ≡ steps ++ s ∷ [] → IsStep list (length steps) s
     → ((place : ℕ) (d : Ordering) → place < length steps → IsStep list place (get_or steps place d))
     → (place : ℕ) (d : Ordering) → place < length new → IsStep list place (get_or new place d)

@@ -1,6 +1,6 @@
 -- What a list gives, by its last member.
-use Rattle.std.specs.Prelude.{ℕ, Bool, ◌≤◌, ◌-◌}
-use Rattle.std.proofs.Common.{◌≡◌, List, [], ◌∷◌, ◌++◌, Option, suc, zero, length, take, get_or, refl, sym, ap, ◌∙◌, arith}
+use Rattle.std.specs.Prelude.{ℕ, ◌≤◌, ◌-◌}
+use Rattle.std.proofs.Common.{◌≡◌, List, [], ◌∷◌, ◌++◌, suc, zero, length, take, get_or, refl, sym, ap, ◌∙◌, arith}
 use Rattle.std.proofs.lemmas.List.{nil_from_length, get_or_default}
 use Rattle.datasets.specs.declared.id.Id.{Id}
 use Rattle.datasets.specs.declared.quad.Quad.{Quad}
@@ -13,8 +13,6 @@ use Rattle.algebra.specs.declared.plan.Plan.{Plan as Kept}
 use Rattle.meaning.specs.Mapping.{Mapping, empty_mapping}
 use Rattle.meaning.specs.Operators.{join}
 use Rattle.meaning.specs.Solutions.{joined_with, solutions_among, basic_solutions}
-use Rattle.reads.specs.Reads.{Read}
-use Rattle.eval.specs.Scans.{AskedPatterns}
 
 -- a list is what stands before its last member, and that
 ends_at : {A : Type 0} (xs : List A) (d : A) (n : ℕ) → length xs ≡ suc n → xs ≡ take n xs ++ get_or xs n d ∷ []
@@ -40,12 +38,6 @@ pub basic_ends : (width : ℕ) (ts : List (TriplePattern Id)) (d : TriplePattern
 basic_ends width ts d triples before next le e f =
     (λ i. join id_order (e i) (f i)) ∙ joined_ends width (empty_mapping width ∷ []) (take (length ts - 1) ts) (get_or ts (length ts - 1) d) triples
     ∙ ap (λ xs. basic_solutions id_order width xs triples) (sym (ends ts d le))
-
--- what is allowed for all is allowed for the first
-pub asked_first : (allowed : Read → Bool) (graph : Option Id) (n : ℕ) (ts : List (TriplePattern Id)) → AskedPatterns allowed graph ts → AskedPatterns allowed graph (take n ts)
-asked_first allowed graph zero ts h = tt
-asked_first allowed graph (suc n) [] h = tt
-asked_first allowed graph (suc n) (t ∷ ts) h = (h.0, asked_first allowed graph n ts h.1)
 
 -- ---- parts of groups
 

@@ -49,12 +49,6 @@ item_pushed n inner ts r u before after x part_is is undotted =
     ∙ pushed_behind before after x is (front_at (after_dot r))
     ∙ ap (λ (o : Option (Part × List Token)). behind (parts_of before) (o >>= λ p. front_at (after_dot p.1) >>= λ xs. Some (p.0 ∷ xs.0, xs.1))) (sym part_is)
 
--- where the part isn't read, neither is the item
-pub item_unread : (n : ℕ) (inner : Reader (List Part)) (front : List Part) (ts : List Token) (e : Stop) → Fails e (part_with n inner ts) → Fails e (behind front (item_with n inner ts))
-unfolding item_with
-item_unread n inner front ts stop.Memory h = tt
-item_unread n inner front ts stop.NoReading h = ap (λ (o : Option (Part × List Token)). behind front (o >>= λ p. front_at (after_dot p.1) >>= λ xs. Some (p.0 ∷ xs.0, xs.1))) h
-
 pub group_pushed : (read : Option (List Part × List Token)) (before found : List (List Part)) (rest : List Token) → option_and_then (λ (g : List Part × List Token). let r : Option (List (List Part) × List Token) = Some (before ++ g.0 ∷ [], g.1) in r) read ≡ Some (found, rest) → (g : List Part) × (read ≡ Some (g, rest)) × (before ++ g ∷ [] ≡ found)
 group_pushed None before found rest e = absurd cc
 group_pushed (Some g) before found rest e =

@@ -125,11 +125,6 @@ both_read read unite text first rest a b both pieces is_a is_b dataset ends =
       ends = omega arith;
     }
 
-pub united_read : LinesAreRead → ListsUnite → (text first rest : List ℕ) (a b : ReadText) (r : Result ReadText BaseFault) → ArePieces text first rest → IsReadText first a → IsReadText rest b
-    → IfOk r (λ both. (both.dataset ≡ united a.dataset b.dataset) × (both.ends ≡ a.ends + b.ends)) → IfOk r (IsReadText text)
-united_read read unite text first rest a b (Ok both) pieces is_a is_b is = both_read read unite text first rest a b both pieces is_a is_b is.0 is.1
-united_read read unite text first rest a b (Err e) pieces is_a is_b is = tt
-
 pub then_read : LinesAreRead → ListsUnite → (front later both : ReadText) → both.dataset ≡ united front.dataset later.dataset → both.ends ≡ front.ends + later.ends
     → (whole text : List ℕ) → IsFrontRead whole (Some front) → IsReadText text later → IsReadText (whole ++ text) both
 then_read read unite front later both dataset ends whole text is is_later =
@@ -146,12 +141,6 @@ then_reads read unite front later (Ok both) is = then_read read unite front late
 then_reads read unite front later (Err e) is = tt
 
 -- ---- pieces behind whole lines
-
-pub only_behind : (front : Option ReadText) (more : ReadText) (r : Result ReadText BaseFault)
-    → IfOk r (λ read. (whole text : List ℕ) → IsFrontRead whole front → IsReadText text more → IsReadText (whole ++ text) read) → IfOk r (λ read. read.ends ≡ ends_of front + more.ends)
-    → IfOk r (IsBehind front (Only more))
-only_behind front more (Ok read) said ends = record { said = λ whole text is are. said whole text is are; ends = ends }
-only_behind front more (Err e) said ends = tt
 
 pub last_behind : (p : Box (Unit {0}) Global) (front : Option ReadText) (first : ReadPieces) (last before : ReadText) (r : Result ReadText BaseFault) → IsBehind front first before
     → IfOk r (λ read. (whole text : List ℕ) → IsFrontRead whole (Some before) → IsReadText text last → IsReadText (whole ++ text) read) → IfOk r (λ read. read.ends ≡ before.ends + last.ends)

@@ -1,6 +1,5 @@
 pub mod Alike
 pub mod Looking
-pub mod Moved
 pub mod Orders
 pub mod Parted
 pub mod Rising

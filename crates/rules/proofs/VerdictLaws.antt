@@ -121,11 +121,6 @@ first_fault_is s kinds (Some kind) are first = (among_is s kinds are kind ∙ fi
 abbrev pub IsFree : Walk → Type 0
 IsFree w = (k : Refusal) → is_among (kinds_with w []) k ≡ false
 
-pub not_free : (w : Walk) (kinds : Kinds) (o : Option Refusal) (kind : Refusal) → kinds ≡ kinds_with w [] → IsFirst (is_among kinds) o → o ≡ Some kind → IsFree w → ⊥
-not_free w kinds o kind are first is free =
-    let found = subst (λ (o : Option Refusal). IsFirst (is_among kinds) o) is first in
-    both_ways (is_among kinds kind) (ap (λ (k : Kinds). is_among k kind) are ∙ free kind) found.0
-
 left_out : (found left : Bool) → (found || left) ≡ false → (found || false) ≡ false
 left_out true left e = e
 left_out false left e = refl

@@ -1,7 +1,7 @@
 -- Datasets that are united, and lists of terms that are put into one.
 use Rattle.std.specs.Prelude.{Bool, ◌||◌, nat_lt, Option, map, slice_index}
 use Rattle.std.proofs.Common.{◌≡◌, ℕ, zero, suc, ◌<◌, true, false, List, [], ◌∷◌, ◌++◌, length, Some, None, refl, sym, ap, ◌∙◌, subst, arith, append_assoc}
-use Rattle.std.specs.List.{list_any, list_all, AllZip}
+use Rattle.std.specs.List.{list_any, list_all}
 use Rattle.std.specs.Option.{option_map}
 use Rattle.std.specs.declared.cmp.Ordering.{Ordering}
 use Rattle.std.specs.declared.cmp.Ordering.TheVariants.{Equal}
@@ -151,10 +151,3 @@ module _ (old new : List Term) (on : GoesOn old new) (places : List ℕ) (place 
   pub one_more_within : is_within new place ≡ true → list_all (is_within new) (places ++ place ∷ []) ≡ true
   one_more_within h =
       each_joined (is_within new) places (place ∷ []) (each_weaker (is_within old) (is_within new) (within_kept old new on) places within) (and_from (is_within new place) true h refl)
-
--- what is made of each of a list, one for one
-pub each_mapped : {A B : Type 0} (f : A → B) (xs : List A) (ys : List B) → AllZip (λ x y. y ≡ f x) xs ys → ys ≡ map f xs
-each_mapped f [] [] h = refl
-each_mapped f [] (y ∷ ys) h = absurd h
-each_mapped f (x ∷ xs) [] h = absurd h
-each_mapped f (x ∷ xs) (y ∷ ys) h = let rest = each_mapped f xs ys h.1 in λ i. h.0 i ∷ rest i

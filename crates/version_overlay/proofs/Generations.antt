@@ -27,9 +27,6 @@ apart a b lt = at (a == b) refl
 pub kept_by_none : (seen : SeenQuads) (g : Generation) → ((read : Read) (j : ℕ) → has_spoken g read j ≡ false) → IsKept seen g
 kept_by_none seen g none = record { within = λ read j lt. none read j; filtered = λ p j e. none (Scan p) j }
 
-pub kept_by_more : (seen seen' : SeenQuads) (g : Generation) → ((p : QuadPattern Id) → may_match seen p ≡ true → may_match seen' p ≡ true) → IsKept seen g → IsKept seen' g
-kept_by_more seen seen' g more kept = record { within = kept.within; filtered = λ p j e. kept.filtered p j (stopped (may_match seen p) (may_match seen' p) (more p) e) }
-
 pub kept_by_put : (seen seen' : SeenQuads) (g g' : Generation) (d : Delta) (request : ℕ) → ((p : QuadPattern Id) → may_match seen p ≡ true → may_match seen' p ≡ true)
     → ((p : QuadPattern Id) → covers d (Scan p) ≡ true → may_match seen' p ≡ true) → g'.highest ≡ max g.highest request
     → ((read : Read) (j : ℕ) → (covers d read && (request == j)) ≡ false → has_spoken g read j ≡ false → has_spoken g' read j ≡ false) → IsKept seen g → IsKept seen' g'

@@ -1,8 +1,8 @@
 -- What the latest changes speak of, as there come to be more of them, and fewer.
 use Rattle.std.specs.Prelude.{Bool, ◌||◌, nat_le, filter, cond}
-use Rattle.std.proofs.Common.{◌≡◌, ◌≤◌, ◌&&◌, ◌==◌, ◌++◌, ℕ, true, false, List, [], ◌∷◌, refl, sym, ap, ◌∙◌, arith, rules, ◌+◌, ◌<◌, length, get_or, take, inl, inr, ◌⊎◌}
-use Rattle.std.proofs.lemmas.Bool.{false≢true, eqb-true, le-leb, and_parts, and_from, or_left, or_right, or_parts}
-use Rattle.std.proofs.lemmas.List.Folds.{list_any-append, list_any_more, list_any_at}
+use Rattle.std.proofs.Common.{◌≡◌, ◌≤◌, ◌&&◌, ◌==◌, ℕ, true, false, List, [], ◌∷◌, refl, sym, ap, ◌∙◌, arith, rules, ◌+◌, ◌<◌, length, get_or, take, inl, inr, ◌⊎◌}
+use Rattle.std.proofs.lemmas.Bool.{false≢true, eqb-true, le-leb, and_parts, and_from, or_parts}
+use Rattle.std.proofs.lemmas.List.Folds.{list_any_more, list_any_at}
 use Rattle.datasets.specs.declared.id.Id.{Id}
 use Rattle.datasets.specs.declared.read.QuadPattern.{QuadPattern}
 use Rattle.datasets.specs.declared.read.Read.TheVariants.{Scan}
@@ -11,7 +11,6 @@ use Rattle.quad_hints.specs.Seen.{may_match}
 use Rattle.reads.specs.Reads.{Read, covers}
 use Rattle.version_overlay.specs.declared.latest.Latest.{Latest}
 use Rattle.version_overlay.specs.Latest.{has_latest, AreSeen}
-use Rattle.version_overlay.proofs.Generations.{stopped}
 
 abbrev says : Read → ℕ → Latest → Bool
 says read j l = covers l.delta read && (l.request == j)
@@ -74,26 +73,6 @@ seen_each seen ls k l lt is are p h = at (may_match seen p) refl
     at true e = e
     at false e =
         absurd (false≢true (sym (are p l.request e) ∙ list_any_at (says (Scan p) l.request) ls k l lt (ap (says (Scan p) l.request) (sym is) ∙ and_from (covers l.delta (Scan p)) (l.request == l.request) h (search rules))))
-
--- ---- one more
-
-module _ (ls : List Latest) (l : Latest) (read : Read) (j : ℕ) where
-  pub with_last : has_latest (ls ++ l ∷ []) read j ≡ (has_latest ls read j || has_latest (l ∷ []) read j)
-  with_last = list_any-append (says read j) ls (l ∷ [])
-
-  pub stays_before : has_latest ls read j ≡ true → has_latest (ls ++ l ∷ []) read j ≡ true
-  stays_before h = with_last ∙ or_left (has_latest ls read j) (has_latest (l ∷ []) read j) h
-
-pub last_speaks : (ls : List Latest) (l : Latest) (read : Read) → covers l.delta read ≡ true → has_latest (ls ++ l ∷ []) read l.request ≡ true
-last_speaks ls l read h = with_last ls l read l.request ∙ or_right (has_latest ls read l.request) (has_latest (l ∷ []) read l.request) (ap (λ b. (b && (l.request == l.request)) || false) h ∙ search rules)
-
-pub more_seen : (seen seen' : SeenQuads) (ls : List Latest) → ((p : QuadPattern Id) → may_match seen p ≡ true → may_match seen' p ≡ true) → AreSeen seen ls → AreSeen seen' ls
-more_seen seen seen' ls more are p j e = are p j (stopped (may_match seen p) (may_match seen' p) (more p) e)
-
-pub seen_with_last : (seen : SeenQuads) (ls : List Latest) (l : Latest) → ((p : QuadPattern Id) → covers l.delta (Scan p) ≡ true → may_match seen p ≡ true) → AreSeen seen ls → AreSeen seen (ls ++ l ∷ [])
-seen_with_last seen ls l added are p j e =
-    with_last ls l (Scan p) j
-    ∙ (λ i. are p j e i || ((stopped (covers l.delta (Scan p)) (may_match seen p) (added p) e i && (l.request == j)) || false))
 
 pub seen_from : (seen : SeenQuads) (low : ℕ) (ls : List Latest) → AreSeen seen ls → AreSeen seen (filter (λ l. nat_le low l.request) ls)
 seen_from seen low ls are p j e = fewer_from low ls (Scan p) j (are p j e)
