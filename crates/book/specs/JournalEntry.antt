@@ -1,6 +1,6 @@
 -- What a journal keeps of each answered event, and the history that it stands for. A read has one answer where the machine stands, and a run
 -- is published only with the transcript that its request has noted: so neither is kept.
-use Rattle.std.specs.Prelude.{ℕ, true, false, List, [], ◌∷◌, length, Some}
+use Rattle.std.specs.Prelude.{◌≡◌, ℕ, true, false, List, [], ◌∷◌, length, Some}
 use Rattle.datasets.specs.Dataset.{Quads, Is, Names}
 use Rattle.reads.specs.Reads.{View, Answer, says}
 use Rattle.incarnations.specs.declared.state.Event.{Event}
@@ -30,6 +30,11 @@ kept_of event reply = Other event reply
 
 abbrev pub journal_entry_of : Entry → JournalEntry
 journal_entry_of e = record { worker = e.worker; kept = kept_of e.event e.reply }
+
+-- before its step: a finished run, should it be published, is kept already
+abbrev pub IsRoomFor : Event → JournalEntry → Type 0
+IsRoomFor (Publish i n (Some finished)) room = room.kept ≡ Published i n finished.delta finished.reply
+IsRoomFor event room = Unit {0}
 
 -- the event, where the machine stands so: what is published has read what is noted
 abbrev pub event_in : State → Kept → Event

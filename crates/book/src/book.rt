@@ -13,7 +13,6 @@ ghost use Rattle.block_machine.specs.Waiting.{has_work, IsLeastWork};
 ghost use Rattle.book.specs.JournalEntry.{journal_entry_of};
 ghost use Rattle.book.specs.Run.{state_of, setting_of, front_run, kept, IsSoundEvent};
 
-use crate::copies::copy_of_event;
 use crate::journal_entry::JournalEntry;
 use crate::packed_entry::{PackedEntry, room};
 use block_machine::laws::{front_is_serial, front_is_within, history_goes_on, ready_after};
@@ -78,23 +77,23 @@ impl<'a> Book<'a> {
         })
     }
 
-    /// One event of a worker, with what its read says of the base. Its reply is lawful, and the history has both at its end. After want of
-    /// memory the book is as before.
+    /// One event of a worker, with what its read says of the base. Its reply is lawful, and the history has both at its end. A finished run is
+    /// shared, and not copied. After want of memory the book is as before.
     pub fn step_scanned(
         &mut self,
         alloc: Global,
         worker: u32,
-        event: Event,
+        event: &Event,
         scans: &[Scanned<'_>],
     ) -> Result<Reply, AllocError>
-        requires sound { IsSoundEvent self.old event }
-        requires scans { scans.now ≡ questions_of self.old.base event }
+        requires sound { IsSoundEvent self.old event.now }
+        requires scans { scans.now ≡ questions_of self.old.base event.now }
         ensures lawful { IfOk result (λ reply. IsAllowed self.old.base (state_of self.old) worker
-            event reply) }
+            event.now reply) }
         ensures entry { IfOk result (λ reply. self.new
             ≡ record self.old {
               history = self.old.history
-                  ++ record { worker = worker; event = kept event reply; reply = reply } ∷ [];
+                  ++ record { worker = worker; event = kept event.now reply; reply = reply } ∷ [];
             }) }
         ensures err { OnErr result (self.new ≡ self.old) }
     {
@@ -102,8 +101,9 @@ impl<'a> Book<'a> {
         front_is_within();
         history_goes_on();
         self.journal.reserve(1)?;
-        let room = room(alloc, self.spare.take())?;
-        let reply = self.machine.step(alloc, self.base, worker, &event, scans)?;
+        let mut room = room(alloc, self.spare.take())?;
+        room.prepare(alloc, event)?;
+        let reply = self.machine.step(alloc, self.base, worker, event, scans)?;
         let (packed, spare) = PackedEntry::new(worker, event, &reply, room);
         self.spare = spare;
         match self.journal.push(packed) {
@@ -113,27 +113,6 @@ impl<'a> Book<'a> {
     }
 
     /// The same, where the read is put to the base first.
-    pub fn step_owned(
-        &mut self,
-        alloc: Global,
-        worker: u32,
-        event: Event,
-    ) -> Result<Reply, AllocError>
-        requires { IsSoundEvent self.old event }
-        ensures lawful { IfOk result (λ reply. IsAllowed self.old.base (state_of self.old) worker
-            event reply) }
-        ensures entry { IfOk result (λ reply. self.new
-            ≡ record self.old {
-              history = self.old.history
-                  ++ record { worker = worker; event = kept event reply; reply = reply } ∷ [];
-            }) }
-        ensures err { OnErr result (self.new ≡ self.old) }
-    {
-        let scans = scans_of(alloc, self.base, &event)?;
-        self.step_scanned(alloc, worker, event, &scans)
-    }
-
-    /// The same of an event that the caller keeps: its finished run is shared, and not copied.
     pub fn step(&mut self, alloc: Global, worker: u32, event: &Event) -> Result<Reply, AllocError>
         requires { IsSoundEvent self.old event.now }
         ensures lawful { IfOk result (λ reply. IsAllowed self.old.base (state_of self.old) worker
@@ -145,8 +124,8 @@ impl<'a> Book<'a> {
             }) }
         ensures err { OnErr result (self.new ≡ self.old) }
     {
-        let copy = copy_of_event(alloc, event)?;
-        self.step_owned(alloc, worker, copy)
+        let scans = scans_of(alloc, self.base, event)?;
+        self.step_scanned(alloc, worker, event, &scans)
     }
 
     /// A check whose reply is chosen: where both `Passed` and `Aborted` are lawful it is the one that `passed` says. Else it is as a step of
@@ -178,7 +157,7 @@ impl<'a> Book<'a> {
         let reply = self
             .machine
             .check_as(alloc, self.base, worker, i, n, passed)?;
-        let (packed, spare) = PackedEntry::new(worker, Event::Check(i, n), &reply, room);
+        let (packed, spare) = PackedEntry::new(worker, &Event::Check(i, n), &reply, room);
         self.spare = spare;
         match self.journal.push(packed) {
             Ok(()) => Ok(reply),

@@ -5,7 +5,6 @@
 #![tactic(auto)]
 
 mod book;
-mod copies;
 mod journal_entry;
 mod packed_entry;
 

@@ -1,11 +1,10 @@
 //! Entries of a journal in little memory.
 ghost use Rattle.std.specs.Prelude.{◌≡◌, IfSome};
 ghost use Rattle.incarnations.specs.Statuses.{IsTold};
-ghost use Rattle.book.specs.JournalEntry.{journal_entry_of};
+ghost use Rattle.book.specs.JournalEntry.{journal_entry_of, IsRoomFor};
 ghost use Rattle.book.specs.PackedEntry.{count_if, entry_of, kept_shown};
 ghost use Rattle.book.specs.Run.{kept};
 
-use crate::copies::kept_event;
 use crate::journal_entry::{JournalEntry, Kept, count};
 use block_machine::{Event, Reply};
 use datasets::{Id, Read};
@@ -78,13 +77,7 @@ pub(crate) fn room(
 ) -> Result<Box<JournalEntry>, AllocError> {
     match spare {
         Some(room) => Ok(room),
-        None => Ok(Box::new(
-            alloc,
-            JournalEntry {
-                worker: 0,
-                kept: Kept::Other(Event::Take(0), Reply::Stale),
-            },
-        )?),
+        None => Ok(Box::new(alloc, JournalEntry::empty())?),
     }
 }
 
@@ -113,9 +106,7 @@ fn packed_answer(worker: u32, i: usize, n: u64, read: &Read<Id>, count: u64) -> 
     })
 }
 
-// An answered event in little memory: the answer to a read, or a step of a request that was not refused. It looks at the event where that
-// lies: an event that is passed on as it is gets taken apart and put together again at each call.
-#[inline(never)]
+// An answered event in little memory: the answer to a read, or a step of a request that was not refused.
 fn packed(worker: u32, event: &Event, reply: &Reply) -> Option<Form>
     ensures { IfSome result (λ form. entry_of form
         ≡ journal_entry_of (record { worker = worker; event = kept event.now reply.now; reply = reply.now })) }
@@ -148,23 +139,24 @@ fn packed(worker: u32, event: &Event, reply: &Reply) -> Option<Form>
 }
 
 impl PackedEntry {
-    /// What a journal keeps of a worker's event under this reply, and the room that it does not need. An event of the many is not moved.
+    /// What a journal keeps of a worker's event under this reply, and the room that it does not need.
     #[inline(always)]
     pub(crate) fn new(
         worker: u32,
-        event: Event,
+        event: &Event,
         reply: &Reply,
         room: Box<JournalEntry>,
     ) -> (PackedEntry, Option<Box<JournalEntry>>)
-        requires { IsTold event reply.now }
+        requires told { IsTold event.now reply.now }
+        requires room { IsRoomFor event.now room.value }
         ensures { result.0 ≡ journal_entry_of (record {
           worker = worker;
           event =
-              kept event reply.now;
+              kept event.now reply.now;
           reply = reply.now;
         }) }
     {
-        match packed(worker, &event, reply) {
+        match packed(worker, event, reply) {
             Some(form) => (PackedEntry { form }, Some(room)),
             None => (PackedEntry::whole(worker, event, reply, room), None),
         }
@@ -172,12 +164,13 @@ impl PackedEntry {
 
     // The same, of any event, in this room.
     #[inline(never)]
-    fn whole(worker: u32, event: Event, reply: &Reply, mut room: Box<JournalEntry>) -> PackedEntry
-        requires { IsTold event reply.now }
+    fn whole(worker: u32, event: &Event, reply: &Reply, mut room: Box<JournalEntry>) -> PackedEntry
+        requires told { IsTold event.now reply.now }
+        requires room { IsRoomFor event.now room.value }
         ensures { result ≡ journal_entry_of (record
-            { worker = worker; event = kept event reply.now; reply = reply.now }) }
+            { worker = worker; event = kept event.now reply.now; reply = reply.now }) }
     {
-        *room = JournalEntry::new(worker, kept_event(event, reply), reply);
+        room.fill(worker, event, reply);
         let form = Form::Whole(room);
         PackedEntry { form }
     }

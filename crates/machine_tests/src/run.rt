@@ -53,7 +53,7 @@ impl<'a> Source for Asking<'a> {
     fn ask(&mut self, read: &Read<Id>) -> Result<Answered, Stop> {
         let turn = self.turn;
         let event = Event::Read(turn.place, turn.incarnation, *read);
-        match self.book.step_owned(self.alloc, turn.worker, event)? {
+        match self.book.step(self.alloc, turn.worker, &event)? {
             Reply::Answered(answer) => Ok(answer),
             Reply::Blocked(place) => Err(Stop::Blocked(place)),
             _ => Err(Stop::Stale),
@@ -102,7 +102,7 @@ fn told_of(
 ) -> Result<Told, AllocError>
     requires { IsSoundEvent book.old event }
 {
-    let reply = book.step_owned(alloc, worker, event)?;
+    let reply = book.step(alloc, worker, &event)?;
     Ok(told_by(&reply))
 }
 

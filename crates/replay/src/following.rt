@@ -20,7 +20,7 @@ fn step(alloc: Global, book: &mut Book<'_>, line: &Line, event: Event) -> Result
     requires { whole_event line.now.event ≡ Some event }
     ensures { IfOk result (λ reply. Follows book.old line.now reply book.new) }
 {
-    book.step_owned(alloc, line.worker, event)
+    book.step(alloc, line.worker, &event)
 }
 
 // A read. Nothing where the dictionary lacks one of its terms.
@@ -40,7 +40,7 @@ fn read(
     let Some(read) = find_read(book.terms(), read) else {
         return Ok(None);
     };
-    let reply = book.step_owned(alloc, line.worker, Event::Read(i, n, read))?;
+    let reply = book.step(alloc, line.worker, &Event::Read(i, n, read))?;
     Ok(Some(reply))
 }
 
@@ -59,7 +59,7 @@ fn publish(
     ensures { IfOk result (λ reply. Follows book.old line.now reply book.new) }
 {
     let finished = execute_again(alloc, book, i)?;
-    book.step_owned(alloc, line.worker, Event::Publish(i, n, finished))
+    book.step(alloc, line.worker, &Event::Publish(i, n, finished))
 }
 
 // A publication that is refused: it needs no run.
@@ -73,7 +73,7 @@ fn refuse(
     requires { line.now.event ≡ told.Publish i n }
     ensures { IfOk result (λ reply. Follows book.old line.now reply book.new) }
 {
-    book.step_owned(alloc, line.worker, Event::Publish(i, n, None))
+    book.step(alloc, line.worker, &Event::Publish(i, n, None))
 }
 
 fn tells_pass(reply: LineReply) -> bool

@@ -31,14 +31,14 @@ fn make_next<'a>(
     alloc: Global,
     book: &mut Book<'a>,
     pass: &Pass<'a>,
-    event: Event,
+    event: &Event,
     scans: &[Scanned<'_>],
     replies: &mut Vec<Reply>,
 ) -> Result<bool, AllocError>
     requires subject { (history_of book.old).subject ≡ pass.now.subject }
-    requires sound { IsSoundEvent book.old event }
-    requires scans { scans.now ≡ questions_of pass.now.subject.base event }
-    ensures { Went pass.now book.old book.new (event ∷ []) replies.old.items replies.new.items
+    requires sound { IsSoundEvent book.old event.now }
+    requires scans { scans.now ≡ questions_of pass.now.subject.base event.now }
+    ensures { Went pass.now book.old book.new (event.now ∷ []) replies.old.items replies.new.items
         result }
 {
     replies.reserve(1)?;
@@ -63,11 +63,11 @@ fn make_checks<'a>(
     ensures { Went pass.now book.old book.new (checking i n notes) replies.old.items
         replies.new.items result }
 {
-    if !make_next(alloc, book, pass, Event::Begin(i, n), &[], replies)? {
+    if !make_next(alloc, book, pass, &Event::Begin(i, n), &[], replies)? {
         return Ok(false);
     }
     for _note in 0..notes {
-        if !make_next(alloc, book, pass, Event::Check(i, n), &[], replies)? {
+        if !make_next(alloc, book, pass, &Event::Check(i, n), &[], replies)? {
             return Ok(false);
         }
     }
@@ -88,7 +88,7 @@ fn make_commits<'a>(
         replies.new.items result }
 {
     for place in i..until {
-        if !make_next(alloc, book, pass, Event::Commit(place), &[], replies)? {
+        if !make_next(alloc, book, pass, &Event::Commit(place), &[], replies)? {
             return Ok(false);
         }
     }
@@ -135,7 +135,9 @@ pub(crate) fn make_publishing<'a>(
         replies.old.items replies.new.items result }
 {
     let event = Event::Publish(i, n, Some(finished));
-    if !make_next(alloc, book, pass, event, &[], replies)? {
+    let made = make_next(alloc, book, pass, &event, &[], replies);
+    drop(event);
+    if !made? {
         return Ok(false);
     }
     make_settling(alloc, book, pass, i, n, notes, until, replies)
@@ -159,7 +161,7 @@ pub(crate) fn make_reads<'a>(
 {
     for k in 0..reads.len() {
         let event = Event::Read(i, n, reads[k]);
-        if !make_next(alloc, book, pass, event, &scans[k..k + 1], replies)? {
+        if !make_next(alloc, book, pass, &event, &scans[k..k + 1], replies)? {
             return Ok(false);
         }
     }

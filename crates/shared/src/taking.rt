@@ -65,7 +65,7 @@ pub(crate) fn make_taking<'a>(
     let Some(place) = taken(&task, most) else {
         return Ok(Next { task, taken: None });
     };
-    let reply = book.step_scanned(alloc, worker, Event::Take(place), &[])?;
+    let reply = book.step_scanned(alloc, worker, &Event::Take(place), &[])?;
     let _journal = book.journal();
     Ok(Next {
         task,

@@ -11,4 +11,4 @@ returns-in_default-clause-none c =
 pub returns-clause-some : goal.returns-clause-some
 returns-clause-some c =
     let found = subst (λ (terms : List Term). IsFoundRead terms c.args.read.now (Some c.in-Some.read)) c.terms.ensures c.in-Some.ensures in
-    follows_read c.args.book.now c.step_owned.new.self c.args.line.now c.args.i c.args.n c.args.read.now c.in-Some.read c.in_ok-reply.reply c.requires found c.in_ok-reply.ensures.lawful c.in_ok-reply.ensures.entry
+    follows_read c.args.book.now c.step.new.self c.args.line.now c.args.i c.args.n c.args.read.now c.in-Some.read c.in_ok-reply.reply c.requires found c.in_ok-reply.ensures.lawful c.in_ok-reply.ensures.entry

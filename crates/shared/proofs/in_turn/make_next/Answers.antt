@@ -10,5 +10,5 @@ returns-in_err-reserve c =
 
 pub returns : goal.returns
 returns c =
-    went_one c.args.pass.now c.args.book.now c.requires.subject c.step_scanned.new.self c.worker.result c.args.event c.in_ok-reply.reply c.lets_go_on-goes_on.result c.args.replies.now.items c.push_reserved.new.self.items
+    went_one c.args.pass.now c.args.book.now c.requires.subject c.step_scanned.new.self c.worker.result c.args.event.now c.in_ok-reply.reply c.lets_go_on-goes_on.result c.args.replies.now.items c.push_reserved.new.self.items
     c.worker.ensures (search rules) (search rules) c.journal-journal.ensures.lawful c.lets_go_on-goes_on.ensures (search rules)
