@@ -3,7 +3,6 @@ use Rattle.std.proofs.Common.{◌≡◌, ◌<◌, ℕ, Bool, true, false, length
 use Rattle.std.specs.Prelude.{IfSome}
 use Rattle.incarnations.specs.declared.state.Event.{Event}
 use Rattle.incarnations.specs.declared.state.Reply.{Reply}
-use Rattle.incarnations.specs.declared.state.Entry.{Entry}
 use Rattle.block_machine.specs.Machine.{IsAllowed}
 use Rattle.block_machine.specs.Serial.{IsHistory}
 use Rattle.book.specs.Run.{Run, state_of, setting_of}
@@ -12,7 +11,7 @@ use Rattle.scheduler.specs.Task.{IsNext}
 use Rattle.scheduler.specs.declared.task.Task.{Task}
 use Rattle.shared.specs.Calls.{Viewed, owner, history_of, run_of, entry, Unmade}
 use Rattle.shared.specs.declared.taking.Next.{Next}
-use Rattle.shared.specs.InTurn.{Adds, Went}
+use Rattle.shared.specs.InTurn.{Went}
 use Rattle.shared.specs.Taking.{taking, TookFrom, TookIt, TookNone, TookBy, Took, AddsAndTakes, WentAndTook}
 use Rattle.shared.proofs.InTurn.{in_turn_refused, adds, went_as}
 use Rattle.shared.proofs.Made.{answers, watches, unmade}

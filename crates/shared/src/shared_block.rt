@@ -44,23 +44,24 @@ fn make<'a>(
     alloc: Global,
     mut held: Held<'_, Kept<'a>>,
     pass: &mut Pass<'a>,
-    event: &Event,
+    event: Event,
 ) -> Result<Reply, AllocError>
     requires own { pass.old.table ≡ held.lock.now }
     requires has { Has pass.old held.book.value.book }
-    requires sound { IsSoundEvent held.book.value.book event.now }
+    requires sound { IsSoundEvent held.book.value.book event }
     ensures ok { IfOk result (λ reply. pass.new
         ≡ record pass.old {
           seen = pass.old.seen
-              ++ entry pass.old.worker event.now reply ∷ [];
+              ++ entry pass.old.worker event reply ∷ [];
           holds = false;
         }) }
     ensures allowed { IfOk result (λ reply. IsAllowed pass.old.subject.base
-        (state_of (run_of pass.old.subject pass.old.seen)) pass.old.worker event.now reply) }
+        (state_of (run_of pass.old.subject pass.old.seen)) pass.old.worker event reply) }
     ensures lawful { IsHistory (setting_of (run_of pass.old.subject pass.new.seen)) pass.new.seen }
     ensures err { OnErr result (pass.new ≡ record pass.old { holds = false }) }
 {
-    let reply = held.book.book.step(alloc, pass.worker(), event);
+    let reply = held.book.book.step(alloc, pass.worker(), &event);
+    drop(event);
     let _journal = held.book.book.journal();
     held.give(pass);
     reply
@@ -71,26 +72,27 @@ fn make_scanned<'a>(
     alloc: Global,
     mut held: Held<'_, Kept<'a>>,
     pass: &mut Pass<'a>,
-    event: &Event,
+    event: Event,
     scans: &[Scanned<'_>],
 ) -> Result<Reply, AllocError>
     requires own { pass.old.table ≡ held.lock.now }
     requires has { Has pass.old held.book.value.book }
-    requires sound { IsSoundEvent held.book.value.book event.now }
-    requires scans { scans.now ≡ questions_of pass.old.subject.base event.now }
+    requires sound { IsSoundEvent held.book.value.book event }
+    requires scans { scans.now ≡ questions_of pass.old.subject.base event }
     ensures ok { IfOk result (λ reply. pass.new
         ≡ record pass.old {
           seen = pass.old.seen
-              ++ entry pass.old.worker event.now reply ∷ [];
+              ++ entry pass.old.worker event reply ∷ [];
           holds = false;
         }) }
     ensures allowed { IfOk result (λ reply. IsAllowed pass.old.subject.base
-        (state_of (run_of pass.old.subject pass.old.seen)) pass.old.worker event.now reply) }
+        (state_of (run_of pass.old.subject pass.old.seen)) pass.old.worker event reply) }
     ensures lawful { IsHistory (setting_of (run_of pass.old.subject pass.new.seen)) pass.new.seen }
     ensures err { OnErr result (pass.new ≡ record pass.old { holds = false }) }
 {
     let book = &mut held.book.book;
-    let reply = book.step_scanned(alloc, pass.worker(), event, scans);
+    let reply = book.step_scanned(alloc, pass.worker(), &event, scans);
+    drop(event);
     let _journal = book.journal();
     held.give(pass);
     reply
@@ -130,7 +132,7 @@ impl<'a> SharedBlock<'a> {
         ensures { Tried pass.old pass.new event result }
     {
         match self.lock.try_hold(pass) {
-            Ok(held) => match make(alloc, held, pass, &event) {
+            Ok(held) => match make(alloc, held, pass, event) {
                 Ok(reply) => Ok(reply),
                 Err(AllocError) => Err(Refused::OutOfMemory),
             },
@@ -151,7 +153,7 @@ impl<'a> SharedBlock<'a> {
         ensures { Made pass.old pass.new event result }
     {
         let held = self.lock.hold(rt, pass);
-        make(alloc, held, pass, &event)
+        make(alloc, held, pass, event)
     }
 
     // Makes one event, once the book is there, with what its read says of the base.
@@ -169,7 +171,7 @@ impl<'a> SharedBlock<'a> {
         ensures { Made pass.old pass.new event result }
     {
         let held = self.lock.hold(rt, pass);
-        make_scanned(alloc, held, pass, &event, scans)
+        make_scanned(alloc, held, pass, event, scans)
     }
 
     /// How many requests are committed in what the pass has then seen.

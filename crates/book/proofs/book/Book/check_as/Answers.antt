@@ -1,4 +1,4 @@
-use Rattle.std.proofs.Common.{◌≡◌, ◌+◌, ◌^◌, ◌<◌, [], ◌∷◌, ◌++◌, length, arith, sym, ◌∙◌}
+use Rattle.std.proofs.Common.{◌≡◌, ◌+◌, ◌^◌, ◌<◌, [], ◌∷◌, ◌++◌, length, arith, ◌∙◌}
 use Rattle.incarnations.specs.declared.state.Event.{Event}
 use Rattle.incarnations.specs.declared.state.Event.TheVariants.{Check}
 use Rattle.block_machine.specs.Machine.{IsReady}

@@ -1,4 +1,4 @@
-use Rattle.std.proofs.Common.{[], Some, inl, arith, ap, subst, sym, ◌∙◌, append-nil}
+use Rattle.std.proofs.Common.{Some, arith, ap, subst, sym}
 use Rattle.std.proofs.lemmas.Result.{err_from_is_err_and}
 use Rattle.incarnations.specs.declared.state.Event.TheVariants.{Publish}
 use Rattle.book.specs.Run.{Run, IsSoundEvent}
