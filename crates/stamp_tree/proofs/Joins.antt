@@ -1,9 +1,8 @@
 -- How two lists stand, one behind the other.
 use Rattle.std.proofs.Common.{◌≡◌, ℕ, suc, ◌<◌, ◌+◌, max, Bool, true, false, List, [], ◌∷◌, ◌++◌, length, Option, Some, None, is_some, refl, sym, ap, ◌∙◌, arith}
 use Rattle.std.specs.Prelude.{option_map, if◌then◌else◌, ◌||◌}
-use Rattle.std.specs.Bool.{then_some}
 use Rattle.stamp_tree.specs.declared.standing.Standing.{Standing}
-use Rattle.stamp_tree.specs.Standings.{is_due, first_due, latest_after, StandsFor, StandAlike}
+use Rattle.stamp_tree.specs.Standings.{is_due, first_due, latest_after, StandsFor}
 
 pub latest-append : (latest : ℕ) (xs ys : List Standing) → latest_after latest (xs ++ ys) ≡ latest_after (latest_after latest xs) ys
 unfolding latest_after
@@ -57,54 +56,6 @@ stands_joined whole first second xs ys h k due changed =
           ∙ (let more : max (max latest first.changed) second.changed ≡ max latest whole.changed = omega (arith, changed) in more);
     }
 
--- lists of which one is as before, and the other stands as before
-pub alike_left : (xs xs' ys : List Standing) → StandAlike xs xs' → StandAlike (xs ++ ys) (xs' ++ ys)
-alike_left xs xs' ys h =
-    record {
-      due = λ latest.
-          ap is_some (first-append latest xs' ys)
-          ∙ some_behind (first_due latest xs') (first_due (latest_after latest xs') ys) (length xs')
-          ∙ (λ t. h.due latest t || ap (λ n. is_some (first_due n ys)) (h.changed latest) t)
-          ∙ sym (ap is_some (first-append latest xs ys) ∙ some_behind (first_due latest xs) (first_due (latest_after latest xs) ys) (length xs));
-      changed = λ latest. latest-append latest xs' ys ∙ ap (λ n. latest_after n ys) (h.changed latest) ∙ sym (latest-append latest xs ys);
-    }
-
-pub alike_right : (xs ys ys' : List Standing) → StandAlike ys ys' → StandAlike (xs ++ ys) (xs ++ ys')
-alike_right xs ys ys' h =
-    record {
-      due = λ latest.
-          ap is_some (first-append latest xs ys')
-          ∙ some_behind (first_due latest xs) (first_due (latest_after latest xs) ys') (length xs)
-          ∙ (λ t. is_some (first_due latest xs) || h.due (latest_after latest xs) t)
-          ∙ sym (ap is_some (first-append latest xs ys) ∙ some_behind (first_due latest xs) (first_due (latest_after latest xs) ys) (length xs));
-      changed = λ latest. latest-append latest xs ys' ∙ h.changed (latest_after latest xs) ∙ sym (latest-append latest xs ys);
-    }
-
-pub left_alike : (xs xs' ys ys' : List Standing) → StandAlike xs xs' → ys' ≡ ys → StandAlike (xs ++ ys) (xs' ++ ys')
-left_alike xs xs' ys ys' h e = rw e (alike_left xs xs' ys h)
-
-pub right_alike : (xs xs' ys ys' : List Standing) → xs' ≡ xs → StandAlike ys ys' → StandAlike (xs ++ ys) (xs' ++ ys')
-right_alike xs xs' ys ys' e h = rw e (alike_right xs ys ys' h)
-
-pub alike_over : (xs xs' zs zs' : List Standing) → zs ≡ xs → xs' ≡ zs' → StandAlike zs zs' → StandAlike xs xs'
-alike_over xs xs' zs zs' e f h = record {
-  due = λ latest. ap (λ (l : List Standing). is_some (first_due latest l)) f ∙ h.due latest ∙ ap (λ (l : List Standing). is_some (first_due latest l)) e;
-  changed = λ latest. ap (latest_after latest) f ∙ h.changed latest ∙ ap (latest_after latest) e;
-}
-
-pub alike_same : (xs xs' : List Standing) → xs' ≡ xs → StandAlike xs xs'
-alike_same xs xs' e = record { due = λ latest. ap (λ zs. is_some (first_due latest zs)) e; changed = λ latest. ap (latest_after latest) e }
-
-pub stand_alike : (whole : Standing) (xs xs' : List Standing) → StandAlike xs xs' → StandsFor whole xs → StandsFor whole xs'
-stand_alike whole xs xs' h k = record { due = λ latest. h.due latest ∙ k.due latest; changed = λ latest. h.changed latest ∙ k.changed latest }
-
-pub alike_by : (whole whole' : Standing) (xs xs' : List Standing) → whole' ≡ whole → StandsFor whole xs → StandsFor whole' xs' → StandAlike xs xs'
-alike_by whole whole' xs xs' e h k =
-    record {
-      due = λ latest. k.due latest ∙ ap (λ (w : Standing). is_due latest w.due) e ∙ sym (h.due latest);
-      changed = λ latest. k.changed latest ∙ ap (λ (w : Standing). max latest w.changed) e ∙ sym (h.changed latest);
-    }
-
 if_is : (b : Bool) → is_some (if b then Some 0 else option_map (λ (place : ℕ). suc place) None) ≡ b
 if_is true = refl
 if_is false = refl
@@ -112,10 +63,6 @@ if_is false = refl
 pub stands_one : (x : Standing) → StandsFor x (x ∷ [])
 unfolding first_due latest_after
 stands_one x = record { due = λ latest. if_is (is_due latest x.due); changed = λ latest. refl }
-
-pub stands_none : (x : Standing) → ((latest : ℕ) → is_due latest x.due ≡ false) → x.changed ≡ 0 → StandsFor x []
-unfolding first_due latest_after
-stands_none x due changed = record { due = λ latest. sym (due latest); changed = λ latest. omega (arith, changed) }
 
 within_map : (o : Option ℕ) (n place : ℕ) → ((j : ℕ) → o ≡ Some j → j < n) → option_map (λ j. suc j) o ≡ Some place → place < suc n
 within_map None n place h e = absurd (let f : None ≡ Some place = e in (cc))
@@ -147,15 +94,3 @@ first_right latest next xs ys e f =
     go : (o : Option ℕ) → is_some o ≡ false → or_behind o (length xs) (first_due (latest_after latest xs) ys) ≡ option_map (λ place. length xs + place) (first_due (latest_after latest xs) ys)
     go (Some place) e = absurd (let f : true ≡ false = e in (cc))
     go None e = refl
-
-if_one : (b : Bool) → (if b then Some 0 else option_map (λ (place : ℕ). suc place) None) ≡ (if b then Some 0 else None)
-if_one true = refl
-if_one false = refl
-
-pub first_one : (latest : ℕ) (x : Standing) → first_due latest (x ∷ []) ≡ (if is_due latest x.due then Some 0 else None)
-unfolding first_due
-first_one latest x = if_one (is_due latest x.due)
-
-pub some_if : (b : Bool) → then_some {T = ℕ} b 0 ≡ (if b then Some 0 else None)
-some_if true = refl
-some_if false = refl

@@ -1,2 +1,2 @@
-pub mod Forks
 pub mod Joins
+pub mod Pairs

@@ -1,2 +1,3 @@
 pub mod Standings
-pub mod Nodes
+pub mod Pairs
+pub mod Leading

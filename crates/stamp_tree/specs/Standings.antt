@@ -25,8 +25,3 @@ latest_after latest (x ∷ xs) = latest_after (max latest x.changed) xs
 pub record StandsFor (whole : Standing) (list : List Standing) : Type 0 where
   pub due : (latest : ℕ) → is_some (first_due latest list) ≡ is_due latest whole.due
   pub changed : (latest : ℕ) → latest_after latest list ≡ max latest whole.changed
-
--- whether something is to be done in them, and when they last changed, is the same of both
-pub record StandAlike (before after : List Standing) : Type 0 where
-  pub due : (latest : ℕ) → is_some (first_due latest after) ≡ is_some (first_due latest before)
-  pub changed : (latest : ℕ) → latest_after latest after ≡ latest_after latest before

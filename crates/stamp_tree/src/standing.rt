@@ -70,15 +70,3 @@ pub(crate) fn joined(first: Standing, second: Standing) -> Standing
         changed: first.changed.max(second.changed),
     }
 }
-
-/// Puts down how two stand, the second behind the first. It answers whether that is otherwise than it was.
-pub(crate) fn sum_up(whole: &mut Standing, first: Standing, second: Standing) -> bool
-    ensures due { (latest : ℕ) → due_at latest whole.new.due
-        ≡ (due_at latest first.due || due_at (max latest first.changed) second.due) }
-    ensures changed { whole.new.changed ≡ max first.changed second.changed }
-    ensures same { result ≡ false → whole.new ≡ whole.old }
-{
-    let before = *whole;
-    *whole = joined(first, second);
-    is_other(&before, whole)
-}

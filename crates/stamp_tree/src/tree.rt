@@ -1,44 +1,82 @@
 //! The tree.
-ghost use Rattle.std.specs.Prelude.{◌≡◌, ◌<◌, ◌+◌, ◌^◌, ◌++◌, false, length, replicate, slice_set, IfOk};
-ghost use Rattle.stamp_tree.specs.Standings.{first_due, StandsFor, StandAlike};
-ghost use Rattle.stamp_tree.specs.Nodes.{standings, IsSummed};
+ghost use Rattle.std.specs.Prelude.{◌≡◌, ◌<◌, ◌≤◌, ◌+◌, ◌*◌, length, replicate, slice_set, take, drop, vec_len, None, IfOk, IfSome};
+ghost use Rattle.stamp_tree.specs.Standings.{first_due, StandsFor};
+ghost use Rattle.stamp_tree.specs.Pairs.{ArePairs};
+ghost use Rattle.stamp_tree.specs.Leading.{Leads};
 
-use crate::standing::{Due, Standing, is_due, is_other, joined, sum_up};
+use crate::standing::{Due, Standing, is_due, is_other, joined};
 use std::alloc::{AllocError, Global};
 use std::marker::Model;
 
-/// How requests stand, in their order. Contracts see the list.
+/// How requests stand, in their order: a list, above it one half as long of how they stand two by two, and so on. Contracts see the first list.
 #[cycle(tree)]
 #[derive(Drop)]
 pub struct StampTree {
-    node: Node,
+    list: Vec<Standing>,
+    above: Above,
 }
 
+// How those of a list stand two by two, where there are several.
 #[cycle(tree)]
 #[derive(Drop)]
-enum Node {
-    Empty,
-    Leaf(Standing),
-    // How all of them stand together, how many the first side has, and the sides.
-    Fork(Standing, usize, Box<StampTree>, Box<StampTree>),
+enum Above {
+    Nothing,
+    Pairs(Box<StampTree>),
 }
 
 impl Model for StampTree {
     ghost use Rattle.std.specs.Prelude.{List, length};
-    ghost use Rattle.std.proofs.Common.{arith, length-append};
+    ghost use Rattle.std.proofs.Common.{arith};
     ghost use Rattle.stamp_tree.specs.declared.standing.Standing.{Standing as Stands};
 
     ghost Value = { List Stands };
 
-    ghost use Rattle.stamp_tree.specs.Nodes.{standings, IsSummed};
+    ghost use Rattle.stamp_tree.specs.Pairs.{IsSummed};
 
-    ghost view = { λ t. standings t.node };
+    ghost view = { λ t. t.list.items };
 
-    ghost invariant = { λ t. IsSummed t.node };
+    ghost invariant = { λ t. IsSummed t.list.items t.above };
 
     ghost size = { length };
 
-    ghost size_decreases = { λ t h. Prim.grind (arith, length-append) };
+    ghost size_decreases = { λ t h. Prim.grind (arith) };
+}
+
+// How two of a list stand together, of which the last may stand alone.
+fn pair_at(list: &[Standing], pair: usize) -> Standing
+    requires { pair + pair < length list.now }
+    ensures { StandsFor result (take 2 (drop (pair + pair) list.now)) }
+{
+    let place = pair + pair;
+    if place + 1 < list.len() {
+        joined(list[place], list[place + 1])
+    } else {
+        list[place]
+    }
+}
+
+// How all of them stand two by two.
+fn pairs_of(alloc: Global, list: &[Standing]) -> Result<Vec<Standing>, AllocError>
+    ensures pairs { IfOk result (λ pairs. ArePairs list.now pairs.items) }
+    ensures count { IfOk result (λ pairs. (2 * vec_len pairs ≤ length list.now + 1)) }
+{
+    let mut pairs = Vec::new(alloc);
+    for pair in 0..list.len() / 2 + list.len() % 2 {
+        pairs.push(pair_at(list, pair))?;
+    }
+    Ok(pairs)
+}
+
+// The request for which something is to be done, of one at most, before which nothing changed.
+fn leading_alone(list: &[Standing]) -> Option<(usize, u64)>
+    requires { length list.now ≤ 1 }
+    ensures some { IfSome result (λ found. Leads 0 list.now found.0 found.1) }
+    ensures none { result ≡ None → first_due 0 list.now ≡ None }
+{
+    if list.is_empty() || !is_due(0, list[0].due) {
+        return None;
+    }
+    Some((0, 0))
 }
 
 impl StampTree {
@@ -46,66 +84,37 @@ impl StampTree {
     pub fn new(alloc: Global, count: usize, standing: Standing) -> Result<StampTree, AllocError>
         ensures { IfOk result (λ tree. tree ≡ replicate count standing) }
     {
-        if count == 0 {
-            return Ok(StampTree { node: Node::Empty });
+        StampTree::over(alloc, Vec::from_elem(alloc, standing, count)?)
+    }
+
+    // The tree over a list.
+    fn over(alloc: Global, list: Vec<Standing>) -> Result<StampTree, AllocError>
+        ensures { IfOk result (λ tree. tree ≡ list.items) }
+    {
+        if list.len() < 2 {
+            let above = Above::Nothing;
+            return Ok(StampTree { list, above });
         }
-        if count == 1 {
-            return Ok(StampTree {
-                node: Node::Leaf(standing),
-            });
-        }
-        let low = count / 2;
-        let left = Box::new(alloc, StampTree::new(alloc, low, standing)?)?;
-        let right = Box::new(alloc, StampTree::new(alloc, count - low, standing)?)?;
-        let whole = joined(left.whole(), right.whole());
+        let pairs = pairs_of(alloc, list.as_slice())?;
+        let above = Box::new(alloc, StampTree::over(alloc, pairs)?)?;
         Ok(StampTree {
-            node: Node::Fork(whole, low, left, right),
+            list,
+            above: Above::Pairs(above),
         })
     }
 
-    // How all of them stand together.
-    fn whole(&self) -> Standing
-        ensures { StandsFor result self.now }
-    {
-        match &self.node {
-            Node::Empty => Standing {
-                due: Due::Never,
-                changed: 0,
-            },
-            Node::Leaf(standing) => *standing,
-            Node::Fork(whole, _, _, _) => *whole,
-        }
-    }
-
-    /// The request at this place stands so.
+    /// The request at this place stands so. Where it stands as before, nothing changes above.
     pub fn set(&mut self, place: usize, standing: Standing)
         requires { place < length self.old }
         ensures { self.new ≡ slice_set self.old place standing }
     {
-        self.put(place, standing);
-    }
-
-    // The same. It answers whether they may stand otherwise together: where not, nothing changes above.
-    fn put(&mut self, place: usize, standing: Standing) -> bool
-        requires { place < length self.old }
-        ensures list { self.new ≡ slice_set self.old place standing }
-        ensures alike { result ≡ false → StandAlike self.old self.new }
-    {
-        match &mut self.node {
-            Node::Empty => unreachable!(),
-            Node::Leaf(leaf) => {
-                let is_other = is_other(leaf, &standing);
-                *leaf = standing;
-                is_other
-            }
-            Node::Fork(whole, low, left, right) => {
-                let is_other = if place < *low {
-                    left.put(place, standing)
-                } else {
-                    right.put(place - *low, standing)
-                };
-                is_other && sum_up(whole, left.whole(), right.whole())
-            }
+        if !is_other(&self.list[place], &standing) {
+            return;
+        }
+        self.list[place] = standing;
+        match &mut self.above {
+            Above::Nothing => {}
+            Above::Pairs(tree) => tree.set(place / 2, pair_at(self.list.as_slice(), place / 2)),
         }
     }
 
@@ -113,24 +122,24 @@ impl StampTree {
     pub fn first(&self) -> Option<usize>
         ensures { result ≡ first_due 0 self.now }
     {
-        self.first_behind(0)
+        let (place, _latest) = self.leading()?;
+        Some(place)
     }
 
-    // The same, where those before the tree last changed at this moment.
-    fn first_behind(&self, latest: u64) -> Option<usize>
-        ensures { result ≡ first_due latest self.now }
+    // The same, with the moment when those before it last changed.
+    fn leading(&self) -> Option<(usize, u64)>
+        ensures some { IfSome result (λ found. Leads 0 self.now found.0 found.1) }
+        ensures none { result ≡ None → first_due 0 self.now ≡ None }
     {
-        match &self.node {
-            Node::Empty => None,
-            Node::Leaf(standing) => is_due(latest, standing.due).then_some(0),
-            Node::Fork(_, low, left, right) => {
-                let whole = left.whole();
-                if is_due(latest, whole.due) {
-                    return left.first_behind(latest);
-                }
-                let place = right.first_behind(latest.max(whole.changed))?;
-                Some(low + place)
-            }
+        let Above::Pairs(tree) = &self.above else {
+            return leading_alone(self.list.as_slice());
+        };
+        let (pair, latest) = tree.leading()?;
+        let place = pair + pair;
+        let first = self.list[place];
+        if is_due(latest, first.due) {
+            return Some((place, latest));
         }
+        Some((place + 1, latest.max(first.changed)))
     }
 }
