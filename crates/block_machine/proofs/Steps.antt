@@ -1,15 +1,14 @@
 -- How an event keeps what the machine has beside its state.
-use Rattle.std.proofs.Common.{◌≡◌, ℕ, ◌+◌, Bool, false, true, List, [], ◌∷◌, length, Option, Some, None, max, slice_set, refl, sym, ap, ◌∙◌, subst}
-use Rattle.std.specs.Prelude.{◌==◌, is_none, is_some, if◌then◌else◌}
+use Rattle.std.proofs.Common.{◌≡◌, ℕ, ◌+◌, Bool, false, true, List, length, Option, Some, None, max, slice_set, refl, sym, ap, ◌∙◌, subst}
+use Rattle.std.specs.Prelude.{◌==◌, is_none, if◌then◌else◌}
 use Rattle.std.proofs.lemmas.Bool.{false≢true}
 use Rattle.std.proofs.lemmas.List.{get_or_default}
 use Rattle.stamp_tree.specs.declared.standing.Standing.{Standing}
 use Rattle.reads.specs.Reads.{View, Read}
 use Rattle.stamp_tree.specs.declared.standing.Due.{Due}
-use Rattle.stamp_tree.specs.declared.standing.Due.TheVariants.{Now}
 use Rattle.incarnations.specs.declared.state.Pass.{Pass}
 use Rattle.incarnations.specs.declared.state.Status.TheVariants.{Executed}
-use Rattle.incarnations.specs.Slots.{Slot, Noted, fresh_slot, begun, committed, passed}
+use Rattle.incarnations.specs.Slots.{Slot, fresh_slot, committed, passed}
 use Rattle.incarnations.specs.Statuses.{is_closed}
 use Rattle.incarnations.specs.Standings.{due_of, standing_of}
 use Rattle.validate.specs.Below.{slot_at}
@@ -61,33 +60,6 @@ keeps_passing slots front latest standings k i n stands executed checked after i
     let at_it : slot_at after i ≡ x = ap (λ s. slot_at s i) is ∙ set_same slots i x (open_within slots i still) in
     keeps_stand slots front latest standings k i still x after is
     (passing_stands (slot_at slots i) n stands (status_within slots i (Executed n) executed).1 checked (sym (ap is_none (shown ∙ ap (λ (y : Slot). y.pass) at_it)) ∙ some))
-
--- an executed request that has no stamp is to be checked, whether a pass stands or not
-due_unstamped : (pass : Option Pass) (n : ℕ) → due_of (Executed n) pass None ≡ Now
-due_unstamped None n = refl
-due_unstamped (Some p) n = refl
-
-is_None : (o : Option ℕ) → is_some o ≡ false → o ≡ None
-is_None None e = refl
-is_None (Some m) e = absurd (false≢true (sym e))
-
-beginning_stands : (x : Slot) (n clock : ℕ) → x.status ≡ Executed n → x.stamp ≡ None → is_none (begun x x.notes clock).pass ≡ false → standing_of (begun x x.notes clock) ≡ standing_of x
-beginning_stands x n clock executed unstamped = at x.notes
-  where
-    at : (ns : List Noted) → is_none (begun x ns clock).pass ≡ false → standing_of (begun x ns clock) ≡ standing_of x
-    at [] e = absurd (false≢true (sym e))
-    at (note ∷ ns) e =
-        ap (λ (d : Due). record { due = d; changed = x.changed })
-        (ap (λ st. due_of st (Some (record { start = clock; next = 0 })) None) executed ∙ sym ((λ t. due_of (executed t) x.pass (unstamped t)) ∙ due_unstamped x.pass n))
-
-pub keeps_beginning : (slots : List Slot) (front latest : ℕ) (standings : List Standing) → KeepsBeside slots front latest standings → (i n clock : ℕ) → status_of slots i ≡ Some (Executed n) → (stamp : Option ℕ) → stamp ≡ (slot_at slots i).stamp → is_some stamp ≡ false
-    → (after : List Slot) → after ≡ slice_set slots i (begun (slot_at slots i) (slot_at slots i).notes clock) → (pass : Option Pass) → pass ≡ (slot_at after i).pass → is_none pass ≡ false → KeepsBeside after front latest standings
-keeps_beginning slots front latest standings k i n clock executed stamp stamped none after is pass shown some =
-    let still : is_closed (status_of slots i) ≡ false = ap is_closed executed in
-    let x = begun (slot_at slots i) (slot_at slots i).notes clock in
-    let at_it : slot_at after i ≡ x = ap (λ s. slot_at s i) is ∙ set_same slots i x (open_within slots i still) in
-    keeps_stand slots front latest standings k i still x after is
-    (beginning_stands (slot_at slots i) n clock (status_within slots i (Executed n) executed).1 (sym stamped ∙ is_None stamp none) (sym (ap is_none (shown ∙ ap (λ (y : Slot). y.pass) at_it)) ∙ some))
 
 pub keeps_front : (slots : List Slot) (front latest : ℕ) (standings : List Standing) → KeepsBeside slots front latest standings → (i : ℕ) → is_closed (status_of slots i) ≡ false
     → (s : State) → s.slots ≡ slots → s.front ≡ front → can_commit s i ≡ true

@@ -317,12 +317,8 @@ impl<'a> Machine<'a> {
         if let Some(refusal) = incarnations::refused_executed(status, n) {
             return refusal;
         }
-        let was_stamped = self.slots.stamp(i).is_some();
         self.slots.begin(i, self.clock);
-        // without a stamp it was to be checked before, too
-        if was_stamped || self.slots.pass(i).is_none() {
-            self.standings.set(i, self.slots.standing(i));
-        }
+        self.standings.set(i, self.slots.standing(i));
         Reply::Begun
     }
 
