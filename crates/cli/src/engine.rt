@@ -1,21 +1,29 @@
 //! The engine of the command `run`.
-ghost use Rattle.std.specs.Prelude.{◌≡◌, ◌≢◌, ◌<◌, ◌≤◌, ◌-◌, ◌^◌, true, IfErr, OnOk, IsErrOf};
+ghost use Rattle.std.specs.Prelude.{◌≡◌, ◌≢◌, ◌<◌, ◌≤◌, ◌-◌, ◌^◌, true, IfOk, IfErr, OnOk, IsErrOf};
+ghost use Rattle.datasets.specs.Dataset.{IsDataset};
+ghost use Rattle.terms.specs.Term.{term_order};
+ghost use Rattle.dict.specs.Dictionary.{term_of, is_known};
+ghost use Rattle.meaning_laws.specs.Renaming.{renamed, dataset_known};
 ghost use Rattle.engines.specs.Failures.{is_unread, is_unwritten, FailedIf, OneFailedIf};
 ghost use Rattle.engines.specs.Inputs.{IsFaultOf};
 ghost use Rattle.engines.specs.Outputs.{IfBoth, Wrote, WroteInPart, taken};
 
 use canonical_nquads::canonical_pieces_by;
 use command_line::{Fault, File};
+use datasets::Id;
 use delta::Outcome;
 use devices::Watched;
-use engines::{Runs, read_base_by, read_block_by, run_by};
+use engines::{Runs, named_with, read_base_by, read_block_by, run_by};
+use meaning::Request;
 use numbering::{Numbered, number, number_by};
 use pool::{Open, run_block};
+use reads::CompactView;
 use rules::Block;
 use std::alloc::{AllocError, Global};
 use std::io::{Read, Write};
 use std::sync::Wait;
-use std::thread::Threads;
+use std::thread::{Threads, join};
+use store::Base;
 use terms::DataSet;
 
 /// By workers on threads of their own, from 1 to 64.
@@ -58,6 +66,30 @@ impl<'r, T: Threads + Wait + Sync> Runs for Workers<'r, T> {
         let (terms, dataset) = (base.terms(), base.dataset());
         let outcome = run_block(self.rt, alloc, terms, dataset, block, self.count, &Open)?;
         Ok(outcome)
+    }
+
+    fn named(
+        &self,
+        alloc: Global,
+        base: Base,
+        block: Vec<Request<Id>>,
+        dataset: CompactView,
+    ) -> Result<DataSet, AllocError> {
+        if self.count == 1 {
+            drop(block);
+            return named_with(alloc, base, dataset);
+        }
+        let (_, answer) = join(
+            self.rt,
+            move || drop(block),
+            move || -> Result<DataSet, AllocError>
+                requires { (dataset_known (is_known base.terms) dataset ≡ true)
+                    × IsDataset term_order (renamed (term_of base.terms) dataset) }
+                ensures { IfOk result (λ answer. answer
+                    ≡ renamed (term_of base.terms) dataset) }
+            { named_with(alloc, base, dataset) },
+        );
+        answer
     }
 
     fn text(&self, alloc: Global, dataset: &DataSet, tag: u32) -> Result<Vec<Vec<u8>>, AllocError> {

@@ -1,9 +1,9 @@
 -- A block that was cut has few requests, and none has too many operations.
-use Rattle.std.proofs.Common.{◌≡◌, ℕ, zero, suc, ◌≤◌, ◌<◌, ◌^◌, arith, List, length, Option, Some, None, Result, Ok, Err, refl, sym, ap, subst}
+use Rattle.std.proofs.Common.{◌≡◌, ℕ, zero, suc, ◌≤◌, arith, List, length, Some, None, Ok, Err, refl, ap, subst}
 use Rattle.std.specs.Prelude.{IfOk}
 use Rattle.terms.specs.declared.term.Term.{Term}
 use Rattle.meaning.specs.Run.{Request}
-use Rattle.rules.specs.Requests.{AreEach, AreChecked, none, more}
+use Rattle.rules.specs.Requests.{AreChecked, none, more}
 use Rattle.rules.specs.Refusal.{IsChecked}
 use Rattle.update.specs.Asked.{IsShort}
 use Rattle.update.specs.Asked.{AreShort}

@@ -14,7 +14,6 @@ use Rattle.numbering.specs.Numbered.{IsNumbered, IsCarried, CarriesBlock}
 use Rattle.store.specs.Base.{Base}
 use Rattle.update.specs.Asked.{IsShort}
 use Rattle.update.specs.Asked.{AreShort}
-use Rattle.book.specs.Run.{Run as BookRun, state_of, front_run}
 use Rattle.engines.specs.Outputs.{IsWhole}
 
 get-map : {A B : Type 0} (f : A → B) (xs : List A) (i : ℕ) (x : A) → slice_get xs i ≡ Some x → slice_get (map f xs) i ≡ Some (f x)

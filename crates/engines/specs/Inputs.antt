@@ -1,5 +1,5 @@
 -- What the program answers to the bytes of a base and of a block, each on its own.
-use Rattle.std.specs.Prelude.{◌≡◌, ℕ, ◌^◌, List, Result, Ok, Err}
+use Rattle.std.specs.Prelude.{ℕ, ◌^◌, List, Result, Ok, Err}
 use Rattle.datasets.specs.Dataset.{Dataset}
 use Rattle.terms.specs.declared.term.Term.{Term}
 use Rattle.meaning.specs.Run.{Request}

@@ -13,25 +13,33 @@ ghost use Rattle.engines.specs.Outputs.{IfBoth, IsAnswerTo, Wrote, WroteInPart, 
 
 use crate::outputs::{Texts, write_texts};
 use command_line::{Fault, File, replies_text};
+use datasets::Id;
 use delta::Outcome;
 use devices::Watched;
+use meaning::Request;
 use numbering::laws::carries_block;
 use numbering::{Numbered, named};
+use reads::CompactView;
 use rules::Block;
 use std::alloc::{AllocError, Global};
 use std::io::{Read, Write};
 use std::mem::forget;
+use store::Base;
 use terms::DataSet;
 
 /// A way to read a base and a block, to run the block at numbers of terms, and to make the text of a dataset.
 pub trait Runs {
-    ghost use Rattle.std.specs.Prelude.{◌<◌, ◌≤◌, ◌-◌, ◌^◌, length, IfOk, IfSome};
+    ghost use Rattle.std.specs.Prelude.{◌≡◌, ◌<◌, ◌≤◌, ◌-◌, ◌^◌, true, length, IfOk, IfSome};
     ghost use Rattle.update.specs.Asked.{AreShort};
     ghost use Rattle.engines.specs.Failures.{is_unread, FailedIf, TellsNoOther};
     ghost use Rattle.engines.specs.Inputs.{IsBaseAnswer, IsBlockAnswer};
     ghost use Rattle.engines.specs.Outputs.{IsWhole};
     ghost use Rattle.canonical_nquads.specs.Canonical.{canonical, text_of_pieces};
     ghost use Rattle.numbering.specs.Numbered.{IsNumbered};
+    ghost use Rattle.datasets.specs.Dataset.{IsDataset};
+    ghost use Rattle.terms.specs.Term.{term_order};
+    ghost use Rattle.dict.specs.Dictionary.{term_of, is_known};
+    ghost use Rattle.meaning_laws.specs.Renaming.{renamed, dataset_known};
 
     // What it takes of its types.
     ghost Ready: { Type 0 };
@@ -68,10 +76,33 @@ pub trait Runs {
         requires short { AreShort numbered.now.block.items }
         ensures { IfOk result (λ outcome. IsWhole numbered.now.base.terms numbered.now.base.dataset numbered.now.block.items outcome.dataset outcome.replies) };
 
+    /// The dataset of terms that one at numbers stands for, where neither the base nor the block is needed any more: what is left of them is let
+    /// go. An `Err` is want of memory.
+    fn named(
+        &self,
+        alloc: Global,
+        base: Base,
+        block: Vec<Request<Id>>,
+        dataset: CompactView,
+    ) -> Result<DataSet, AllocError>
+        requires ready { Ready }
+        requires known { dataset_known (is_known base.terms) dataset ≡ true }
+        requires dataset { IsDataset term_order (renamed (term_of base.terms) dataset) }
+        ensures { IfOk result (λ answer. answer ≡ renamed (term_of base.terms) dataset) };
+
     /// The canonical text of a dataset, with this tag of the made nodes, in pieces that stand one behind another. An `Err` is want of memory.
     fn text(&self, alloc: Global, dataset: &DataSet, tag: u32) -> Result<Vec<Vec<u8>>, AllocError>
         requires ready { Ready }
         ensures { IfOk result (λ pieces. text_of_pieces pieces.items ≡ canonical dataset.now tag) };
+}
+
+/// The dataset of terms that one at numbers of a base's terms stands for. Of the base only its terms are left. An `Err` is want of memory.
+pub fn named_with(alloc: Global, base: Base, dataset: CompactView) -> Result<DataSet, AllocError>
+    requires known { dataset_known (is_known base.terms) dataset ≡ true }
+    requires dataset { IsDataset term_order (renamed (term_of base.terms) dataset) }
+    ensures { IfOk result (λ answer. answer ≡ renamed (term_of base.terms) dataset) }
+{
+    named(alloc, base.into_terms(), dataset)
 }
 
 /// The texts of an outcome at numbers of terms: the canonical text of its dataset, with the tag of the base, and its reply lines. What is not
@@ -93,9 +124,8 @@ pub fn texts_of_outcome<W: Runs>(
 {
     let Outcome { dataset, replies } = outcome;
     let Numbered { base, block } = numbered;
-    drop(block);
     let tag = base.tag();
-    let answer = named(alloc, base.into_terms(), dataset)?;
+    let answer = way.named(alloc, base, block, dataset)?;
     let text = way.text(alloc, &answer, tag)?;
     // Only writing is left. To let each term go would take as long, and the process's end lets all go at once.
     forget(answer);

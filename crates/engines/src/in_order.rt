@@ -4,17 +4,21 @@ ghost use Rattle.engines.specs.Failures.{is_unread, is_unwritten, FailedIf, OneF
 ghost use Rattle.engines.specs.Inputs.{IsFaultOf};
 ghost use Rattle.engines.specs.Outputs.{IfBoth, Wrote, WroteInPart, taken};
 
-use crate::engine::{Runs, run_by};
+use crate::engine::{Runs, named_with, run_by};
 use crate::inputs::{read_base, read_block};
 use canonical_nquads::canonical_pieces;
 use command_line::{Fault, File};
+use datasets::Id;
 use delta::Outcome;
 use devices::Watched;
+use meaning::Request;
 use numbering::{Numbered, number};
+use reads::CompactView;
 use rules::Block;
 use serial::run;
 use std::alloc::{AllocError, Global};
 use std::io::{Read, Write};
+use store::Base;
 use terms::DataSet;
 
 /// One request after another.
@@ -43,6 +47,17 @@ impl Runs for OneByOne {
 
     fn outcome(&self, alloc: Global, numbered: &Numbered) -> Result<Outcome, AllocError> {
         run(alloc, &numbered.base, numbered.block.as_slice())
+    }
+
+    fn named(
+        &self,
+        alloc: Global,
+        base: Base,
+        block: Vec<Request<Id>>,
+        dataset: CompactView,
+    ) -> Result<DataSet, AllocError> {
+        drop(block);
+        named_with(alloc, base, dataset)
     }
 
     fn text(&self, alloc: Global, dataset: &DataSet, tag: u32) -> Result<Vec<Vec<u8>>, AllocError> {

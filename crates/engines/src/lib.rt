@@ -16,7 +16,7 @@ mod outputs;
 mod replayed;
 
 pub use check::check_engine;
-pub use engine::{Runs, run_by, texts_of_outcome};
+pub use engine::{Runs, named_with, run_by, texts_of_outcome};
 pub use files::{InFile, OutFile};
 pub use in_order::serial_engine;
 pub use inputs::{read_base_by, read_block_by};

@@ -1,4 +1,4 @@
-use Rattle.std.proofs.Common.{◌∙◌, ℕ, ap, arith}
+use Rattle.std.proofs.Common.{◌∙◌, ap, arith}
 use Rattle.canonical_nquads.specs.Canonical.{canonical}
 use Rattle.command_line.specs.Replies.{reply_lines}
 use Rattle.engines.proofs.Composed.{short, same_length, known, named_dataset, named_is, replies_are, all_of}

@@ -1,6 +1,5 @@
-use Rattle.std.proofs.Common.{ap, sym, subst, ◌∙◌}
+use Rattle.std.proofs.Common.{ap, ◌∙◌}
 use Rattle.canonical_nquads.specs.Canonical.{canonical}
-use Rattle.canonical_nquads.specs.Tag.{IsTagOf}
 use Rattle.command_line.specs.Replies.{reply_lines}
 use Rattle.engines.proofs.Composed.{short, known, named_dataset, named_is, replies_are, all_of}
 use Rattle.engines.proofs.engine.texts_of.Goals as goal
