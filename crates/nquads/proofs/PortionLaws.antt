@@ -1,7 +1,7 @@
 -- Reading a text in portions of whole lines.
 use Rattle.std.specs.Prelude.{◌&&◌, IfOk, IfSome}
-use Rattle.std.proofs.Common.{◌≡◌, ◌+◌, ◌-◌, ◌<◌, ◌≤◌, ◌⊎◌, inl, inr, ℕ, Vec, Box, Global, Bool, true, false, cond, eqb, List, [], ◌∷◌, ◌++◌, length, take, drop, get_or, Option, Some, None, Result, Ok, Err, refl, sym, ap, ◌∙◌, subst, arith, append_assoc, length-append}
-use Rattle.std.proofs.lemmas.List.{append-nil, drop_at, take-append-drop}
+use Rattle.std.proofs.Common.{◌≡◌, ◌+◌, ◌-◌, ◌<◌, ◌≤◌, ◌⊎◌, inl, inr, ℕ, Vec, Global, Bool, true, false, cond, eqb, List, [], ◌∷◌, ◌++◌, length, take, drop, get_or, Option, Some, None, Result, Ok, Err, refl, sym, ap, ◌∙◌, subst, arith, append_assoc, length-append}
+use Rattle.std.proofs.lemmas.List.{append-nil, take-append-drop}
 use Rattle.std.proofs.lemmas.Bool.Decides.{leb_tells}
 use Rattle.std.proofs.lemmas.Str.{IsUtf8-nil}
 use Rattle.std.proofs.Math.Seq.{take-append-add, take-append_seam, get_or-append_right, get_or-append_seam}
@@ -26,7 +26,7 @@ use Rattle.nquads.specs.Pieces.{ArePieces}
 use Rattle.nquads.specs.Whole.{read_from, no_quads, ReadsText}
 use Rattle.nquads.specs.Long.{front_within, but_last, ended_lines, counted_lines, IsAnswer}
 use Rattle.nquads.specs.Checked.{first_bad, StopsAt}
-use Rattle.nquads.specs.Portions.{IsReadText, EndsWithLine, IsFrontRead, AreRead, IsBehind, ends_of, ends_in, IsPartlyRead, StopsBehind, StopsWithin}
+use Rattle.nquads.specs.Portions.{IsReadText, EndsWithLine, IsFrontRead, AreRead, both, behind, all_behind, if_behind, as_one, ends_of, ends_in, IsPartlyRead, StopsBehind, StopsFurther, StopsWithin}
 use Rattle.nquads.proofs.WholeLaws.{whole_found, no_bad_in}
 use Rattle.nquads.proofs.LongLaws.{first_bad_is, all_good, within, beyond, front_within-front}
 use Rattle.nquads.proofs.PieceLaws.{lines_before, are_both, in_parts, united_spelled}
@@ -134,24 +134,38 @@ pub counted_read : LinesAreRead → ListsGrowAsDatasets → (text : List ℕ) (r
 counted_read read grows text (Ok t) h e = record { spelled = whole_found read grows text t.dataset h; ends = e }
 counted_read read grows text (Err f) h e = tt
 
-pub then_reads : LinesAreRead → ListsUnite → (front later : ReadText) (r : Result ReadText BaseFault)
-    → IfOk r (λ both. (both.dataset ≡ united front.dataset later.dataset) × (both.ends ≡ front.ends + later.ends))
-    → IfOk r (λ both. (whole text : List ℕ) → IsFrontRead whole (Some front) → IsReadText text later → IsReadText (whole ++ text) both)
-then_reads read unite front later (Ok both) is = then_read read unite front later both is.0 is.1
-then_reads read unite front later (Err e) is = tt
-
 -- ---- pieces behind whole lines
 
-pub last_behind : (p : Box (Unit {0}) Global) (front : Option ReadText) (first : ReadPieces) (last before : ReadText) (r : Result ReadText BaseFault) → IsBehind front first before
-    → IfOk r (λ read. (whole text : List ℕ) → IsFrontRead whole (Some before) → IsReadText text last → IsReadText (whole ++ text) read) → IfOk r (λ read. read.ends ≡ before.ends + last.ends)
-    → IfOk r (IsBehind front (Behind' p first last))
-last_behind p front first last before (Ok read) is said ends = record {
-  said = λ whole text front_is are.
-      let ended : EndsWithLine (whole ++ are.0) = (whole ++ are.2.0, ap (λ t. whole ++ t) are.2.1 ∙ sym (append_assoc whole are.2.0 (10 ∷ []))) in
-      subst (λ t. IsReadText t read) (append_assoc whole are.0 are.1 ∙ ap (λ t. whole ++ t) (sym are.2.2)) (said (whole ++ are.0) are.1 (ended, is.said whole are.0 front_is are.3) are.4);
-  ends = let some : before.ends ≡ ends_of front + ends_in first = is.ends in let all : read.ends ≡ before.ends + last.ends = ends in omega arith;
-}
-last_behind p front first last before (Err e) is said ends = tt
+pub ended_behind : (whole text : List ℕ) → EndsWithLine text → EndsWithLine (whole ++ text)
+ended_behind whole text ends = (whole ++ ends.0, ap (λ t. whole ++ t) ends.1 ∙ sym (append_assoc whole ends.0 (10 ∷ [])))
+
+module _ (read : LinesAreRead) (unite : ListsUnite) where
+  one_behind : (front : Option ReadText) (later : ReadText) (whole text : List ℕ) → IsFrontRead whole front → IsReadText text later → IsReadText (whole ++ text) (behind front later)
+  one_behind None later whole text is is_later = subst (λ t. IsReadText (t ++ text) later) (sym is) is_later
+  one_behind (Some front) later whole text is is_later = then_read read unite front later (both front later) refl refl whole text is is_later
+
+  pub are_behind : (front : Option ReadText) (pieces : ReadPieces) (whole text : List ℕ) → IsFrontRead whole front → AreRead text pieces → IsReadText (whole ++ text) (all_behind front pieces)
+  are_behind front (Only later) whole text is are = one_behind front later whole text is are
+  are_behind front (Behind' p first last) whole text is are =
+      let before = are_behind front first whole are.0 is are.3 in
+      let ended = ended_behind whole are.0 (are.2.0, are.2.1) in
+      subst (λ t. IsReadText t (both (all_behind front first) last)) (append_assoc whole are.0 are.1 ∙ ap (λ t. whole ++ t) (sym are.2.2))
+      (then_read read unite (all_behind front first) last (both (all_behind front first) last) refl refl (whole ++ are.0) are.1 (ended, before) are.4)
+
+pub both_are : (front later : ReadText) (r : Result ReadText BaseFault) → IfOk r (λ read. (read.dataset ≡ united front.dataset later.dataset) × (read.ends ≡ front.ends + later.ends)) → IfOk r (λ read. read ≡ both front later)
+both_are front later (Ok read) is = λ i. record { dataset = is.0 i; ends = is.1 i }
+both_are front later (Err e) is = tt
+
+pub ends_behind : (front : Option ReadText) (pieces : ReadPieces) → (all_behind front pieces).ends ≡ ends_of front + ends_in pieces
+ends_behind None (Only later) = omega arith
+ends_behind (Some front) (Only later) = refl
+ends_behind front (Behind' p first last) = let some : (all_behind front first).ends ≡ ends_of front + ends_in first = ends_behind front first in omega arith
+
+pub ends_as_one : (front : Option ReadText) (behind : Option ReadPieces) (pieces : ReadPieces) → behind ≡ Some pieces → ends_of (if_behind front behind) ≡ ends_of front + ends_in pieces
+ends_as_one front behind pieces e = ap (λ b. ends_of (if_behind front b)) e ∙ ends_behind front pieces
+
+pub as_behind : (front : Option ReadText) (behind : Option ReadPieces) (pieces : ReadPieces) → behind ≡ Some pieces → if_behind front behind ≡ Some (all_behind front pieces)
+as_behind front behind pieces e = ap (if_behind front) e
 
 -- ---- bad lines among others
 
@@ -270,8 +284,8 @@ but_last_behind (l ∷ k ∷ before) x xs = ap (λ t. l ∷ t) (but_last_behind 
 but_last_of : (before ls : List (List ℕ)) (x : List ℕ) (xs : List (List ℕ)) → ls ≡ x ∷ xs → but_last (before ++ ls) ≡ before ++ but_last ls
 but_last_of before ls x xs e = rw e (but_last_behind before x xs)
 
-ended_behind : (before : List (List ℕ)) (text : List ℕ) → but_last (before ++ lines text) ≡ before ++ but_last (lines text)
-ended_behind before text = but_last_of before (lines text) _ _ (lines_first text)
+ended_after : (before : List (List ℕ)) (text : List ℕ) → but_last (before ++ lines text) ≡ before ++ but_last (lines text)
+ended_after before text = but_last_of before (lines text) _ _ (lines_first text)
 
 whole_front : (front : List ℕ) (text : Option ReadText) → IsFrontRead front text → AreWhole front
 whole_front front None is = inl is
@@ -281,7 +295,7 @@ whole_front front (Some text) is = inr is.0
 ended_further : (front rest : List ℕ) (before : List (List ℕ)) (k : ℕ) → AreWhole front → ((ys : List ℕ) → lines (front ++ ys) ≡ before ++ lines ys)
     → ended_lines (length front + k) (front ++ rest) ≡ before ++ ended_lines k rest
 ended_further front rest before k whole cut =
-    ap (λ t. but_last (lines t)) (front_behind front rest k whole) ∙ ap but_last (cut (front_within k rest)) ∙ ended_behind before (front_within k rest)
+    ap (λ t. but_last (lines t)) (front_behind front rest k whole) ∙ ap but_last (cut (front_within k rest)) ∙ ended_after before (front_within k rest)
 
 -- ---- what is answered
 
@@ -360,7 +374,7 @@ given_behind (Some xs) (Some ys) (Some zs) first more h k = h ∙ ap (λ t. firs
 
 -- more came behind what no line of ended
 pub further_begun : (before old new : Option (List ℕ)) (limit : ℕ) (read : PartlyRead) (rest : Vec ℕ Global) (is_all : Bool) → IsPartlyRead before old read
-    → IsFilled limit old new read.rest.items rest.items is_all → IsPartlyRead before new (record { front = read.front; len = read.len; rest = rest; is_all = is_all })
+    → IsFilled limit old new read.rest.items rest.items is_all → IsPartlyRead before new (record { lines = read.lines; len = read.len; rest = rest; spare = read.spare; is_all = is_all })
 further_begun before old new limit read rest is_all is filled = record {
   front = is.front;
   taken = subst (Consumes before new) (append_assoc is.front read.rest.items filled.given ∙ ap (λ t. is.front ++ t) (sym filled.cut))
@@ -370,25 +384,20 @@ further_begun before old new limit read rest is_all is filled = record {
   all = filled.all;
 }
 
--- what is behind whole lines
-pub begun_after : (text lines begun had : List ℕ) → ArePieces text lines begun → had ≡ drop (length lines) text → had ≡ begun
-begun_after text lines begun had pieces is = is ∙ ap (drop (length lines)) pieces.2 ∙ drop_at lines begun (length lines) refl
-
 -- whole lines were read, and more came behind the others
-pub further_read : (before old new : Option (List ℕ)) (limit : ℕ) (read : PartlyRead) (lines begun : List ℕ) (both : ReadText) (rest : Vec ℕ Global) (is_all : Bool)
-    → IsPartlyRead before old read → ArePieces read.rest.items lines begun → IsFilled limit old new begun rest.items is_all
-    → ((front : List ℕ) → IsFrontRead front read.front → IsReadText (front ++ lines) both)
-    → IsPartlyRead before new (record { front = Some both; len = read.len + length lines; rest = rest; is_all = is_all })
-further_read before old new limit read lines begun both rest is_all is pieces filled said =
-    let cut : (is.front ++ read.rest.items) ++ filled.given ≡ (is.front ++ lines) ++ rest.items =
-    ap (λ t. (is.front ++ t) ++ filled.given) pieces.2 ∙ ap (λ t. t ++ filled.given) (sym (append_assoc is.front lines begun)) ∙ append_assoc (is.front ++ lines) begun filled.given
+pub further_read : LinesAreRead → ListsUnite → (before old new : Option (List ℕ)) (limit : ℕ) (had : PartlyRead) (lines begun : List ℕ) (front : Option ReadText) (pieces : ReadPieces) (rest spare : Vec ℕ Global) (is_all : Bool)
+    → IsPartlyRead before old had → ArePieces had.rest.items lines begun → IsFilled limit old new begun rest.items is_all → front ≡ as_one had.lines → AreRead lines pieces
+    → IsPartlyRead before new (record { lines = record { front = front; behind = Some pieces }; len = had.len + length lines; rest = rest; spare = spare; is_all = is_all })
+further_read read unite before old new limit had lines begun front pieces rest spare is_all is parts filled same are =
+    let cut : (is.front ++ had.rest.items) ++ filled.given ≡ (is.front ++ lines) ++ rest.items =
+    ap (λ t. (is.front ++ t) ++ filled.given) parts.2 ∙ ap (λ t. t ++ filled.given) (sym (append_assoc is.front lines begun)) ∙ append_assoc (is.front ++ lines) begun filled.given
     ∙ ap (λ t. (is.front ++ lines) ++ t) (sym filled.cut) in
-    let number : read.len ≡ length is.front = is.count in
+    let number : had.len ≡ length is.front = is.count in
     let all : length (is.front ++ lines) ≡ length is.front + length lines = length-append is.front lines in
     record {
       front = is.front ++ lines;
-      taken = subst (Consumes before new) cut (given_behind before old new (is.front ++ read.rest.items) filled.given is.taken filled.taken);
-      said = ((is.front ++ pieces.0, ap (λ t. is.front ++ t) pieces.1 ∙ sym (append_assoc is.front pieces.0 (10 ∷ []))), said is.front is.said);
+      taken = subst (Consumes before new) cut (given_behind before old new (is.front ++ had.rest.items) filled.given is.taken filled.taken);
+      said = (ended_behind is.front lines (parts.0, parts.1), are_behind read unite front pieces is.front lines (subst (IsFrontRead is.front) (sym same) is.said) are);
       count = omega arith;
       all = filled.all;
     }
@@ -396,7 +405,7 @@ further_read before old new limit read lines begun both rest is_all is pieces fi
 module _ (read : LinesAreRead) where
   -- why whole lines were not read
   pub further_fault : (limit : ℕ) (text : List ℕ) (old : Option (List ℕ)) (had : PartlyRead) (lines begun : List ℕ) (f : BaseFault) → IsPartlyRead (Some text) old had → ArePieces had.rest.items lines begun
-      → had.len + length had.rest.items ≤ limit → StopsBehind (ends_of had.front) lines f → IsAnswer limit text (Err f)
+      → had.len + length had.rest.items ≤ limit → StopsFurther (ends_of (as_one had.lines)) lines f → IsAnswer limit text (Err f)
   further_fault limit text None had lines begun f is pieces few stops = absurd is.taken
   further_fault limit text (Some later) had lines begun fault.OutOfMemory is pieces few stops = tt
   further_fault limit text (Some later) had lines begun (fault.BadLine n) is pieces few stops =
@@ -408,13 +417,13 @@ module _ (read : LinesAreRead) where
       let within : length (is.front ++ lines) ≤ limit = omega arith in
       subst (λ t. IsFirstBadOf (counted_lines limit t) n) (sym cut)
       (subst (IsFirstBadOf (counted_lines limit ((is.front ++ lines) ++ (begun ++ later)))) (sym stops.1)
-      (portion_bad read limit is.front lines (begun ++ later) had.front stops.0 is.said (pieces.0, pieces.1) within stops.2))
+      (portion_bad read limit is.front lines (begun ++ later) (as_one had.lines) stops.0 is.said (pieces.0, pieces.1) within stops.2))
   further_fault limit text (Some later) had lines begun fault.TooLong is pieces few stops = absurd stops
-  further_fault limit text (Some later) had lines begun fault.Device is pieces few stops = absurd stops
+  further_fault limit text (Some later) had lines begun fault.Device is pieces few stops = tt
 
   -- why what came last was not read
   pub last_fault : (limit : ℕ) (text : List ℕ) (now : Option (List ℕ)) (had : PartlyRead) (f : BaseFault) → IsPartlyRead (Some text) now had → had.is_all ≡ true → had.len + length had.rest.items ≤ limit
-      → StopsBehind (ends_of had.front) had.rest.items f → IsAnswer limit text (Err f)
+      → StopsBehind (ends_of (as_one had.lines)) had.rest.items f → IsAnswer limit text (Err f)
   last_fault limit text None had f is all few stops = absurd is.taken
   last_fault limit text (Some later) had fault.OutOfMemory is all few stops = tt
   last_fault limit text (Some later) had (fault.BadLine n) is all few stops =
@@ -423,23 +432,23 @@ module _ (read : LinesAreRead) where
       let many : length (is.front ++ had.rest.items) ≡ length is.front + length had.rest.items = length-append is.front had.rest.items in
       let within : length (is.front ++ had.rest.items) ≤ limit = omega arith in
       subst (λ t. IsFirstBadOf (counted_lines limit t) n) (sym whole)
-      (subst (IsFirstBadOf (counted_lines limit (is.front ++ had.rest.items))) (sym stops.1) (last_bad read limit is.front had.rest.items had.front stops.0 is.said within stops.2))
+      (subst (IsFirstBadOf (counted_lines limit (is.front ++ had.rest.items))) (sym stops.1) (last_bad read limit is.front had.rest.items (as_one had.lines) stops.0 is.said within stops.2))
   last_fault limit text (Some later) had fault.TooLong is all few stops = absurd stops
   last_fault limit text (Some later) had fault.Device is all few stops = absurd stops
 
   pub fault_beyond : (limit : ℕ) (text : List ℕ) (now : Option (List ℕ)) (had : PartlyRead) (f : BaseFault) → IsPartlyRead (Some text) now had → had.len ≤ limit → limit < had.len + length had.rest.items
-      → StopsWithin (ends_of had.front) (limit - had.len) had.rest.items f → IsAnswer limit text (Err f)
+      → StopsWithin (ends_of (as_one had.lines)) (limit - had.len) had.rest.items f → IsAnswer limit text (Err f)
   fault_beyond limit text None had f is few many stops = absurd is.taken
   fault_beyond limit text (Some later) had f is few many stops =
       let number : had.len ≡ length is.front = is.count in
       let k = limit - had.len in
       let same : length is.front + k ≡ limit = omega arith in
       let within : k < length had.rest.items = omega arith in
-      subst (λ t. IsAnswer limit t (Err f)) (sym is.taken) (long_fault read limit k is.front had.rest.items later had.front f is.said same within stops)
+      subst (λ t. IsAnswer limit t (Err f)) (sym is.taken) (long_fault read limit k is.front had.rest.items later (as_one had.lines) f is.said same within stops)
 
 -- all was read
 pub last_answer : (limit : ℕ) (text : List ℕ) (now : Option (List ℕ)) (had : PartlyRead) (both : ReadText) → IsPartlyRead (Some text) now had → had.is_all ≡ true → had.len + length had.rest.items ≤ limit
-    → ((front : List ℕ) → IsFrontRead front had.front → IsReadText (front ++ had.rest.items) both) → IsAnswer limit text (Ok both.dataset)
+    → ((front : List ℕ) → IsFrontRead front (as_one had.lines) → IsReadText (front ++ had.rest.items) both) → IsAnswer limit text (Ok both.dataset)
 last_answer limit text None had both is all few said = absurd is.taken
 last_answer limit text (Some later) had both is all few said =
     let whole : text ≡ is.front ++ had.rest.items = is.taken ∙ ap (λ t. (is.front ++ had.rest.items) ++ t) (is.all all) ∙ append-nil (is.front ++ had.rest.items) in

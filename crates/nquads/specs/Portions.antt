@@ -5,6 +5,8 @@ use Rattle.nquads_lines.specs.Lines.{lines}
 use Rattle.nquads.specs.declared.fault.BaseFault.{BaseFault}
 use Rattle.nquads.specs.declared.fault.BaseFault.TheVariants as fault
 use Rattle.nquads.specs.declared.reader.ReadText.{ReadText}
+use Rattle.terms.specs.DataSet.{united}
+use Rattle.nquads.specs.declared.pieces.ReadLines.{ReadLines}
 use Rattle.nquads.specs.declared.pieces.ReadPieces.{ReadPieces}
 use Rattle.nquads.specs.declared.pieces.ReadPieces.TheVariants.{Only, Behind'}
 use Rattle.nquads.specs.declared.portions.PartlyRead.{PartlyRead}
@@ -42,16 +44,33 @@ abbrev pub ends_of : Option ReadText → ℕ
 ends_of None = 0
 ends_of (Some read) = read.ends
 
--- what the lines say that were read, and behind them a text in pieces
-pub record IsBehind (front : Option ReadText) (pieces : ReadPieces) (read : ReadText) : Type 0 where
-  pub said : (lines text : List ℕ) → IsFrontRead lines front → AreRead text pieces → IsReadText (lines ++ text) read
-  pub ends : read.ends ≡ ends_of front + ends_in pieces
+-- two texts, of which the first ends with an LF, as one
+abbrev pub both : ReadText → ReadText → ReadText
+both first later = record { dataset = united first.dataset later.dataset; ends = first.ends + later.ends }
+
+-- a text behind the lines that were read
+abbrev pub behind : Option ReadText → ReadText → ReadText
+behind None later = later
+behind (Some read) later = both read later
+
+-- pieces behind the lines that were read
+abbrev pub all_behind : Option ReadText → ReadPieces → ReadText
+all_behind front (Only read) = behind front read
+all_behind front (Behind' p first last) = both (all_behind front first) last
+
+abbrev pub if_behind : Option ReadText → Option ReadPieces → Option ReadText
+if_behind front None = front
+if_behind front (Some pieces) = Some (all_behind front pieces)
+
+-- whole lines that were read, as one text
+abbrev pub as_one : ReadLines → Option ReadText
+as_one lines = if_behind lines.front lines.behind
 
 -- of the bytes that a reader had left before, some came: first whole lines, which were read, and then others
 pub record IsPartlyRead (before now : Option (List ℕ)) (read : PartlyRead) : Type 0 where
   pub front : List ℕ
   pub taken : Consumes before now (front ++ read.rest.items)
-  pub said : IsFrontRead front read.front
+  pub said : IsFrontRead front (as_one read.lines)
   pub count : read.len ≡ length front
   pub all : read.is_all ≡ true → IsAtEnd now
 
@@ -68,6 +87,13 @@ StopsBehind before text fault.OutOfMemory = Unit {0}
 StopsBehind before text (fault.BadLine n) = (m : ℕ) × (n ≡ before + m) × IsFirstBad text m
 StopsBehind before text fault.TooLong = ⊥
 StopsBehind before text fault.Device = ⊥
+
+-- the same, where bytes behind the text may not have come either
+abbrev pub StopsFurther : ℕ → List ℕ → BaseFault → Type 0
+StopsFurther before text fault.OutOfMemory = Unit {0}
+StopsFurther before text (fault.BadLine n) = StopsBehind before text (fault.BadLine n)
+StopsFurther before text fault.TooLong = ⊥
+StopsFurther before text fault.Device = Unit {0}
 
 -- the same of a text that is longer than a limit, of which those lines count that lie with their end within it: it may be too long, and each says
 -- what a line may say

@@ -1,8 +1,8 @@
 //! A text that is read in pieces, by several threads.
-ghost use Rattle.std.specs.Prelude.{◌≡◌, ◌≤◌, ◌<◌, ◌+◌, ◌-◌, ◌^◌, ◌++◌, ℕ, List, length, slice_index, IfOk, IfErr, IfSome};
+ghost use Rattle.std.specs.Prelude.{◌≡◌, ◌≤◌, ◌<◌, ◌+◌, ◌-◌, ◌^◌, length, slice_index, IfOk, IfErr, IfSome};
 ghost use Rattle.std.specs.Thread.{IsSync};
 ghost use Rattle.nquads.specs.Pieces.{ArePieces};
-ghost use Rattle.nquads.specs.Portions.{IsReadText, IsFrontRead, AreRead, IsBehind, ends_of, ends_in};
+ghost use Rattle.nquads.specs.Portions.{IsReadText, AreRead, ends_of, ends_in, behind, all_behind, as_one};
 ghost use Rattle.nquads.specs.declared.fault.BaseFault.TheVariants.{OutOfMemory};
 ghost use Rattle.terms.specs.DataSet.{united as the_united};
 
@@ -13,7 +13,7 @@ use radix::place_for_last;
 use std::alloc::Global;
 use std::thread::{Threads, join};
 use terms::DataSet;
-use terms::laws::{lists_grow_as_datasets, lists_unite};
+use terms::laws::lists_grow_as_datasets;
 
 /// What was read of a text in pieces that stand one behind another.
 #[derive(Drop)]
@@ -21,6 +21,50 @@ pub enum ReadPieces {
     Only(ReadText),
     /// Some pieces, and one behind them.
     Behind(Box<ReadPieces>, ReadText),
+}
+
+/// Whole lines that were read.
+#[derive(Drop)]
+pub struct ReadLines {
+    /// Those that were put together, if any were.
+    pub front: Option<ReadText>,
+    /// Those behind them.
+    pub behind: Option<ReadPieces>,
+}
+
+/// How many lines were read.
+fn lines_before(front: &Option<ReadText>) -> usize
+    ensures { result ≡ ends_of front.now }
+{
+    match front {
+        Some(read) => read.ends,
+        None => 0,
+    }
+}
+
+/// How many lines of all pieces have an end.
+fn ends_in(pieces: &ReadPieces) -> usize
+    requires { ends_in pieces.now < 2 ^ 64 }
+    ensures { result ≡ ends_in pieces.now }
+{
+    match pieces {
+        ReadPieces::Only(read) => read.ends,
+        ReadPieces::Behind(first, last) => ends_in(first) + last.ends,
+    }
+}
+
+impl ReadLines {
+    /// How many lines they are.
+    pub fn ends(&self) -> usize
+        requires { ends_of (as_one self.now) < 2 ^ 64 }
+        ensures { result ≡ ends_of (as_one self.now) }
+    {
+        let before = lines_before(&self.front);
+        match &self.behind {
+            Some(pieces) => before + ends_in(pieces),
+            None => before,
+        }
+    }
 }
 
 /// Where the first LF ends that comes at this place or later.
@@ -75,13 +119,9 @@ fn and_then<T: Threads + Sync>(
     more: ReadText,
 ) -> Result<ReadText, BaseFault>
     requires { ends_of front + more.ends < 2 ^ 64 }
-    ensures ok { IfOk result (λ read. (lines text : List ℕ) → IsFrontRead lines front
-        → IsReadText text more → IsReadText (lines ++ text) read) }
-    ensures ends { IfOk result (λ read. read.ends ≡ ends_of front + more.ends) }
+    ensures ok { IfOk result (λ read. read ≡ behind front more) }
     ensures err { IfErr result (λ e. e ≡ OutOfMemory) }
 {
-    lines_are_read();
-    lists_unite();
     match front {
         Some(front) => united(rt, front, more),
         None => Ok(more),
@@ -96,7 +136,7 @@ pub(crate) fn and_pieces<T: Threads + Sync>(
     pieces: ReadPieces,
 ) -> Result<ReadText, BaseFault>
     requires { ends_of front + ends_in pieces < 2 ^ 64 }
-    ensures ok { IfOk result (IsBehind front pieces) }
+    ensures ok { IfOk result (λ read. read ≡ all_behind front pieces) }
     ensures err { IfErr result (λ e. e ≡ OutOfMemory) }
 {
     match pieces {
@@ -105,6 +145,22 @@ pub(crate) fn and_pieces<T: Threads + Sync>(
             let read = and_pieces(rt, front, Box::into_inner(first))?;
             and_then(rt, Some(read), last)
         }
+    }
+}
+
+/// Lines that were read, put together.
+pub(crate) fn together<T: Threads + Sync>(
+    rt: &T,
+    lines: ReadLines,
+) -> Result<Option<ReadText>, BaseFault>
+    requires { ends_of (as_one lines) < 2 ^ 64 }
+    ensures ok { IfOk result (λ read. read ≡ as_one lines) }
+    ensures err { IfErr result (λ e. e ≡ OutOfMemory) }
+{
+    let ReadLines { front, behind } = lines;
+    match behind {
+        Some(pieces) => Ok(Some(and_pieces(rt, front, pieces)?)),
+        None => Ok(front),
     }
 }
 

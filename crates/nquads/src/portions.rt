@@ -5,19 +5,22 @@ ghost use Rattle.devices.specs.Front.{IsFilled, is_device as is_unread};
 ghost use Rattle.nquads.specs.Long.{IsAnswer, front_within, is_device};
 ghost use Rattle.nquads.specs.Pieces.{ArePieces};
 ghost use Rattle.nquads.specs.declared.fault.BaseFault.TheVariants.{OutOfMemory};
-ghost use Rattle.nquads.specs.Portions.{AreRead, IsBehind, IsPartlyRead, DidNotCome, StopsBehind, StopsWithin, ends_of, ends_in};
+ghost use Rattle.nquads.specs.Portions.{AreRead, IsPartlyRead, DidNotCome, StopsBehind, StopsFurther, StopsWithin, ends_of, as_one};
 
 use crate::base::{MOST_BYTES, check_lines, ended_front};
 use crate::fault::BaseFault;
-use crate::pieces::{ReadPieces, and_pieces, read_pieces};
+use crate::pieces::{ReadLines, ReadPieces, and_pieces, read_pieces, together};
 use crate::reader::{ReadText, read_counted};
 use devices::{ReadFault, Watched, fill};
 use nquads_lines::laws::lines_are_read;
-use std::alloc::Global;
+use std::alloc::{AllocError, Global};
 use std::io::Read;
 use std::thread::{Threads, join_mut};
 use terms::DataSet;
-use terms::laws::lists_grow_as_datasets;
+use terms::laws::{lists_grow_as_datasets, lists_unite};
+
+/// How often a portion is as long as the first one, where several threads read.
+const FIRST_SHARE: usize = 4;
 
 /// Terms are few where a piece has so many quads for each.
 const QUADS_OF_A_TERM: usize = 2;
@@ -25,12 +28,14 @@ const QUADS_OF_A_TERM: usize = 2;
 /// What has come of a text.
 #[derive(Drop)]
 pub struct PartlyRead {
-    /// The lines that were read, if any were.
-    pub front: Option<ReadText>,
+    /// The lines that were read.
+    pub lines: ReadLines,
     /// How many bytes they have.
     pub len: usize,
     /// The bytes behind them.
     pub rest: Vec<u8>,
+    /// Room for others.
+    pub spare: Vec<u8>,
     /// Whether no more will come.
     pub is_all: bool,
 }
@@ -56,16 +61,6 @@ fn whole_lines(text: &[u8]) -> Option<(&[u8], &[u8])>
 {
     let end = end_of_last_lf(text)?;
     Some(text.split_at(end))
-}
-
-/// How many lines were read.
-fn lines_before(front: &Option<ReadText>) -> usize
-    ensures { result ≡ ends_of front.now }
-{
-    match front {
-        Some(read) => read.ends,
-        None => 0,
-    }
 }
 
 /// Reads a text before which so many lines come, in pieces by so many threads.
@@ -108,29 +103,26 @@ fn have_few_terms(pieces: &ReadPieces) -> bool {
     }
 }
 
-/// How many bytes come behind these pieces. The terms that several threads read of a portion are put among those of the lines before it by one
+/// How many bytes come behind these lines. The terms that several threads read of a portion are put among those of the lines before it by one
 /// thread: where they are not few, all that is left comes at once.
-fn portion_behind(pieces: &ReadPieces, threads: usize, portion: usize) -> usize
+fn portion_behind(lines: &ReadLines, threads: usize, portion: usize) -> usize
     requires { portion < 2 ^ 32 }
     ensures { result < 2 ^ 32 }
 {
-    if threads <= 1 || have_few_terms(pieces) {
-        portion
-    } else {
-        MOST_BYTES
+    match &lines.behind {
+        Some(pieces) if 1 < threads && !have_few_terms(pieces) => MOST_BYTES,
+        _ => portion,
     }
 }
 
-/// The bytes of a text that come at this place or later, in its memory.
-fn bytes_from(text: Vec<u8>, place: usize) -> Vec<u8>
-    requires { place ≤ length text.items }
-    ensures { result.items ≡ drop place text.items }
+/// These bytes, in the room of others.
+fn bytes_in(room: Vec<u8>, bytes: &[u8]) -> Result<Vec<u8>, AllocError>
+    ensures { IfOk result (λ list. list.items ≡ bytes.now) }
 {
-    let mut text = text;
-    let left = text.len() - place;
-    text.copy_within(place.., 0);
-    text.truncate(left);
-    text
+    let mut list = room;
+    list.clear();
+    list.extend_from_slice(bytes)?;
+    Ok(list)
 }
 
 /// What has come of a text of which no line has an end, and more.
@@ -145,7 +137,7 @@ fn begun_further<R: Read>(
     ensures ok { (before : Option (List ℕ))
         → IsPartlyRead before (R.remaining reader.old.inner) read
         → IfOk result (IsPartlyRead before (R.remaining reader.new.inner)) }
-    ensures ends { IfOk result (λ after. (after.front ≡ read.front) × (after.len ≡ read.len)) }
+    ensures ends { IfOk result (λ after. (after.lines ≡ read.lines) × (after.len ≡ read.len)) }
     ensures more { IfOk result (λ after. after.is_all ≡ false
         → length read.rest.items < length after.rest.items) }
     ensures err { IfErr result DidNotCome }
@@ -166,36 +158,103 @@ fn begun_further<R: Read>(
     }
 }
 
-/// The lines that were read and these pieces behind them, put together by a thread of its own, while more bytes come.
-fn and_pieces_while_filled<T: Threads + Sync, R: Read>(
+/// Reads a text behind these lines, which another thread puts together while this one reads, where there are several.
+fn read_beside<T: Threads + Sync>(
     rt: &T,
+    alloc: Global,
+    lines: ReadLines,
+    text: &[u8],
+    threads: usize,
+) -> (
+    Result<Option<ReadText>, BaseFault>,
+    Result<ReadPieces, BaseFault>,
+)
+    requires { ends_of (as_one lines) + length text.now < 2 ^ 64 - 1 }
+    ensures together { IfOk result.0 (λ read. read ≡ as_one lines) }
+    ensures full { IfErr result.0 (λ e. e ≡ OutOfMemory) }
+    ensures read { IfOk result.1 (AreRead text.now) }
+    ensures err { IfErr result.1 (StopsBehind (ends_of (as_one lines)) text.now) }
+{
+    let before = lines.ends();
+    if threads <= 1 {
+        let read = together(rt, lines);
+        return (read, read_text(rt, alloc, text, before, threads));
+    }
+    let mut given = Some(lines);
+    join_mut(
+        rt,
+        &mut || -> Result<Option<ReadText>, BaseFault>
+            requires { IsSync T.row × MatchOption given ⊥
+                (λ lines. ends_of (as_one lines) < 2 ^ 64) }
+            ensures { IfSome given.entry (λ lines. IfOk result (λ read. read ≡ as_one lines)
+                × IfErr result (λ e. e ≡ OutOfMemory)) }
+        {
+            match given.take() {
+                Some(lines) => together(rt, lines),
+                None => unreachable!(),
+            }
+        },
+        &mut || -> Result<ReadPieces, BaseFault>
+            requires { IsSync T.row × (before + length text.now < 2 ^ 64 - 1) }
+            ensures { IfOk result (AreRead text.entry.now)
+                × IfErr result (StopsBehind before text.entry.now) }
+        { read_text(rt, alloc, text, before, threads) },
+    )
+}
+
+/// Reads a text behind these lines, which are put together.
+fn read_behind<T: Threads + Sync>(
+    rt: &T,
+    alloc: Global,
+    lines: ReadLines,
+    text: &[u8],
+    threads: usize,
+) -> Result<(Option<ReadText>, ReadPieces), BaseFault>
+    requires { ends_of (as_one lines) + length text.now < 2 ^ 64 - 1 }
+    ensures ok { IfOk result (λ r. (r.0 ≡ as_one lines) × AreRead text.now r.1) }
+    ensures err { IfErr result (StopsBehind (ends_of (as_one lines)) text.now) }
+{
+    let (front, read) = read_beside(rt, alloc, lines, text, threads);
+    let pieces = read?;
+    Ok((front?, pieces))
+}
+
+/// The same, while more bytes come.
+fn read_while_filled<T: Threads + Sync, R: Read>(
+    rt: &T,
+    alloc: Global,
+    lines: ReadLines,
+    text: &[u8],
+    threads: usize,
     reader: &mut Watched<R>,
     bytes: &mut Vec<u8>,
     limit: usize,
-    front: Option<ReadText>,
-    pieces: ReadPieces,
-) -> (Result<ReadText, BaseFault>, Result<bool, ReadFault>)
+) -> (
+    Result<(Option<ReadText>, ReadPieces), BaseFault>,
+    Result<bool, ReadFault>,
+)
     requires failures { reader.old.failures < 2 ^ 64 - 1 }
     requires limit { limit < 2 ^ 63 }
-    requires ends { ends_of front + ends_in pieces < 2 ^ 64 }
-    ensures read { IfOk result.0 (IsBehind front pieces) }
-    ensures err { IfErr result.0 (λ e. e ≡ OutOfMemory) }
+    requires ends { ends_of (as_one lines) + length text.now < 2 ^ 64 - 1 }
+    ensures read { IfOk result.0 (λ r. (r.0 ≡ as_one lines) × AreRead text.now r.1) }
+    ensures err { IfErr result.0 (StopsBehind (ends_of (as_one lines)) text.now) }
     ensures filled { IfOk result.1 (IsFilled limit (R.remaining reader.old.inner)
         (R.remaining reader.new.inner) bytes.old.items bytes.new.items) }
     ensures count { reader.new.failures ≡ (if is_unread result.1 then reader.old.failures + 1
         else reader.old.failures) }
 {
-    let mut given = Some((front, pieces));
+    let mut given = Some(lines);
     join_mut(
         rt,
-        &mut || -> Result<ReadText, BaseFault>
+        &mut || -> Result<(Option<ReadText>, ReadPieces), BaseFault>
             requires { IsSync T.row × MatchOption given ⊥
-                (λ g. ends_of g.0 + ends_in g.1 < 2 ^ 64) }
-            ensures { IfSome given.entry (λ g. IfOk result (IsBehind g.0 g.1)
-                × IfErr result (λ e. e ≡ OutOfMemory)) }
+                (λ lines. ends_of (as_one lines) + length text.now < 2 ^ 64 - 1) }
+            ensures { IfSome given.entry (λ lines.
+                IfOk result (λ r. (r.0 ≡ as_one lines) × AreRead text.entry.now r.1)
+                × IfErr result (StopsBehind (ends_of (as_one lines)) text.entry.now)) }
         {
             match given.take() {
-                Some((front, pieces)) => and_pieces(rt, front, pieces),
+                Some(lines) => read_behind(rt, alloc, lines, text, threads),
                 None => unreachable!(),
             }
         },
@@ -204,33 +263,43 @@ fn and_pieces_while_filled<T: Threads + Sync, R: Read>(
 }
 
 /// The same, while more bytes come where there are several threads, and else before they do.
-fn and_then_filled<T: Threads + Sync, R: Read>(
+fn read_and_filled<T: Threads + Sync, R: Read>(
     rt: &T,
+    alloc: Global,
+    lines: ReadLines,
+    text: &[u8],
+    threads: usize,
     reader: &mut Watched<R>,
     bytes: &mut Vec<u8>,
     limit: usize,
-    front: Option<ReadText>,
-    pieces: ReadPieces,
-    threads: usize,
-) -> Result<(ReadText, bool), BaseFault>
+) -> Result<(Option<ReadText>, ReadPieces, bool), BaseFault>
     requires failures { reader.old.failures < 2 ^ 64 - 1 }
     requires limit { limit < 2 ^ 63 }
-    requires ends { ends_of front + ends_in pieces < 2 ^ 64 }
-    ensures read { IfOk result (λ r. IsBehind front pieces r.0) }
+    requires ends { ends_of (as_one lines) + length text.now < 2 ^ 64 - 1 }
+    ensures read { IfOk result (λ r. (r.0 ≡ as_one lines) × AreRead text.now r.1) }
     ensures filled { IfOk result (λ r. IsFilled limit (R.remaining reader.old.inner)
-        (R.remaining reader.new.inner) bytes.old.items bytes.new.items r.1) }
-    ensures err { IfErr result DidNotCome }
+        (R.remaining reader.new.inner) bytes.old.items bytes.new.items r.2) }
+    ensures err { IfErr result (StopsFurther (ends_of (as_one lines)) text.now) }
     ensures count { reader.new.failures ≡ (if is_device result then reader.old.failures + 1
         else reader.old.failures) }
 {
-    let (read, filled) = if threads <= 1 {
-        (and_pieces(rt, front, pieces), fill(reader, bytes, limit))
-    } else {
-        and_pieces_while_filled(rt, reader, bytes, limit, front, pieces)
-    };
-    // Where the reader failed, that is told.
-    let is_all = filled?;
-    Ok((read?, is_all))
+    if threads <= 1 {
+        let (front, pieces) = read_behind(rt, alloc, lines, text, threads)?;
+        let is_all = fill(reader, bytes, limit)?;
+        return Ok((front, pieces, is_all));
+    }
+    let (read, filled) = read_while_filled(rt, alloc, lines, text, threads, reader, bytes, limit);
+    match filled {
+        Ok(is_all) => {
+            let (front, pieces) = read?;
+            Ok((front, pieces, is_all))
+        }
+        // Where the reader failed, that is told.
+        Err(fault) => {
+            drop(read);
+            Err(fault.into())
+        }
+    }
 }
 
 /// Reads the whole lines of what has come, and then more comes.
@@ -243,13 +312,13 @@ fn read_further<T: Threads + Sync, R: Read>(
     portion: usize,
 ) -> Result<PartlyRead, BaseFault>
     requires failures { reader.old.failures < 2 ^ 64 - 1 }
-    requires ends { ends_of read.front ≤ read.len }
+    requires ends { ends_of (as_one read.lines) ≤ read.len }
     requires few { read.len + length read.rest.items < 2 ^ 32 }
     requires portion { portion < 2 ^ 32 }
     ensures ok { (before : Option (List ℕ))
         → IsPartlyRead before (R.remaining reader.old.inner) read
         → IfOk result (IsPartlyRead before (R.remaining reader.new.inner)) }
-    ensures ends { IfOk result (λ after. ends_of after.front ≤ after.len) }
+    ensures ends { IfOk result (λ after. ends_of (as_one after.lines) ≤ after.len) }
     ensures len { IfOk result (λ after. after.len ≤ read.len + length read.rest.items) }
     ensures more { IfOk result (λ after. after.is_all ≡ false
         → read.len + length read.rest.items < after.len + length after.rest.items) }
@@ -261,35 +330,53 @@ fn read_further<T: Threads + Sync, R: Read>(
         else reader.old.failures) }
 {
     lines_are_read();
+    lists_unite();
     let PartlyRead {
-        front,
+        lines,
         len,
         rest,
+        spare,
         is_all,
     } = read;
-    let Some((lines, _)) = whole_lines(rest.as_slice()) else {
+    let Some((text, begun)) = whole_lines(rest.as_slice()) else {
         let read = PartlyRead {
-            front,
+            lines,
             len,
             rest,
+            spare,
             is_all,
         };
         return begun_further(reader, read, portion);
     };
-    let pieces = match read_text(rt, alloc, lines, lines_before(&front), threads) {
-        Ok(pieces) => pieces,
+    let mut next = bytes_in(spare, begun)?;
+    let limit = next.len() + portion_behind(&lines, threads, portion);
+    let len = len + text.len();
+    let read = match read_and_filled(rt, alloc, lines, text, threads, reader, &mut next, limit) {
+        Ok(read) => read,
         Err(fault) => return Err(fault),
     };
-    let end = lines.len();
-    let mut rest = bytes_from(rest, end);
-    let limit = rest.len() + portion_behind(&pieces, threads, portion);
-    let (read, is_all) = and_then_filled(rt, reader, &mut rest, limit, front, pieces, threads)?;
+    let (front, pieces, is_all) = read;
     Ok(PartlyRead {
-        front: Some(read),
-        len: len + end,
-        rest,
+        lines: ReadLines {
+            front,
+            behind: Some(pieces),
+        },
+        len,
+        rest: next,
+        spare: rest,
         is_all,
     })
+}
+
+/// How many bytes come first. Of several threads all but one wait for them.
+fn first_portion(threads: usize, portion: usize) -> usize
+    ensures { result ≤ portion }
+{
+    if threads <= 1 {
+        portion
+    } else {
+        portion / FIRST_SHARE
+    }
 }
 
 /// Reads whole lines as long as more comes, and there is not more than the limit.
@@ -306,7 +393,7 @@ fn read_lines_of<T: Threads + Sync, R: Read>(
     requires portion { portion < 2 ^ 32 }
     ensures ok { IfOk result (IsPartlyRead (R.remaining reader.old.inner)
         (R.remaining reader.new.inner)) }
-    ensures ends { IfOk result (λ read. ends_of read.front ≤ read.len) }
+    ensures ends { IfOk result (λ read. ends_of (as_one read.lines) ≤ read.len) }
     ensures within { IfOk result (λ read. read.len ≤ limit) }
     ensures enough { IfOk result (λ read. read.is_all ≡ false
         → limit < read.len + length read.rest.items) }
@@ -316,11 +403,15 @@ fn read_lines_of<T: Threads + Sync, R: Read>(
         else reader.old.failures) }
 {
     let mut rest = Vec::new(alloc);
-    let is_all = fill(reader, &mut rest, portion)?;
+    let is_all = fill(reader, &mut rest, first_portion(threads, portion))?;
     let mut read = PartlyRead {
-        front: None,
+        lines: ReadLines {
+            front: None,
+            behind: None,
+        },
         len: 0,
         rest,
+        spare: Vec::new(alloc),
         is_all,
     };
     while !read.is_all && read.len + read.rest.len() <= limit {
@@ -357,7 +448,7 @@ fn ended<T: Threads + Sync>(
     limit: usize,
     threads: usize,
 ) -> Result<DataSet, BaseFault>
-    requires ends { ends_of read.front ≤ read.len }
+    requires ends { ends_of (as_one read.lines) ≤ read.len }
     requires few { read.len + length read.rest.items < 2 ^ 64 - 1 }
     requires enough { read.is_all ≡ false → limit < read.len + length read.rest.items }
     requires within { read.len ≤ limit }
@@ -367,22 +458,25 @@ fn ended<T: Threads + Sync>(
     ensures device { is_device result ≡ false }
 {
     lines_are_read();
+    lists_unite();
     let PartlyRead {
-        front,
+        lines,
         len,
         rest,
         ..
     } = read;
-    let before = lines_before(&front);
     if limit < len + rest.len() {
+        let before = lines.ends();
+        drop(lines);
         return Err(fault_within(alloc, rest.as_slice(), before, limit - len));
     }
-    let last = match read_text(rt, alloc, rest.as_slice(), before, threads) {
-        Ok(last) => last,
+    let read = match read_behind(rt, alloc, lines, rest.as_slice(), threads) {
+        Ok(read) => read,
         Err(fault) => return Err(fault),
     };
-    let read = and_pieces(rt, front, last)?;
-    Ok(read.dataset)
+    let (front, last) = read;
+    let whole = and_pieces(rt, front, last)?;
+    Ok(whole.dataset)
 }
 
 fn read_within_by<T: Threads + Sync, R: Read>(
