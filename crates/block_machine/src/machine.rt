@@ -20,6 +20,7 @@ use slots::{Asked, Slots};
 use stamp_tree::{Due, StampTree, Standing};
 use std::alloc::{AllocError, Global};
 use std::marker::Model;
+use std::thread::Threads;
 use validate::Verdict;
 
 /// The machine of a block.
@@ -131,11 +132,13 @@ impl<'a> Machine<'a> {
         self.slots.view(alloc, base, self.front)
     }
 
-    /// The same, where the machine is not needed any more.
-    pub fn into_front_view(
+    /// The same, where the machine is not needed any more. By several threads what it holds besides is let go beside the work.
+    pub fn into_front_view<T: Threads + Sync>(
         self,
+        rt: &T,
         alloc: Global,
         base: &IndexedView,
+        threads: u32,
     ) -> Result<CompactView, AllocError>
         requires { self.front ≤ length self.slots }
         ensures { IfOk result (λ view. view ≡ view_at base.now self.entry.slots self.entry.front) }
@@ -148,7 +151,7 @@ impl<'a> Machine<'a> {
             ..
         } = self;
         drop(standings);
-        settled_view(alloc, base, slots, front)
+        settled_view(rt, alloc, base, slots, front, threads)
     }
 
     /// The committed requests' replies.
@@ -470,11 +473,13 @@ impl<'a> Machine<'a> {
 }
 
 // The view of the first requests, which are committed.
-fn settled_view(
+fn settled_view<T: Threads + Sync>(
+    rt: &T,
     alloc: Global,
     base: &IndexedView,
     mut slots: Slots<'_>,
     front: usize,
+    threads: u32,
 ) -> Result<CompactView, AllocError>
     requires within { front ≤ length slots }
     requires committed { (j : ℕ) → j < front → closed (Some (slot_at slots j).status) ≡ true }
@@ -482,7 +487,7 @@ fn settled_view(
 {
     // What was committed last is settled too: where some is not, the dataset is widened.
     match slots.settle(alloc, front) {
-        Ok(()) => slots.into_view(alloc, base, front),
+        Ok(()) => slots.into_view(rt, alloc, base, front, threads),
         Err(error) => {
             drop(slots);
             Err(error)

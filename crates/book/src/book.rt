@@ -25,6 +25,7 @@ use reads::{CompactView, IndexedView, Scanned, View};
 use sets::Items;
 use std::alloc::{AllocError, Global};
 use std::marker::Model;
+use std::thread::Threads;
 
 /// A run of a block: what it is of, and every event that was answered, in order. Contracts see each with its answer and its transcript.
 #[derive(Drop)]
@@ -249,8 +250,14 @@ impl<'a> Book<'a> {
         })
     }
 
-    /// The same, where the book is not needed any more: its journal and its notes are let go before the dataset is made.
-    pub fn into_outcome(self, alloc: Global) -> Result<Outcome, AllocError>
+    /// The same, where the book is not needed any more: its journal and its notes are let go before the dataset is made, or the notes by another
+    /// thread of so many.
+    pub fn into_outcome<T: Threads + Sync>(
+        self,
+        rt: &T,
+        alloc: Global,
+        threads: u32,
+    ) -> Result<Outcome, AllocError>
         ensures { IfOk result (λ outcome. (outcome.dataset, outcome.replies)
             ≡ front_run self.entry) }
     {
@@ -267,7 +274,7 @@ impl<'a> Book<'a> {
         drop(journal);
         drop(spare);
         match told {
-            Ok(told) => ended(alloc, base, machine, told),
+            Ok(told) => ended(rt, alloc, base, machine, told, threads),
             Err(error) => {
                 drop(machine);
                 Err(error)
@@ -306,18 +313,20 @@ impl<'a> Book<'a> {
 }
 
 // What the committed requests come to, of which these are the replies.
-fn ended(
+fn ended<T: Threads + Sync>(
+    rt: &T,
     alloc: Global,
     base: &IndexedView,
     machine: Machine<'_>,
     told: Vec<meaning::Reply>,
+    threads: u32,
 ) -> Result<Outcome, AllocError>
     requires { machine.front ≤ length machine.slots }
     ensures { IfOk result (λ outcome. (outcome.dataset
         ≡ view_at base.now machine.entry.slots machine.entry.front)
         × (outcome.replies ≡ told.items)) }
 {
-    let dataset = machine.into_front_view(alloc, base)?;
+    let dataset = machine.into_front_view(rt, alloc, base, threads)?;
     Ok(Outcome {
         dataset,
         replies: Items::from_vec(told),

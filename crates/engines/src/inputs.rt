@@ -25,7 +25,7 @@ const MOST_BLOCK_BYTES: usize = 268_435_456;
 const PORTION_BYTES: u32 = 8_388_608;
 
 /// So many where several threads do, which wait for each other at the end of each portion.
-const SHARED_PORTION_BYTES: u32 = 33_554_432;
+const SHARED_PORTION_BYTES: u32 = 16_777_216;
 
 /// What the program tells of a base that was not read.
 fn base_fault(fault: BaseFault) -> Fault

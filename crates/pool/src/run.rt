@@ -109,5 +109,5 @@ pub fn run_block<R: Threads + Wait + Sync, G: Gate + Sync>(
         ≡ run (numbers terms.now) block.now base.now) }
 {
     let book = run_book(rt, alloc, terms, base, block, workers, gate)?;
-    book.into_outcome(alloc)
+    book.into_outcome(rt, alloc, workers)
 }

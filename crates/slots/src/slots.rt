@@ -22,6 +22,7 @@ use reads::{CompactView, IndexedView, Scanned, View};
 use stamp_tree::Standing;
 use std::alloc::{AllocError, Global};
 use std::marker::Model;
+use std::thread::{Threads, join};
 use validate::{Found, Kept, Verdict, changed_from, look};
 use version_overlay::{Settled, Spoken};
 
@@ -152,12 +153,14 @@ impl<'a> Slots<'a> {
         changed_from(alloc, slots, self.kept.low, n, view)
     }
 
-    /// The same, where nothing else is needed any more: notes and hints are let go first.
-    pub fn into_view(
+    /// The same, where nothing else is needed any more: notes and hints are let go first, or by another thread of so many.
+    pub fn into_view<T: Threads + Sync>(
         self,
+        rt: &T,
         alloc: Global,
         base: &IndexedView,
         n: usize,
+        threads: u32,
     ) -> Result<CompactView, AllocError>
         requires { n ≤ length self }
         ensures { IfOk result (λ view. view ≡ view_at base.now self.entry n) }
@@ -167,7 +170,19 @@ impl<'a> Slots<'a> {
             drop(self);
             return made;
         }
-        settled_of(self.kept).into_applied(alloc, base)
+        let (settled, rest) = apart(self.kept);
+        if threads <= 1 {
+            drop(rest);
+            return settled.into_applied(alloc, base);
+        }
+        let (_, view) = join(
+            rt,
+            move || drop(rest),
+            move || -> Result<CompactView, AllocError>
+                ensures { IfOk result (λ view. view ≡ changed_by settled base.entry.now) }
+            { settled.into_applied(alloc, base) },
+        );
+        view
     }
 
     // The same, and nothing is let go.
@@ -358,9 +373,9 @@ fn replies_before(
     Ok(list)
 }
 
-// The settled changes alone: the slots and the hints are let go.
-fn settled_of(kept: Kept<'_>) -> Settled
-    ensures { result ≡ kept.entry.settled }
+// The settled changes, and beside them the slots and the hints.
+fn apart(kept: Kept<'_>) -> (Settled, (Vec<Slot<'_>>, Spoken))
+    ensures { result.0 ≡ kept.entry.settled }
 {
     let Kept {
         slots,
@@ -368,7 +383,5 @@ fn settled_of(kept: Kept<'_>) -> Settled
         spoken,
         ..
     } = kept;
-    drop(slots);
-    drop(spoken);
-    settled
+    (settled, (slots, spoken))
 }

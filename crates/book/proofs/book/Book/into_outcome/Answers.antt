@@ -7,14 +7,14 @@ use Rattle.book.proofs.book.Book.into_outcome.Goals as goal
 
 pub ended-requires : goal.ended-requires
 unfolding setting
-ended-requires c =
+ended-requires g c =
     let front = said_of_book _ _ _ c.self.invariant (λ m history s. s.front ≤ m.size) c.front_is_within.ensures.front in
     let slots = said_of_book _ _ _ c.self.invariant (λ m history s. length s.slots ≡ m.size) c.front_is_within.ensures.slots in
-    omega (arith, front, slots)
+    (c.type_bounds.sync-T, omega (arith, front, slots))
 
 pub returns-in-Ok : goal.returns-in-Ok
 unfolding setting
-returns-in-Ok c =
+returns-in-Ok g c =
     let serial = said_of_book _ _ _ c.self.invariant (λ m history s. FrontIsSerial m s) c.front_is_serial.ensures in
     let front = said_of_book _ _ _ c.self.invariant (λ m history s. s.front ≤ m.size) c.front_is_within.ensures.front in
     let is = front_view _ _ c.self.inside.machine c.self.invariant serial front in
