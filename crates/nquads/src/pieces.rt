@@ -1,5 +1,5 @@
 //! A text that is read in pieces, by several threads.
-ghost use Rattle.std.specs.Prelude.{◌≡◌, ◌≤◌, ◌<◌, ◌+◌, ◌-◌, ◌^◌, length, slice_index, IfOk, IfErr, IfSome};
+ghost use Rattle.std.specs.Prelude.{◌≡◌, ◌≤◌, ◌<◌, ◌+◌, ◌-◌, ◌^◌, ℕ, List, length, slice_index, IfOk, IfErr, IfSome, MatchOption};
 ghost use Rattle.std.specs.Thread.{IsSync};
 ghost use Rattle.nquads.specs.Pieces.{ArePieces};
 ghost use Rattle.nquads.specs.Portions.{IsReadText, AreRead, ends_of, ends_in, behind, all_behind, as_one};
@@ -11,7 +11,7 @@ use crate::reader::{ReadText, read_counted};
 use nquads_lines::laws::lines_are_read;
 use radix::place_for_last;
 use std::alloc::Global;
-use std::thread::{Threads, join};
+use std::thread::{Threads, join, join_mut};
 use terms::DataSet;
 use terms::laws::lists_grow_as_datasets;
 
@@ -31,6 +31,9 @@ pub struct ReadLines {
     /// Those behind them.
     pub behind: Option<ReadPieces>,
 }
+
+/// How many times as much of a text the other threads read each as the one that puts the lines before it together.
+const SHARES: usize = 2;
 
 /// How many lines were read.
 fn lines_before(front: &Option<ReadText>) -> usize
@@ -64,6 +67,11 @@ impl ReadLines {
             Some(pieces) => before + ends_in(pieces),
             None => before,
         }
+    }
+
+    /// Whether none were read.
+    pub fn are_none(&self) -> bool {
+        self.front.is_none() && self.behind.is_none()
     }
 }
 
@@ -209,4 +217,65 @@ pub(crate) fn read_pieces<T: Threads + Sync>(
     );
     let before = Box::new(alloc, before?)?;
     Ok(ReadPieces::Behind(before, last?))
+}
+
+/// What pieces of a text say, and the one behind them, where all were read.
+fn with_last(
+    alloc: Global,
+    before: Result<ReadPieces, BaseFault>,
+    last: Result<ReadText, BaseFault>,
+) -> Result<ReadPieces, BaseFault>
+    ensures { (text first rest : List ℕ) → ArePieces text first rest → IfOk before (AreRead first)
+        → IfOk last (IsReadText rest) → IfOk result (AreRead text) }
+{
+    let before = Box::new(alloc, before?)?;
+    Ok(ReadPieces::Behind(before, last?))
+}
+
+/// Reads a text as `read_pieces` does, by at least two threads, of which one puts other lines together first, and then reads less of the text than
+/// each of the others.
+pub(crate) fn read_beside<T: Threads + Sync>(
+    rt: &T,
+    alloc: Global,
+    lines: ReadLines,
+    bytes: &[u8],
+    threads: usize,
+) -> (
+    Result<Option<ReadText>, BaseFault>,
+    Result<ReadPieces, BaseFault>,
+)
+    requires several { 1 < threads }
+    requires few { ends_of (as_one lines) < 2 ^ 64 }
+    ensures together { IfOk result.0 (λ read. read ≡ as_one lines) }
+    ensures full { IfErr result.0 (λ e. e ≡ OutOfMemory) }
+    ensures read { IfOk result.1 (AreRead bytes.now) }
+{
+    let Some((first, rest)) = parted(bytes, SHARES.saturating_mul(threads) - 1) else {
+        let front = together(rt, lines);
+        return (front, read_whole(alloc, bytes));
+    };
+    let others = threads - 1;
+    let mut given = Some(lines);
+    let ((front, last), before) = join_mut(
+        rt,
+        &mut || -> (
+            Result<Option<ReadText>, BaseFault>,
+            Result<ReadText, BaseFault>,
+        )
+            requires { IsSync T.row × MatchOption given ⊥ (λ lines. ends_of (as_one lines) < 2 ^ 64) }
+            ensures { IfSome given.entry (λ lines. IfOk result.0 (λ read. read ≡ as_one lines)
+                × IfErr result.0 (λ e. e ≡ OutOfMemory))
+                × IfOk result.1 (IsReadText rest.entry.now) }
+        {
+            match given.take() {
+                Some(lines) => (together(rt, lines), read_piece(alloc, rest)),
+                None => unreachable!(),
+            }
+        },
+        &mut || -> Result<ReadPieces, BaseFault>
+            requires { IsSync T.row }
+            ensures { IfOk result (AreRead first.entry.now) }
+        { read_pieces(rt, alloc, first, others) },
+    );
+    (front, with_last(alloc, before, last))
 }

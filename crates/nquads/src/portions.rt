@@ -9,7 +9,7 @@ ghost use Rattle.nquads.specs.Portions.{AreRead, IsPartlyRead, DidNotCome, Stops
 
 use crate::base::{MOST_BYTES, check_lines, ended_front};
 use crate::fault::BaseFault;
-use crate::pieces::{ReadLines, ReadPieces, and_pieces, read_pieces, together};
+use crate::pieces::{ReadLines, ReadPieces, and_pieces, read_beside, read_pieces, together};
 use crate::reader::{ReadText, read_counted};
 use devices::{ReadFault, Watched, fill};
 use nquads_lines::laws::lines_are_read;
@@ -63,26 +63,14 @@ fn whole_lines(text: &[u8]) -> Option<(&[u8], &[u8])>
     Some(text.split_at(end))
 }
 
-/// Reads a text before which so many lines come, in pieces by so many threads.
-fn read_text<T: Threads + Sync>(
-    rt: &T,
-    alloc: Global,
-    text: &[u8],
-    before: usize,
-    threads: usize,
-) -> Result<ReadPieces, BaseFault>
+/// Reads a text by one thread, before which so many lines come.
+fn read_alone(alloc: Global, text: &[u8], before: usize) -> Result<ReadPieces, BaseFault>
     requires { before + length text.now < 2 ^ 64 - 1 }
     ensures ok { IfOk result (AreRead text.now) }
     ensures err { IfErr result (StopsBehind before text.now) }
 {
     lines_are_read();
     lists_grow_as_datasets();
-    if 1 < threads {
-        if let Ok(read) = read_pieces(rt, alloc, text, threads) {
-            return Ok(read);
-        }
-    }
-    // The first bad line of a piece may not be that of the text, and one table may have room where several have not.
     match read_counted(alloc, text) {
         Ok(read) => Ok(ReadPieces::Only(read)),
         Err(BaseFault::BadLine(number)) => Err(BaseFault::BadLine(before + number)),
@@ -158,8 +146,8 @@ fn begun_further<R: Read>(
     }
 }
 
-/// Reads a text behind these lines, which another thread puts together while this one reads, where there are several.
-fn read_beside<T: Threads + Sync>(
+/// Reads a text in pieces by so many threads, of which one puts the lines before it together.
+fn read_and_put<T: Threads + Sync>(
     rt: &T,
     alloc: Global,
     lines: ReadLines,
@@ -169,37 +157,16 @@ fn read_beside<T: Threads + Sync>(
     Result<Option<ReadText>, BaseFault>,
     Result<ReadPieces, BaseFault>,
 )
-    requires { ends_of (as_one lines) + length text.now < 2 ^ 64 - 1 }
+    requires { ends_of (as_one lines) < 2 ^ 64 }
     ensures together { IfOk result.0 (λ read. read ≡ as_one lines) }
     ensures full { IfErr result.0 (λ e. e ≡ OutOfMemory) }
     ensures read { IfOk result.1 (AreRead text.now) }
-    ensures err { IfErr result.1 (StopsBehind (ends_of (as_one lines)) text.now) }
 {
-    let before = lines.ends();
-    if threads <= 1 {
-        let read = together(rt, lines);
-        return (read, read_text(rt, alloc, text, before, threads));
+    if threads <= 1 || lines.are_none() {
+        let front = together(rt, lines);
+        return (front, read_pieces(rt, alloc, text, threads));
     }
-    let mut given = Some(lines);
-    join_mut(
-        rt,
-        &mut || -> Result<Option<ReadText>, BaseFault>
-            requires { IsSync T.row × MatchOption given ⊥
-                (λ lines. ends_of (as_one lines) < 2 ^ 64) }
-            ensures { IfSome given.entry (λ lines. IfOk result (λ read. read ≡ as_one lines)
-                × IfErr result (λ e. e ≡ OutOfMemory)) }
-        {
-            match given.take() {
-                Some(lines) => together(rt, lines),
-                None => unreachable!(),
-            }
-        },
-        &mut || -> Result<ReadPieces, BaseFault>
-            requires { IsSync T.row × (before + length text.now < 2 ^ 64 - 1) }
-            ensures { IfOk result (AreRead text.entry.now)
-                × IfErr result (StopsBehind before text.entry.now) }
-        { read_text(rt, alloc, text, before, threads) },
-    )
+    read_beside(rt, alloc, lines, text, threads)
 }
 
 /// Reads a text behind these lines, which are put together.
@@ -214,9 +181,19 @@ fn read_behind<T: Threads + Sync>(
     ensures ok { IfOk result (λ r. (r.0 ≡ as_one lines) × AreRead text.now r.1) }
     ensures err { IfErr result (StopsBehind (ends_of (as_one lines)) text.now) }
 {
-    let (front, read) = read_beside(rt, alloc, lines, text, threads);
-    let pieces = read?;
-    Ok((front?, pieces))
+    let before = lines.ends();
+    let (front, read) = read_and_put(rt, alloc, lines, text, threads);
+    if let Ok(pieces) = read {
+        return Ok((front?, pieces));
+    }
+    // The first bad line of a piece may not be that of the text, and one table may have room where several have not.
+    match read_alone(alloc, text, before) {
+        Ok(pieces) => Ok((front?, pieces)),
+        Err(fault) => {
+            drop(front);
+            Err(fault)
+        }
+    }
 }
 
 /// The same, while more bytes come.

@@ -3,10 +3,10 @@ use Rattle.nquads_lines.specs.Lines.{lines}
 use Rattle.nquads.specs.Whole.{Reads, read_from, no_quads}
 use Rattle.nquads.proofs.WholeLaws.{whole_bad, whole_found}
 use Rattle.nquads.proofs.PortionLaws.{bad_within}
-use Rattle.nquads.proofs.portions.read_text.Goals as goal
+use Rattle.nquads.proofs.portions.read_alone.Goals as goal
 
 pub overflow_add-result : goal.overflow_add-result
-overflow_add-result g c =
+overflow_add-result c =
     let text = c.args.text.now in
     let number : c.in-Err-BadLine.number ≤ length text + 1 =
     bad_within text c.in-Err-BadLine.number (whole_bad c.lines_are_read.ensures text c.in-Err-BadLine.number
@@ -14,14 +14,14 @@ overflow_add-result g c =
     let few : c.args.before + length text < 2 ^ 64 - 1 = c.requires in
     omega arith
 
-pub returns-in-Ok-read_counted-clause-ok : goal.returns-in-Ok-read_counted-clause-ok
-returns-in-Ok-read_counted-clause-ok g c = record {
-  spelled = whole_found c.lines_are_read.ensures c.lists_grow_as_datasets.ensures c.args.text.now c.in-Ok-read_counted.read.dataset c.in-Ok-read_counted.ensures.read;
-  ends = c.in-Ok-read_counted.ensures.ends;
+pub returns-in-Ok-clause-ok : goal.returns-in-Ok-clause-ok
+returns-in-Ok-clause-ok c = record {
+  spelled = whole_found c.lines_are_read.ensures c.lists_grow_as_datasets.ensures c.args.text.now c.in-Ok.read.dataset c.in-Ok.ensures.read;
+  ends = c.in-Ok.ensures.ends;
 }
 
 pub returns-in-Err-BadLine-clause-err : goal.returns-in-Err-BadLine-clause-err
-returns-in-Err-BadLine-clause-err g c = (
+returns-in-Err-BadLine-clause-err c = (
   c.in-Err-BadLine.number,
   refl,
   whole_bad c.lines_are_read.ensures c.args.text.now c.in-Err-BadLine.number
