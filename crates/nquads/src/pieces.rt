@@ -32,8 +32,8 @@ pub struct ReadLines {
     pub behind: Option<ReadPieces>,
 }
 
-/// How many times as much of a text the other threads read each as the one that puts the lines before it together.
-const SHARES: usize = 2;
+/// To put the pieces of a portion together takes one thread so many times less than to read them.
+const QUICKER: usize = 16;
 
 /// How many lines were read.
 fn lines_before(front: &Option<ReadText>) -> usize
@@ -96,6 +96,14 @@ fn parted(bytes: &[u8], threads: usize) -> Option<(&[u8], &[u8])>
     Some(bytes.split_at(end))
 }
 
+/// A text in two pieces, for all of so many threads but one and for that, which puts the lines before it together first and gets as much less.
+fn parted_beside(bytes: &[u8], threads: usize) -> Option<(&[u8], &[u8])>
+    ensures { IfSome result (λ r. ArePieces bytes.now r.0.now r.1.now) }
+{
+    let more = threads.saturating_mul(threads) / QUICKER;
+    parted(bytes, threads.saturating_add(more))
+}
+
 /// Two datasets, first the one that has more terms.
 fn more_first(one: DataSet, other: DataSet) -> (DataSet, DataSet)
     ensures { the_united result.0 result.1 ≡ the_united one other }
@@ -107,8 +115,13 @@ fn more_first(one: DataSet, other: DataSet) -> (DataSet, DataSet)
     }
 }
 
-/// Two pieces as one text. The terms of the one that has fewer are looked for among those of the other.
-fn united<T: Threads + Sync>(rt: &T, first: ReadText, rest: ReadText) -> Result<ReadText, BaseFault>
+/// Two pieces as one text, by so many threads. The terms of the one that has fewer are looked for among those of the other.
+fn united<T: Threads + Sync>(
+    rt: &T,
+    first: ReadText,
+    rest: ReadText,
+    threads: usize,
+) -> Result<ReadText, BaseFault>
     requires { first.ends + rest.ends < 2 ^ 64 }
     ensures ok { IfOk result (λ read. (read.dataset ≡ the_united first.dataset rest.dataset)
         × (read.ends ≡ first.ends + rest.ends)) }
@@ -116,22 +129,27 @@ fn united<T: Threads + Sync>(rt: &T, first: ReadText, rest: ReadText) -> Result<
 {
     let ends = first.ends + rest.ends;
     let (mut dataset, fewer) = more_first(first.dataset, rest.dataset);
-    dataset.unite_by(rt, fewer)?;
+    if threads <= 1 {
+        dataset.unite(fewer)?;
+    } else {
+        dataset.unite_by(rt, fewer)?;
+    }
     Ok(ReadText { dataset, ends })
 }
 
-/// The lines that were read, and these behind them.
+/// The lines that were read, and these behind them, by so many threads.
 fn and_then<T: Threads + Sync>(
     rt: &T,
     front: Option<ReadText>,
     more: ReadText,
+    threads: usize,
 ) -> Result<ReadText, BaseFault>
     requires { ends_of front + more.ends < 2 ^ 64 }
     ensures ok { IfOk result (λ read. read ≡ behind front more) }
     ensures err { IfErr result (λ e. e ≡ OutOfMemory) }
 {
     match front {
-        Some(front) => united(rt, front, more),
+        Some(front) => united(rt, front, more, threads),
         None => Ok(more),
     }
 }
@@ -142,21 +160,22 @@ pub(crate) fn and_pieces<T: Threads + Sync>(
     rt: &T,
     front: Option<ReadText>,
     pieces: ReadPieces,
+    threads: usize,
 ) -> Result<ReadText, BaseFault>
     requires { ends_of front + ends_in pieces < 2 ^ 64 }
     ensures ok { IfOk result (λ read. read ≡ all_behind front pieces) }
     ensures err { IfErr result (λ e. e ≡ OutOfMemory) }
 {
     match pieces {
-        ReadPieces::Only(read) => and_then(rt, front, read),
+        ReadPieces::Only(read) => and_then(rt, front, read, threads),
         ReadPieces::Behind(first, last) => {
-            let read = and_pieces(rt, front, Box::into_inner(first))?;
-            and_then(rt, Some(read), last)
+            let read = and_pieces(rt, front, Box::into_inner(first), threads)?;
+            and_then(rt, Some(read), last, threads)
         }
     }
 }
 
-/// Lines that were read, put together.
+/// Lines that were read, put together by one thread, beside which others read.
 pub(crate) fn together<T: Threads + Sync>(
     rt: &T,
     lines: ReadLines,
@@ -167,7 +186,7 @@ pub(crate) fn together<T: Threads + Sync>(
 {
     let ReadLines { front, behind } = lines;
     match behind {
-        Some(pieces) => Ok(Some(and_pieces(rt, front, pieces)?)),
+        Some(pieces) => Ok(Some(and_pieces(rt, front, pieces, 1)?)),
         None => Ok(front),
     }
 }
@@ -250,7 +269,7 @@ pub(crate) fn read_beside<T: Threads + Sync>(
     ensures full { IfErr result.0 (λ e. e ≡ OutOfMemory) }
     ensures read { IfOk result.1 (AreRead bytes.now) }
 {
-    let Some((first, rest)) = parted(bytes, SHARES.saturating_mul(threads) - 1) else {
+    let Some((first, rest)) = parted_beside(bytes, threads) else {
         let front = together(rt, lines);
         return (front, read_whole(alloc, bytes));
     };

@@ -452,7 +452,7 @@ fn ended<T: Threads + Sync>(
         Err(fault) => return Err(fault),
     };
     let (front, last) = read;
-    let whole = and_pieces(rt, front, last)?;
+    let whole = and_pieces(rt, front, last, threads)?;
     Ok(whole.dataset)
 }
 
