@@ -1,6 +1,6 @@
 -- A set in its members below a value and above it, and what its changes leave of both.
 use Rattle.std.specs.Prelude.{not, ◌||◌, ◌≢◌, ◌↔◌, filter, slice_get, IsTrue}
-use Rattle.std.proofs.Common.{◌≡◌, ℕ, zero, suc, ◌+◌, ◌<◌, ◌≤◌, Bool, true, false, cond, Some, List, [], ◌∷◌, ◌++◌, length, get_or, take, drop, refl, sym, ap, ◌∙◌, subst, append_assoc, arith}
+use Rattle.std.proofs.Common.{◌≡◌, ◌⊎◌, inl, inr, ℕ, zero, suc, ◌+◌, ◌<◌, ◌≤◌, Bool, true, false, cond, Some, List, [], ◌∷◌, ◌++◌, length, get_or, take, drop, refl, sym, ap, ◌∙◌, subst, append_assoc, arith}
 use Rattle.std.specs.List.{AllByRecursion}
 use Rattle.std.specs.List.Sorted.{IsStrictlySortedBy}
 use Rattle.std.specs.declared.cmp.Ordering.{Ordering}
@@ -12,7 +12,8 @@ use Rattle.std.proofs.lemmas.List.{append-nil, take-append-drop}
 use Rattle.std.proofs.lemmas.List.Elements.{filter-append}
 use Rattle.std.proofs.lemmas.List.Folds.{list_any-append}
 use Rattle.std.proofs.lemmas.List.Kept.{IsStrictlySortedBy-filter}
-use Rattle.std.proofs.lemmas.Map.Keys.{sorted_tail, sorted_head}
+use Rattle.std.proofs.lemmas.Map.Keys.{sorted_tail, sorted_head, Less-from_sorted}
+use Rattle.std.proofs.Math.Nat.{eq-or-lt_of_le}
 use Rattle.sets.specs.Sets.{placed, with, set_of, has, union, without}
 use Rattle.sets.proofs.SetLaws.{or_swap, sorted-cons, sorted-empty, sorted-set_of, has-set_of, lacks_below, same_set, set_of-set}
 use Rattle.sets.proofs.Every.{all_front, all_joined, all_kept, all_set_of, all_weaker}
@@ -143,12 +144,25 @@ module _ {A : Type 0} {R : A → A → Ordering} (o : IsTotalOrder R) where
       }
 
 module _ {A : Type 0} {R : A → A → Ordering} (o : IsTotalOrder R) where
+  -- ---- all members below a value
+
+  less_by_last : (v : A) (set : List A) (last k : ℕ) (d : A) → IsStrictlySortedBy R set → last + 1 ≡ length set → R (get_or set last d) v ≡ Less → k < length set → (k ≡ last) ⊎ (k < last) → R (get_or set k d) v ≡ Less
+  less_by_last v set last k d s e less h (inl same) = ap (λ i. R (get_or set i d) v) same ∙ less
+  less_by_last v set last k d s e less h (inr before) = o.trans (get_or set k d) (get_or set last d) v (Less-from_sorted R set k last d s before (omega (arith, e))) less
+
+  pub all_less : (v : A) (set : List A) (last : ℕ) → IsStrictlySortedBy R set → last + 1 ≡ length set → ((d : A) → R (get_or set last d) v ≡ Less) → AreLessTo R v set (length set)
+  all_less v set last s e less = record {
+    within = omega arith;
+    less = λ k d h. less_by_last v set last k d s e (less d) h (eq-or-lt_of_le (omega (arith, e, h)));
+    next = λ d h n. absurd (omega (arith, h));
+  }
+
   -- ---- the first change
 
   first_item : (x : A) (xs : List A) (y : A) → Some y ≡ slice_get (x ∷ xs) 0 → x ≡ y
   first_item x xs y e = cc
 
-  is_less : (r : Ordering) → is_lt r ≡ true → r ≡ Less
+  pub is_less : (r : Ordering) → is_lt r ≡ true → r ≡ Less
   is_less Less e = refl
   is_less Equal e = absurd cc
   is_less Greater e = absurd cc
@@ -250,8 +264,14 @@ module _ {A : Type 0} {R : A → A → Ordering} (o : IsTotalOrder R) where
         ap (λ xs. now ++ union R (without R above xs) later_more) (sym first.0) ∙ ap (λ xs. xs ++ rest) (k ∙ ap (λ xs. xs ++ v ∷ []) h) ∙ append_assoc (list ++ below) (v ∷ []) rest ∙ append_assoc list below (v ∷ rest)
         ∙ ap (λ xs. list ++ xs) (sym (ap (union R (without R set gone)) first.1 ∙ change_comes set gone below above v later_more s (subst (IsStrictlySortedBy R) first.1 u) is first.2)) ∙ done
 
-    pub change_last : (start list rest gone more now : List A) → IsStrictlySortedBy R rest → gone ≡ [] → more ≡ [] → now ≡ list ++ rest → list ++ union R (without R rest gone) more ≡ start → now ≡ start
-    change_last start list rest gone more now s none no_more h done =
-        h ∙ ap (λ t. list ++ t)
-        (sym (ap (λ xs. union R (without R rest xs) more) none ∙ ap (λ xs. union R xs more) (without_none R rest) ∙ ap (union R rest) no_more ∙ ap (set_of R) (append-nil rest) ∙ set_of-set o exact rest s))
-        ∙ done
+    -- where no members or no changes are left, they are one behind the other
+    laid_last : (rest gone more : List A) → IsStrictlySortedBy R rest → IsStrictlySortedBy R more → (rest ≡ []) ⊎ ((gone ≡ []) × (more ≡ [])) → union R (without R rest gone) more ≡ rest ++ more
+    laid_last rest gone more s t (inl none) = ap (λ xs. union R (without R xs gone) more) none ∙ set_of-set o exact more t ∙ ap (λ xs. xs ++ more) (sym none)
+    laid_last rest gone more s t (inr none) =
+        ap (λ xs. union R (without R rest xs) more) none.0 ∙ ap (λ xs. union R xs more) (without_none R rest) ∙ ap (union R rest) none.1 ∙ ap (set_of R) (append-nil rest) ∙ set_of-set o exact rest s
+        ∙ sym (append-nil rest) ∙ ap (λ xs. rest ++ xs) (sym none.1)
+
+    pub change_last : (start list rest gone more laid now : List A) → IsStrictlySortedBy R rest → IsStrictlySortedBy R more → (rest ≡ []) ⊎ ((gone ≡ []) × (more ≡ [])) → laid ≡ list ++ rest → now ≡ laid ++ more
+        → list ++ union R (without R rest gone) more ≡ start → now ≡ start
+    change_last start list rest gone more laid now s t none h k done =
+        k ∙ ap (λ xs. xs ++ more) h ∙ append_assoc list rest more ∙ ap (λ xs. list ++ xs) (sym (laid_last rest gone more s t none)) ∙ done

@@ -38,16 +38,8 @@ impl Model for QuadSet {
     ghost invariant = { λ s. IsStrictlySortedBy (quad_order id_order) (quads_in s.entries) };
 }
 
-/// A set of fewer members is not taken over in runs.
-const MANY: usize = 256;
-
-/// Runs between changes have at least so many members in the middle where it is faster to take them over as they lie.
-const LONG_RUN: usize = 4;
-
-// Whether so many members are many, and so many changes few.
-fn are_long_runs(members: usize, changes: usize) -> bool {
-    MANY <= members && changes <= members / LONG_RUN
-}
+/// A set of fewer members is sorted with what comes.
+const MANY: usize = 32;
 
 // The same items, with room for more behind them.
 fn with_room<T: Copy>(alloc: Global, items: &[T], more: usize) -> Result<Vec<T>, AllocError>
@@ -187,7 +179,7 @@ impl QuadSet {
         }
     }
 
-    // The same as `changed`, if all are of known terms, and so few come and go that they leave long runs of the set as they are.
+    // The same as `changed`, if the set is of many quads and all are of known terms: what lies between changes is taken over as it lies.
     fn changed_in_runs(
         alloc: Global,
         quads: &QuadSlice<'_>,
@@ -197,7 +189,7 @@ impl QuadSet {
         ensures { IfOk result (λ found. IfSome found (λ set. set ≡ union (quad_order id_order)
             (without (quad_order id_order) quads.now gone.now) more.now)) }
     {
-        if !are_long_runs(quads.len(), gone.len().saturating_add(more.len())) {
+        if quads.len() < MANY {
             return Ok(None);
         }
         match (quads.entries(), gone.entries(), more.entries()) {

@@ -1,5 +1,5 @@
 //! Changes of a set whose members are taken over in runs.
-ghost use Rattle.std.specs.Prelude.{◌≡◌, ◌↔◌, [], IfNone, IfOk, IfSome, IsTrue};
+ghost use Rattle.std.specs.Prelude.{◌≡◌, ◌↔◌, ◌⊎◌, [], true, length, IfNone, IfOk, IfSome, IsTrue};
 ghost use Rattle.std.specs.List.{AllByRecursion};
 ghost use Rattle.std.specs.List.Sorted.{IsStrictlySortedBy};
 ghost use Rattle.std.specs.declared.cmp.Ordering.TheVariants.{Less};
@@ -9,11 +9,24 @@ ghost use Rattle.quad_sets.specs.Runs.{AreLessTo, IsParted, IsFirstChange};
 use sets::Exact;
 use std::alloc::{AllocError, Global};
 
+/// Whether the last member is below a value, if there is one.
+fn is_last_below<T: Exact>(set: &[T], value: &T) -> bool
+    requires { IsStrictlySortedBy T.cmp set.now }
+    ensures { result ≡ true → AreLessTo T.cmp value.now set.now (length set.now) }
+{
+    let len = set.len();
+    0 < len && set[len - 1].cmp(value).is_lt()
+}
+
 /// How many members come before those that are not below a value.
 fn count_below<T: Exact>(set: &[T], value: &T) -> usize
     requires { IsStrictlySortedBy T.cmp set.now }
     ensures { AreLessTo T.cmp value.now set.now result }
 {
+    // Often what changes comes behind all.
+    if is_last_below(set, value) {
+        return set.len();
+    }
     let mut count = 0;
     while count < set.len() && set[count].cmp(value).is_lt() {
         count += 1;
@@ -80,6 +93,20 @@ fn first_change<'a, T: Exact>(gone: &'a [T], more: &'a [T]) -> Option<Change<'a,
     }
 }
 
+/// The first change, as long as members are left. What comes behind them is taken over as it lies.
+fn next_change<'a, T: Exact>(rest: &[T], gone: &'a [T], more: &'a [T]) -> Option<Change<'a, T>>
+    requires gone { IsStrictlySortedBy T.cmp gone.now }
+    requires more { IsStrictlySortedBy T.cmp more.now }
+    ensures none { IfNone result ((rest.now ≡ []) ⊎ ((gone.now ≡ []) × (more.now ≡ []))) }
+    ensures first { IfSome result (λ change. IsFirstChange T.cmp gone.now more.now
+        change.value.now change.comes change.gone.now change.more.now) }
+{
+    if rest.is_empty() {
+        return None;
+    }
+    first_change(gone, more)
+}
+
 /// The set of the members of a set that are none of another's, and of more.
 pub(crate) fn changed_in_runs<T: Exact + Copy + Drop>(
     alloc: Global,
@@ -98,7 +125,7 @@ pub(crate) fn changed_in_runs<T: Exact + Copy + Drop>(
     let mut rest = set;
     let mut gone = gone;
     let mut more = more;
-    while let Some(change) = first_change(gone, more) {
+    while let Some(change) = next_change(rest, gone, more) {
         let (below, above) = parted(rest, change.value);
         list.extend_from_slice(below)?;
         if change.comes {
@@ -109,5 +136,6 @@ pub(crate) fn changed_in_runs<T: Exact + Copy + Drop>(
         more = change.more;
     }
     list.extend_from_slice(rest)?;
+    list.extend_from_slice(more)?;
     Ok(list)
 }

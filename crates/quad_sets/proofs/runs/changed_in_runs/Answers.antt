@@ -26,4 +26,5 @@ loop-change-preserved g c =
 pub returns : goal.returns
 returns g c =
     change_last g.met.T.Ord.total g.met.T.Exact.exact (union g.T.Ord.cmp (without g.T.Ord.cmp c.args.set.now c.args.gone.now) c.args.more.now) c.loop-change.list.items c.loop-change.rest.now c.loop-change.gone.now
-    c.loop-change.more.now c.extend_from_slice-2.new.self.items c.loop-change.invariant.rest c.in_default.ensures.none.0 c.in_default.ensures.none.1 c.in_ok-extend_from_slice-2.ensures.items c.loop-change.invariant.done
+    c.loop-change.more.now c.extend_from_slice-2.new.self.items c.extend_from_slice-3.new.self.items c.loop-change.invariant.rest c.loop-change.invariant.more c.in_default.ensures.none c.in_ok-extend_from_slice-2.ensures.items
+    c.in_ok-extend_from_slice-3.ensures.items c.loop-change.invariant.done
