@@ -1,8 +1,9 @@
 //! Hints, which say at which requests of a block a quad may have been spoken of: quads, each with a request, in sorted runs, in those orders
-//! that are kept; and filters of patterns. Stands on `quad_lists` and `quad_index`, whose orders and search it uses, and on `datasets`.
+//! that are kept; and filters of patterns and of terms. Stands on `quad_lists` and `quad_index`, whose orders and search it uses, and on
+//! `datasets`.
 //!
 //! The contracts used above: what `Hints::put_all` put, `Hints::requests` finds, and it puts nothing else; what `SeenQuads::put` put,
-//! `SeenQuads::may_match` lets through.
+//! `SeenQuads::may_match` lets through; what `SeenTerms::put` put, `SeenTerms::has` lets through.
 #![tactic(auto)]
 
 mod hint;
@@ -14,4 +15,4 @@ mod seen;
 mod sorted_hints;
 
 pub use hints::Hints;
-pub use seen::SeenQuads;
+pub use seen::{SeenQuads, SeenTerms};

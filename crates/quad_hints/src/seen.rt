@@ -13,13 +13,14 @@ use std::marker::Model;
 /// How many slots a filter has.
 const SLOTS: usize = 262_144;
 
-/// Slots of terms, each of which says whether a term of it was put. Contracts see their list. There are none before the first term.
+/// A filter of terms: it lets through each that was put, and few others. Contracts see its slots, each of which says whether a term of it was put.
+/// There are none before the first term.
 #[derive(Drop)]
-pub struct Seen {
+pub struct SeenTerms {
     slots: Vec<bool>,
 }
 
-impl Model for Seen {
+impl Model for SeenTerms {
     ghost use Rattle.std.specs.Prelude.{List, Bool};
 
     ghost Value = { List Bool };
@@ -36,18 +37,18 @@ fn slot_of(term: Id) -> usize
     }
 }
 
-impl Seen {
+impl SeenTerms {
     /// No term was put. It takes no memory.
-    fn new(alloc: Global) -> Seen
+    pub fn new(alloc: Global) -> SeenTerms
         ensures { result ≡ [] }
     {
-        Seen {
+        SeenTerms {
             slots: Vec::new(alloc),
         }
     }
 
-    /// One more term. What was there stays, also where memory runs out.
-    fn put(&mut self, term: Id) -> Result<(), AllocError>
+    /// One more term. What was let through still is, also where memory runs out.
+    pub fn put(&mut self, term: Id) -> Result<(), AllocError>
         ensures added { OnOk result (is_seen self.new term ≡ true) }
         ensures kept { (x : Number) → is_seen self.old x ≡ true → is_seen self.new x ≡ true }
     {
@@ -63,8 +64,8 @@ impl Seen {
         Ok(())
     }
 
-    /// Whether a term of the same slot was put.
-    fn has(&self, term: Id) -> bool
+    /// Whether the term is let through, as a term of the same slot was put.
+    pub fn has(&self, term: Id) -> bool
         ensures { result ≡ is_seen self.now term }
     {
         match self.slots.get(slot_of(term)) {
@@ -77,10 +78,10 @@ impl Seen {
 /// A filter of patterns: it lets through each that matches a quad which was put, and few others.
 #[derive(Drop)]
 pub struct SeenQuads {
-    subjects: Seen,
-    predicates: Seen,
-    objects: Seen,
-    graphs: Seen,
+    subjects: SeenTerms,
+    predicates: SeenTerms,
+    objects: SeenTerms,
+    graphs: SeenTerms,
 }
 
 impl SeenQuads {
@@ -89,10 +90,10 @@ impl SeenQuads {
         ensures { (p : PatternOf Number) → the_may_match result p ≡ binds_no_term p }
     {
         SeenQuads {
-            subjects: Seen::new(alloc),
-            predicates: Seen::new(alloc),
-            objects: Seen::new(alloc),
-            graphs: Seen::new(alloc),
+            subjects: SeenTerms::new(alloc),
+            predicates: SeenTerms::new(alloc),
+            objects: SeenTerms::new(alloc),
+            graphs: SeenTerms::new(alloc),
         }
     }
 
@@ -120,7 +121,7 @@ impl SeenQuads {
     }
 }
 
-fn put_graph(seen: &mut Seen, graph: Option<Id>) -> Result<(), AllocError>
+fn put_graph(seen: &mut SeenTerms, graph: Option<Id>) -> Result<(), AllocError>
     ensures added { OnOk result (is_graph_seen seen.new graph ≡ true) }
     ensures kept { (g : Option Number) → is_graph_seen seen.old g ≡ true
         → is_graph_seen seen.new g ≡ true }
@@ -132,7 +133,7 @@ fn put_graph(seen: &mut Seen, graph: Option<Id>) -> Result<(), AllocError>
 }
 
 // Whether a place may have had the term that it is bound to.
-fn may_have(seen: &Seen, place: Option<Id>) -> bool
+fn may_have(seen: &SeenTerms, place: Option<Id>) -> bool
     ensures { result ≡ lets seen.now place }
 {
     match place {
@@ -141,7 +142,7 @@ fn may_have(seen: &Seen, place: Option<Id>) -> bool
     }
 }
 
-fn may_have_graph(seen: &Seen, place: GraphPlace<Id>) -> bool
+fn may_have_graph(seen: &SeenTerms, place: GraphPlace<Id>) -> bool
     ensures { result ≡ lets_graph seen.now place }
 {
     match place {

@@ -353,3 +353,14 @@ module _ (xs : List KeptSlot) (low : ℕ) (spoken : Read → ℕ → Bool) (sett
         calm = k.calm;
         lows = lows_more low next up xs k.lows;
       }
+
+  -- settled changes that make the same of each dataset
+  pub holds_alike : (others : List Delta) → ((d : View) → changed_by others d ≡ changed_by settled d) → IsKept xs low spoken others
+  holds_alike others same = record {
+    within = k.within;
+    knows = k.knows;
+    folded = λ base. same base ∙ k.folded base;
+    closed = k.closed;
+    calm = k.calm;
+    lows = k.lows;
+  }

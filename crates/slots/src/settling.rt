@@ -43,7 +43,8 @@ pub fn settle(alloc: Global, kept: &mut Kept<'_>, to: usize) -> Result<(), Alloc
     Ok(())
 }
 
-/// Where the settled changes may have changed what a read says they are put in order, as far as there is memory: it is answered sooner then.
+/// Where the settled changes may have changed what a read says they are joined and put in order, as far as there is memory: it is answered sooner
+/// then.
 pub fn put_in_order(alloc: Global, kept: &mut Kept<'_>, read: &Read<Id>)
     requires { Holds kept.old }
     ensures holds { Holds kept.new }

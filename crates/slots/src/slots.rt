@@ -1,5 +1,6 @@
 //! The slots of a block's requests.
 ghost use Rattle.std.specs.Prelude.{◌≡◌, ◌<◌, ◌≤◌, ◌+◌, ◌^◌, ◌↔◌, ℕ, true, false, length, map, replicate, slice_get, slice_set, Some, IsTrue, IfOk, OnOk, OnErr};
+ghost use Rattle.std.specs.Thread.{IsSync};
 ghost use Rattle.incarnations.specs.Slots.{Noted as Described, fresh_slot, transcript_of, taken, begun, passed, aborted, given, committed, published, keeps_delta};
 ghost use Rattle.incarnations.specs.Statuses.{is_closed};
 ghost use Rattle.incarnations.specs.Kept.{kept_note_of};
@@ -153,7 +154,7 @@ impl<'a> Slots<'a> {
         changed_from(alloc, slots, self.kept.low, n, view)
     }
 
-    /// The same, where nothing else is needed any more: notes and hints are let go first, or by another thread of so many.
+    /// The same by so many threads, where nothing else is needed any more: notes and hints are let go first, or by another thread.
     pub fn into_view<T: Threads + Sync>(
         self,
         rt: &T,
@@ -179,8 +180,9 @@ impl<'a> Slots<'a> {
             rt,
             move || drop(rest),
             move || -> Result<CompactView, AllocError>
+                requires { IsSync T.row }
                 ensures { IfOk result (λ view. view ≡ changed_by settled base.entry.now) }
-            { settled.into_applied(alloc, base) },
+            { settled.into_applied_by(rt, alloc, base, threads) },
         );
         view
     }
@@ -273,7 +275,7 @@ impl<'a> Slots<'a> {
         settle(alloc, &mut self.kept, to)
     }
 
-    /// The settled requests' changes are put in order, if they may have changed what the read says, as far as there is memory.
+    /// The settled requests' changes are joined and put in order, if they may have changed what the read says, as far as there is memory.
     pub fn put_in_order(&mut self, alloc: Global, read: &Read<Id>)
         ensures { self.new ≡ self.old }
     {

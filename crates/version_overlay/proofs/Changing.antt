@@ -1,7 +1,7 @@
 -- What changes make of a dataset, and of the part of it that a read asks for.
-use Rattle.std.proofs.Common.{◌≡◌, ℕ, zero, suc, set, ◌-◌, arith, ◌<◌, ◌≤◌, ◌+◌, ◌==◌, false, List, [], ◌∷◌, ◌++◌, length, take, get_or, refl, ap, sym, ◌∙◌}
+use Rattle.std.proofs.Common.{◌≡◌, ℕ, zero, suc, set, arith, ◌<◌, ◌+◌, ◌==◌, false, List, [], ◌∷◌, ◌++◌, length, take, drop, get_or, refl, ap, sym, ◌∙◌}
 use Rattle.std.proofs.lemmas.Bool.{false≢true}
-use Rattle.std.proofs.lemmas.List.{take_more}
+use Rattle.std.proofs.lemmas.List.{take_more, take-append-drop}
 use Rattle.datasets.specs.Id.{id_order}
 use Rattle.change_laws.specs.Laws.{IsRising}
 use Rattle.reads.specs.Reads.{View, Delta, Read, says, applied}
@@ -40,27 +40,33 @@ unfolding changed_by
 changed-rises [] some v = absurd (some refl)
 changed-rises (c ∷ cs) some v = changed_by-rises cs (applied c v) (rises c v)
 
--- TWO CHANGES AS ONE
+-- CHANGES AS ONE
 
-pub joined_last : (n : ℕ) (cs : List Delta) (a b both : Delta) → length cs ≡ suc (suc n) → a ≡ get_or cs n a → b ≡ get_or cs (suc n) b → ((d : View) → applied both d ≡ applied b (applied a d)) → (d : View) → changed_by (set (take (suc n) cs) n both) d ≡ changed_by cs d
+pub one_is : (cs : List Delta) (c : Delta) → length cs ≡ 1 → c ≡ get_or cs 0 c → (v : View) → applied c v ≡ changed_by cs v
 unfolding changed_by
-joined_last n [] a b both size is_a is_b same d = absurd (omega (arith, size))
-joined_last zero (x ∷ []) a b both size is_a is_b same d = absurd (omega (arith, size))
-joined_last zero (x ∷ y ∷ []) a b both size is_a is_b same d = same d ∙ (λ t. applied (is_b t) (applied (is_a t) d))
-joined_last zero (x ∷ y ∷ z ∷ cs) a b both size is_a is_b same d = absurd (omega (arith, size))
-joined_last (suc n) (x ∷ cs) a b both size is_a is_b same d = joined_last n cs a b both (omega (arith, size)) is_a is_b same (applied x d)
+one_is [] c n is v = absurd (omega (arith, n))
+one_is (x ∷ []) c n is v = ap (λ y. applied y v) is
+one_is (x ∷ y ∷ cs) c n is v = absurd (omega (arith, n))
 
--- where the last of the changes, of which there are len, was taken off, and the two last as one were put in the place of the one before it
-pub joined_at : (cs popped : List Delta) (len k : ℕ) (a b both : Delta) → len ≡ length cs → 2 ≤ len → popped ≡ take (len - 1) cs → k ≡ len - 1 - 1
-    → a ≡ get_or cs k a → b ≡ get_or cs (len - 1) b → ((d : View) → applied both d ≡ applied b (applied a d))
-    → (d : View) → changed_by (set popped k both) d ≡ changed_by cs d
-joined_at cs popped len k a b both size two rest place is_a is_b same d =
-    let at : k ≡ len - 2 = omega (arith, place) in
-    let last : len - 1 ≡ suc (len - 2) = omega (arith, two) in
-    let long : length cs ≡ suc (suc (len - 2)) = omega (arith, size, two) in
-    let front : popped ≡ take (suc (len - 2)) cs = rest ∙ ap (λ i. take i cs) last in
-    (λ t. changed_by (set (front t) (at t) both) d)
-    ∙ joined_last (len - 2) cs a b both long (is_a ∙ ap (λ i. get_or cs i a) at) (is_b ∙ ap (λ i. get_or cs i b) last) same d
+-- the first changes as one, and then the others as one
+pub halves_are : (n : ℕ) (cs first rest : List Delta) → first ≡ take n cs → rest ≡ drop n cs → (earlier later both : Delta) → ((v : View) → applied earlier v ≡ changed_by first v)
+    → ((v : View) → applied later v ≡ changed_by rest v) → ((v : View) → applied both v ≡ applied later (applied earlier v)) → (v : View) → applied both v ≡ changed_by cs v
+halves_are n cs first rest front back earlier later both a b c v =
+    c v ∙ b (applied earlier v) ∙ ap (changed_by rest) (a v) ∙ sym (changed_by-append first rest v)
+    ∙ (λ i. changed_by (front i ++ back i) v) ∙ ap (λ xs. changed_by xs v) (take-append-drop n cs)
+
+-- the changes from a place on, as one in that place
+joined_from : (k : ℕ) (cs : List Delta) (both : Delta) → k < length cs → ((v : View) → applied both v ≡ changed_by (drop k cs) v) → (v : View) → changed_by (set (take (suc k) cs) k both) v ≡ changed_by cs v
+unfolding changed_by
+joined_from k [] both lt same v = absurd (omega (arith, lt))
+joined_from zero (x ∷ cs) both lt same v = same v
+joined_from (suc k) (x ∷ cs) both lt same v = joined_from k cs both (omega (arith, lt)) same (applied x v)
+
+-- where the others were cut off
+pub joined_behind : (k : ℕ) (cs cut : List Delta) (both : Delta) → k < length cs → cut ≡ take (k + 1) cs → ((v : View) → applied both v ≡ changed_by (drop k cs) v) → (v : View) → changed_by (set cut k both) v ≡ changed_by cs v
+joined_behind k cs cut both lt is same v =
+    let next : k + 1 ≡ suc k = omega arith in
+    ap (λ xs. changed_by (set xs k both) v) (is ∙ ap (λ n. take n cs) next) ∙ joined_from k cs both lt same v
 
 pub changed_by-nothing : (v : View) → changed_by [] v ≡ v
 unfolding changed_by
@@ -78,13 +84,3 @@ some_are xs n e h none = false≢true (sym h ∙ ap (λ k. k == 0) (e ∙ ap len
 pub below_one : {X : Type 0} (xs : List X) → length xs < 1 → xs ≡ []
 below_one [] lt = refl
 below_one (x ∷ xs) lt = absurd (omega (arith, lt))
-
-all_taken : (cs : List Delta) → take (length cs) cs ≡ cs
-all_taken [] = refl
-all_taken (c ∷ cs) = ap (λ xs. c ∷ xs) (all_taken cs)
-
--- all but the last of some changes, and then the last
-pub last_apart : (cs : List Delta) (c : Delta) → 1 ≤ length cs → c ≡ get_or cs (length cs - 1) c → (v : View) → applied c (changed_by (take (length cs - 1) cs) v) ≡ changed_by cs v
-last_apart cs c le is v =
-    let next : length cs - 1 + 1 ≡ length cs = omega (arith, le) in
-    sym (changed_by_more cs (length cs - 1) c (omega (arith, le)) is v) ∙ ap (λ n. changed_by (take n cs) v) next ∙ ap (λ xs. changed_by xs v) (all_taken cs)

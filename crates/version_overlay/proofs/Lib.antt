@@ -1,4 +1,5 @@
 pub mod Changing
+pub mod Filtered
 pub mod Generations
 pub mod LatestChanges
 pub mod Presences

@@ -8,6 +8,7 @@
 pub mod along;
 mod filters;
 mod generation;
+mod joining;
 mod latest;
 mod lean_note;
 mod level;

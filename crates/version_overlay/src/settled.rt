@@ -1,37 +1,36 @@
 //! The changes of the requests that are committed, which will not change again.
 //!
-//! They lie in levels, the oldest first. As soon as the last four are alike in length they become one, or the last two where they are put in no
-//! order, so a read looks at few of them, and what a change speaks of is copied about as often as there are levels. A level is put in order once
-//! a read may find something in it.
-ghost use Rattle.std.specs.Prelude.{◌≡◌, ◌≤◌, ◌<◌, ◌+◌, true, false, [], length, vec_len, IfOk, IfSome, OnOk, OnErr};
+//! They lie in levels, the oldest first. Nothing is done with those that came last until a read may find something in them: then they become one,
+//! and so do levels that are alike in length, and each is put in order. So a read looks at few of them, what a change speaks of is copied about as
+//! often as there are levels, and where no read finds anything they are joined at the end, by several threads. Filters tell what a read can't find.
+ghost use Rattle.std.specs.Prelude.{◌≡◌, true, false, [], IfOk, OnOk, OnErr};
 ghost use Rattle.datasets.specs.Id.{id_order};
 ghost use Rattle.change_laws.specs.Laws.{IsRising};
 ghost use Rattle.reads.specs.Reads.{View as Dataset, says, applied, no_change};
 ghost use Rattle.version_overlay.specs.Settled.{changed_by, part_or};
 
 use crate::along::push_covering;
-use crate::filters::put_all;
+use crate::filters::{put_all, put_all_names};
+use crate::joining::{all_joined, all_joined_by, join_behind};
 use crate::level::Level;
 use datasets::{Id, Read};
 use delta::Delta;
-use quad_hints::SeenQuads;
+use quad_hints::{SeenQuads, SeenTerms};
 use quad_lists::Arrangement;
 use reads::{CompactView, IndexedView, Scanned, View};
 use std::alloc::{AllocError, Global};
 use std::marker::Model;
+use std::thread::Threads;
 
-/// How many levels that are alike in length become one. To put them in order takes longer than to look at each.
-const ALIKE: usize = 4;
-
-/// The same where they are put in no order.
-const ALIKE_UNORDERED: usize = 2;
-
-/// Changes that will not change again, one after another, as one. A filter stands before them.
+/// Changes that will not change again, one after another, as one. Filters stand before them.
 #[derive(Drop)]
 pub struct Settled {
     orders: Vec<Arrangement>,
     seen: SeenQuads,
+    named: SeenTerms,
     levels: Vec<Level>,
+    // How many levels there were when they were put in order last.
+    ready: usize,
 }
 
 impl Model for Settled {
@@ -43,7 +42,7 @@ impl Model for Settled {
 
     ghost view = { λ s. s.levels.items };
 
-    ghost invariant = { λ s. StopsUnchanged s.seen s.levels.items };
+    ghost invariant = { λ s. StopsUnchanged s.seen s.named s.levels.items };
 }
 
 impl Settled {
@@ -55,7 +54,9 @@ impl Settled {
         Ok(Settled {
             orders,
             seen: SeenQuads::new(alloc),
+            named: SeenTerms::new(alloc),
             levels: Vec::new(alloc),
+            ready: 0,
         })
     }
 
@@ -70,17 +71,19 @@ impl Settled {
             return Ok(());
         }
         put_all(&mut self.seen, delta)?;
+        put_all_names(&mut self.named, delta)?;
         let level = Level::new(alloc, delta.copied(alloc)?);
         self.levels.push(level)?;
-        join_alike(alloc, &mut self.levels, &self.orders);
         Ok(())
     }
 
-    /// The changes are put in order, as far as there is memory, so that a read that they may have changed is answered sooner. No answer depends
-    /// on it.
+    /// The changes are joined where they are alike in length, and put in order, as far as there is memory, so that a read that they may have
+    /// changed is answered sooner. They make of a dataset what they made.
     pub fn put_in_order(&mut self, alloc: Global)
-        ensures { self.new ≡ self.old }
+        ensures { (d : Dataset) → changed_by self.new d ≡ changed_by self.old d }
     {
+        join_behind(alloc, &mut self.levels, self.ready, &self.orders);
+        self.ready = self.levels.len();
         put_all_in_order(alloc, &mut self.levels, &self.orders);
     }
 
@@ -91,7 +94,7 @@ impl Settled {
     {
         match read {
             Read::Scan(pattern) => self.seen.may_match(pattern),
-            Read::GraphIs(_) => true,
+            Read::GraphIs(name) => self.named.has(*name),
             Read::Graphs => true,
         }
     }
@@ -118,6 +121,9 @@ impl Settled {
             → says read.now (changed_by found.items d) ≡ says read.now (changed_by self.now d)) }
     {
         let mut found = Vec::new(alloc);
+        if !self.may_say_else(read) {
+            return Ok(found);
+        }
         for each in &self.levels {
             push_covering(alloc, &mut found, each.change(), read)?;
         }
@@ -128,13 +134,13 @@ impl Settled {
     pub fn apply(&self, alloc: Global, view: View) -> Result<View, AllocError>
         ensures { IfOk result (λ after. after ≡ changed_by self.now view) }
     {
-        match self.levels.as_slice() {
-            [] => Ok(view),
-            [earlier @ .., last] => joined(alloc, earlier, last)?.apply(alloc, view),
+        if self.levels.is_empty() {
+            return Ok(view);
         }
+        all_joined(alloc, self.levels.as_slice())?.apply(alloc, view)
     }
 
-    /// The same of a dataset in its orders, where they are not needed any more, and are let go as soon as they are one. An error comes only
+    /// The same of a dataset in its orders, where the changes are not needed any more, and are let go as soon as they are one. An error comes only
     /// where memory runs out.
     pub fn into_applied(
         self,
@@ -152,6 +158,26 @@ impl Settled {
         let joined = change?;
         joined.apply_indexed(alloc, dataset)
     }
+
+    /// The same, where so many threads make the changes one.
+    pub fn into_applied_by<T: Threads + Sync>(
+        self,
+        rt: &T,
+        alloc: Global,
+        dataset: &IndexedView,
+        threads: u32,
+    ) -> Result<CompactView, AllocError>
+        ensures { IfOk result (λ after. after ≡ changed_by self dataset.now) }
+    {
+        if self.levels.is_empty() {
+            drop(self);
+            return dataset.compact(alloc);
+        }
+        let change = all_joined_by(rt, alloc, self.levels.as_slice(), threads);
+        drop(self);
+        let joined = change?;
+        joined.apply_indexed(alloc, dataset)
+    }
 }
 
 // Whether a change speaks of nothing.
@@ -164,114 +190,11 @@ fn says_nothing(delta: &Delta) -> bool
         && delta.gone().is_empty()
 }
 
-// All these changes as one.
-fn all_joined(alloc: Global, levels: &[Level]) -> Result<Delta, AllocError>
-    requires { 1 ≤ length levels.now }
-    ensures { IfOk result (λ change. (d : Dataset) → applied change d ≡ changed_by levels.now d) }
-{
-    match levels {
-        [] => unreachable!(),
-        [earlier @ .., last] => joined(alloc, earlier, last),
-    }
-}
-
-// These changes and then the last one, as one. It begins with the last two, so that an early one is copied once.
-fn joined(alloc: Global, earlier: &[Level], last: &Level) -> Result<Delta, AllocError>
-    ensures { IfOk result (λ change. (d : Dataset)
-        → applied change d ≡ applied last.now (changed_by earlier.now d)) }
-{
-    let mut change = last.change().copied(alloc)?;
-    for after in 0..earlier.len() {
-        let level = &earlier[earlier.len() - 1 - after];
-        change = level.change().followed_by(alloc, &change)?;
-    }
-    Ok(change)
-}
-
 // The levels are put in these orders, as far as there is memory.
 fn put_all_in_order(alloc: Global, levels: &mut Vec<Level>, orders: &[Arrangement])
     ensures { levels.new.items ≡ levels.old.items }
 {
     for level in levels.iter_mut() {
         level.put_in_order(alloc, orders);
-    }
-}
-
-// How many quads and names a level's change speaks of.
-fn size(level: &Level) -> usize {
-    let change = level.change();
-    let quads = change.present().len().saturating_add(change.absent().len());
-    let names = change.there().len().saturating_add(change.gone().len());
-    quads.saturating_add(names)
-}
-
-// How many digits a length has to the base of four. Levels of as many are alike.
-fn digits(size: usize) -> u32 {
-    (usize::BITS - size.leading_zeros()).div_ceil(2)
-}
-
-// How many of the last levels have lengths of no more digits than these.
-fn count_within(levels: &[Level], most: u32) -> usize
-    ensures { result ≤ length levels.now }
-{
-    let mut count = 0;
-    while count < levels.len() && digits(size(&levels[levels.len() - 1 - count])) <= most {
-        count += 1;
-    }
-    count
-}
-
-// How many of the last levels are to become one, if they are so many that they are.
-fn alike_at_end(levels: &[Level], orders: &[Arrangement]) -> Option<usize>
-    ensures { IfSome result (λ count. (2 ≤ count) × (count ≤ length levels.now)) }
-{
-    let many = if orders.is_empty() {
-        ALIKE_UNORDERED
-    } else {
-        ALIKE
-    };
-    let count = match levels {
-        [.., last] => count_within(levels, digits(size(last))),
-        [] => 0,
-    };
-    if count >= many { Some(count) } else { None }
-}
-
-// The last two levels become one. After want of memory they are as before.
-fn join_last(alloc: Global, levels: &mut Vec<Level>) -> Result<(), AllocError>
-    requires { 2 ≤ vec_len levels.old }
-    ensures same { (d : Dataset) → changed_by levels.new.items d ≡ changed_by levels.old.items d }
-    ensures count { OnOk result (vec_len levels.new + 1 ≡ vec_len levels.old) }
-{
-    let last = levels.len() - 1;
-    let earlier = levels[last - 1].change();
-    let change = earlier.followed_by(alloc, levels[last].change())?;
-    let level = Level::new(alloc, change);
-    levels.pop();
-    levels[last - 1] = level;
-    Ok(())
-}
-
-// So many of the last levels become one, the later ones first, so that an early one is copied once.
-fn join_many(alloc: Global, levels: &mut Vec<Level>, count: usize) -> Result<(), AllocError>
-    requires some { 2 ≤ count }
-    requires within { count ≤ vec_len levels.old }
-    ensures same { (d : Dataset) → changed_by levels.new.items d ≡ changed_by levels.old.items d }
-    ensures fewer { OnOk result (vec_len levels.new < vec_len levels.old) }
-{
-    for done in 1..count {
-        join_last(alloc, levels)?;
-    }
-    Ok(())
-}
-
-// The last levels become one while they are alike in length, and there is memory.
-fn join_alike(alloc: Global, levels: &mut Vec<Level>, orders: &[Arrangement])
-    ensures { (d : Dataset) → changed_by levels.new.items d ≡ changed_by levels.old.items d }
-{
-    while let Some(count) = alike_at_end(levels, orders) {
-        if join_many(alloc, levels, count).is_err() {
-            break;
-        }
     }
 }

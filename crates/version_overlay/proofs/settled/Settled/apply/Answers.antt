@@ -1,16 +1,10 @@
-use Rattle.std.proofs.Common.{sym, ap, ◌∙◌}
-use Rattle.std.proofs.lemmas.Result.{IfOk-weaker}
+use Rattle.std.proofs.Common.{arith, eqb-true, sym, ap, ◌∙◌}
 use Rattle.version_overlay.specs.Settled.{changed_by}
-use Rattle.version_overlay.proofs.Changing.{changed_by-nothing, below_one, last_apart}
+use Rattle.version_overlay.proofs.Changing.{changed_by-nothing, below_one}
 use Rattle.version_overlay.proofs.settled.Settled.apply.Goals as goal
 
-pub returns-in-empty : goal.returns-in-empty
-returns-in-empty c =
-    let is = sym c.self.view_is ∙ sym c.as_slice.ensures.value ∙ below_one c.as_slice.result.now c.in-empty.len_below in
-    sym (ap (λ cs. changed_by cs c.args.view) is ∙ changed_by-nothing c.args.view)
-
-pub returns-in_ok-joined-in-len1-up : goal.returns-in_ok-joined-in-len1-up
-returns-in_ok-joined-in-len1-up c =
-    IfOk-weaker c.apply-in-len1-up.result _ _
-    (λ after e. e ∙ c.in_ok-joined-in-len1-up.ensures c.args.view ∙ last_apart c.as_slice.result.now c.last-item.result c.in-len1-up.len_at_least c.last-item.is c.args.view
-    ∙ ap (λ cs. changed_by cs c.args.view) (c.as_slice.ensures.value ∙ c.self.view_is)) c.apply-in-len1-up.ensures
+pub returns-then-is_empty : goal.returns-then-is_empty
+returns-then-is_empty c =
+    let few = eqb-true _ _ (sym c.is_empty.ensures ∙ c.if-is_empty.true) in
+    let none = sym c.self.view_is ∙ below_one c.self.inside.levels.items (omega (arith, few)) in
+    sym (ap (λ cs. changed_by cs c.args.view) none ∙ changed_by-nothing c.args.view)

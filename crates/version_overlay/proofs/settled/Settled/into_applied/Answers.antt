@@ -4,11 +4,6 @@ use Rattle.version_overlay.specs.Settled.{changed_by}
 use Rattle.version_overlay.proofs.Changing.{changed_by-nothing, below_one}
 use Rattle.version_overlay.proofs.settled.Settled.into_applied.Goals as goal
 
-pub returns : goal.returns
-returns c =
-    IfOk-weaker c.apply_indexed.result _ _
-    (λ after e. e ∙ c.in_ok-joined.ensures c.args.dataset.now ∙ ap (λ cs. changed_by cs c.args.dataset.now) (c.as_slice.ensures.value ∙ c.self.view_is)) c.apply_indexed.ensures
-
 pub returns-then-is_empty : goal.returns-then-is_empty
 returns-then-is_empty c =
     let few = eqb-true _ _ (sym c.is_empty.ensures ∙ c.if-is_empty.true) in

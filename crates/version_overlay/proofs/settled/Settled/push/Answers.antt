@@ -1,10 +1,10 @@
 use Rattle.std.proofs.Common.{◌≡◌, sym, ap, ◌∙◌}
-use Rattle.datasets.specs.declared.read.Read.TheVariants.{Scan}
 use Rattle.quad_hints.specs.Seen.{may_match}
 use Rattle.reads.specs.Reads.{View, says, applied, covers}
 use Rattle.reads.proofs.Changes.{uncovered, nothing_changed}
-use Rattle.version_overlay.specs.Settled.{changed_by}
+use Rattle.version_overlay.specs.Settled.{changed_by, may_ask}
 use Rattle.version_overlay.proofs.Changing.{changed-rises, changed_by-rises, some_are, pushed_is}
+use Rattle.version_overlay.proofs.Filtered.{still_asked, all_asked}
 use Rattle.version_overlay.proofs.Generations.{stopped}
 use Rattle.version_overlay.proofs.settled.Settled.push.Goals as goal
 
@@ -16,25 +16,23 @@ returns-then-says_nothing-clause-ok c d =
     sym (ap (λ x. applied x after) (c.says_nothing.ensures c.if-says_nothing.true)
     ∙ nothing_changed after (changed-rises was (λ none. some_are levels.items levels.len levels.ok.0 (sym c.is_empty.ensures ∙ c.if-not-is_empty.true) (c.self.view_is ∙ none)) d))
 
-pub invariant_of-self-in_err-push : goal.invariant_of-self-in_err-push
-invariant_of-self-in_err-push c p stops d rising =
-    ap (λ cs. says (Scan p) (changed_by cs d)) c.in_err-push.ensures.items
-    ∙ c.self.invariant p (stopped (may_match c.self.inside.seen p) (may_match c.put_all.new.seen p) (c.put_all.ensures.kept p) stops) d rising
-
 -- the levels with one more
-module _ (c : goal.After-join_alike) where
-  one_more : (d : View) → changed_by c.join_alike.new.levels.items d ≡ applied c.args.delta.now (changed_by c.self.inside.levels.items d)
+module _ (c : goal.In_ok-push) where
+  one_more : (d : View) → changed_by c.push.new.self.items d ≡ applied c.args.delta.now (changed_by c.self.inside.levels.items d)
   one_more d =
-      c.join_alike.ensures d
-      ∙ pushed_is c.self.inside.levels.items c.push.new.self.items c.new-level.result c.args.delta.now c.in_ok-push.ensures.items (c.new-level.ensures ∙ c.in_ok-copied.ensures) d
+      pushed_is c.self.inside.levels.items c.push.new.self.items c.new-level.result c.args.delta.now c.in_ok-push.ensures.items (c.new-level.ensures ∙ c.in_ok-copied.ensures) d
 
 pub invariant_of-self-2 : goal.invariant_of-self-2
-invariant_of-self-2 c p stops d rising =
+invariant_of-self-2 c r stops d rising =
     let levels = c.self.inside.levels.items in
     let delta = c.args.delta.now in
-    ap (says (Scan p)) (one_more c d)
-    ∙ uncovered delta (changed_by levels d) (Scan p) (changed_by-rises levels d rising) (stopped (covers delta (Scan p)) (may_match c.put_all.new.seen p) (c.in_ok-put_all.ensures.added p) stops)
-    ∙ c.self.invariant p (stopped (may_match c.self.inside.seen p) (may_match c.put_all.new.seen p) (c.put_all.ensures.kept p) stops) d rising
+    let was = c.self.inside in
+    let asked = may_ask c.put_all.new.seen c.put_all_names.new.seen r in
+    let spoken = all_asked c.put_all.new.seen c.put_all_names.new.seen delta c.in_ok-put_all.ensures.added c.in_ok-put_all_names.ensures.added r in
+    let still = still_asked was.seen c.put_all.new.seen was.named c.put_all_names.new.seen c.put_all.ensures.kept c.put_all_names.ensures.kept r in
+    ap (says r) (one_more c d)
+    ∙ uncovered delta (changed_by levels d) r (changed_by-rises levels d rising) (stopped (covers delta r) asked spoken stops)
+    ∙ c.self.invariant r (stopped (may_ask was.seen was.named r) asked still stops) d rising
 
 pub returns-clause-ok : goal.returns-clause-ok
 returns-clause-ok c d = one_more c d ∙ ap (λ cs. applied c.args.delta.now (changed_by cs d)) c.self.view_is

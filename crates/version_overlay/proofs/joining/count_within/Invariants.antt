@@ -1,5 +1,5 @@
 use Rattle.std.proofs.Common.{◌≤◌, ◌-◌, length}
-use Rattle.version_overlay.proofs.settled.count_within.Given as goal
+use Rattle.version_overlay.proofs.joining.count_within.Given as goal
 
 abbrev pub invariant-loop-count : goal.invariant-loop-count
 invariant-loop-count l = l.count ≤ length l.levels

@@ -2,8 +2,8 @@ use Rattle.std.proofs.Common.{◌≡◌, ◌∙◌, List, ap, arith, true, false
 use Rattle.std.specs.Prelude.{Bool}
 use Rattle.quad_hints.specs.Seen.{slot_of, is_seen}
 use Rattle.quad_hints.proofs.Filtering.{slot_below, still_set, set_within}
-use Rattle.quad_hints.proofs.seen.Seen.put.Goals as goal
-use Rattle.quad_hints.proofs.seen.Seen.put.Goals.{then-slot-len+in_ok-resize, else-slot-len}
+use Rattle.quad_hints.proofs.seen.SeenTerms.put.Goals as goal
+use Rattle.quad_hints.proofs.seen.SeenTerms.put.Goals.{then-slot-len+in_ok-resize, else-slot-len}
 
 pub returns-clause-kept : goal.returns-clause-kept
 returns-clause-kept c x e =

@@ -1,0 +1,11 @@
+use Rattle.std.proofs.Common.{arith, eqb-true, sym, ap, ◌∙◌}
+use Rattle.std.proofs.lemmas.Result.{IfOk-weaker}
+use Rattle.version_overlay.specs.Settled.{changed_by}
+use Rattle.version_overlay.proofs.Changing.{changed_by-nothing, below_one}
+use Rattle.version_overlay.proofs.settled.Settled.into_applied_by.Goals as goal
+
+pub returns-then-is_empty : goal.returns-then-is_empty
+returns-then-is_empty g c =
+    let few = eqb-true _ _ (sym c.is_empty.ensures ∙ c.if-is_empty.true) in
+    let none = sym c.self.view_is ∙ below_one c.self.inside.levels.items (omega (arith, few)) in
+    IfOk-weaker c.compact.result _ _ (λ copy e. e ∙ sym (ap (λ cs. changed_by cs c.args.dataset.now) none ∙ changed_by-nothing c.args.dataset.now)) c.compact.ensures
