@@ -19,8 +19,11 @@ use std::thread::{Threads, join_mut};
 use terms::DataSet;
 use terms::laws::{lists_grow_as_datasets, lists_unite};
 
-/// How often a portion is as long as the first one, where several threads read.
-const FIRST_SHARE: usize = 4;
+/// How often a portion is as long as the first one, where several threads read. Each that follows is twice as long as the one before.
+const FIRST_SHARE: usize = 8;
+
+/// In how many pieces each of several threads reads a portion, where terms are few.
+const PIECES_OF_A_THREAD: usize = 3;
 
 /// Terms are few where a piece has so many quads for each.
 const QUADS_OF_A_TERM: usize = 2;
@@ -91,15 +94,38 @@ fn have_few_terms(pieces: &ReadPieces) -> bool {
     }
 }
 
-/// How many bytes come behind these lines. The terms that several threads read of a portion are put among those of the lines before it by one
-/// thread: where they are not few, all that is left comes at once.
-fn portion_behind(lines: &ReadLines, threads: usize, portion: usize) -> usize
+/// Whether these lines are known to say few terms for their quads.
+fn say_few_terms(lines: &ReadLines) -> bool {
+    match &lines.behind {
+        Some(pieces) => have_few_terms(pieces),
+        None => false,
+    }
+}
+
+/// How many bytes come behind these lines and so many bytes: twice as many, as long as several threads may be done with those before they came. The
+/// terms that they read of a portion are put among those of the lines before it by one thread: where they are not few, all that is left comes at once.
+fn portion_behind(lines: &ReadLines, bytes: usize, threads: usize, portion: usize) -> usize
     requires { portion < 2 ^ 32 }
     ensures { result < 2 ^ 32 }
 {
-    match &lines.behind {
-        Some(pieces) if 1 < threads && !have_few_terms(pieces) => MOST_BYTES,
-        _ => portion,
+    if threads <= 1 {
+        portion
+    } else if lines.behind.is_some() && !say_few_terms(lines) {
+        MOST_BYTES
+    } else {
+        portion.min(bytes.saturating_mul(2))
+    }
+}
+
+/// In how many pieces a text behind these lines is read by so many threads. Each piece has a table of its terms: where they are few, it is read in more
+/// pieces than there are threads, so that a processor that is done with one goes on with another.
+fn pieces_behind(lines: &ReadLines, threads: usize) -> usize
+    ensures { 1 < threads → 1 < result }
+{
+    if 1 < threads && say_few_terms(lines) {
+        threads.saturating_mul(PIECES_OF_A_THREAD)
+    } else {
+        threads
     }
 }
 
@@ -166,7 +192,8 @@ fn read_and_put<T: Threads + Sync>(
         let front = together(rt, lines);
         return (front, read_pieces(rt, alloc, text, threads));
     }
-    read_beside(rt, alloc, lines, text, threads)
+    let pieces = pieces_behind(&lines, threads);
+    read_beside(rt, alloc, lines, text, pieces)
 }
 
 /// Reads a text behind these lines, which are put together.
@@ -326,7 +353,7 @@ fn read_further<T: Threads + Sync, R: Read>(
         return begun_further(reader, read, portion);
     };
     let mut next = bytes_in(spare, begun)?;
-    let limit = next.len() + portion_behind(&lines, threads, portion);
+    let limit = next.len() + portion_behind(&lines, text.len(), threads, portion);
     let len = len + text.len();
     let read = match read_and_filled(rt, alloc, lines, text, threads, reader, &mut next, limit) {
         Ok(read) => read,

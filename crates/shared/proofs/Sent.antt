@@ -58,7 +58,7 @@ use Rattle.quad_index.specs.contracts.index.Index as Index
 use Rattle.quad_sets.specs.contracts.quad_set.QuadSet as QuadSet
 use Rattle.quad_hints.specs.contracts.hints.Hints as Hints
 use Rattle.quad_hints.specs.contracts.ordered_hints.OrderedHints as OrderedHints
-use Rattle.quad_hints.specs.contracts.seen.Seen as Seen
+use Rattle.quad_hints.specs.contracts.seen.SeenTerms as SeenTerms
 use Rattle.quad_hints.specs.contracts.seen.SeenQuads as SeenQuads
 use Rattle.quad_hints.specs.contracts.sorted_hints.SortedHints as SortedHints
 use Rattle.version_overlay.specs.contracts.generation.Generation as Generation
@@ -289,7 +289,7 @@ order_set = search (sendable, crosses) depth 20
 ordered_hints : IsSend (OrderedHints.the_field).row
 ordered_hints = let s = sorted_hints in let o = order_set in search (sendable, crosses) depth 20
 
-seen : IsSend (Seen.the_field).row
+seen : IsSend (SeenTerms.the_field).row
 seen = search (sendable, crosses) depth 20
 
 seen_quads : IsSend (SeenQuads.the_field).row
@@ -317,7 +317,7 @@ level : IsSend (Level.the_row)
 level = let d = delta_field in let o = order_send in search (sendable, crosses) depth 20
 
 settled : IsSend (Settled.the_field).row
-settled = let l = level in let s = seen_quads in let a = arrangement.the_send in search (sendable, crosses) depth 20
+settled = let l = level in let s = seen_quads in let n = seen in let a = arrangement.the_send in search (sendable, crosses) depth 20
 
 tree : IsSend (StampTree.the_field).row
 tree = search (sendable, crosses, trees.crosses) depth 20
