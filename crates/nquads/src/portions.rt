@@ -15,7 +15,7 @@ use devices::{ReadFault, Watched, fill};
 use nquads_lines::laws::lines_are_read;
 use std::alloc::{AllocError, Global};
 use std::io::Read;
-use std::thread::{Threads, join_mut};
+use std::thread::{Threads, join_mut, spawn};
 use terms::DataSet;
 use terms::laws::{lists_grow_as_datasets, lists_unite};
 
@@ -444,6 +444,15 @@ fn fault_within(alloc: Global, text: &[u8], before: usize, limit: usize) -> Base
     }
 }
 
+/// Lets texts go that were read, where there are several threads by one that nobody waits for.
+fn let_go<T: Threads + Sync>(rt: &T, texts: (Vec<u8>, Vec<u8>), threads: usize) {
+    if threads <= 1 {
+        drop(texts);
+        return;
+    }
+    let _ = spawn(rt, move || drop(texts));
+}
+
 /// The answer to a text of which the last bytes have come, or more than the limit.
 fn ended<T: Threads + Sync>(
     rt: &T,
@@ -467,6 +476,7 @@ fn ended<T: Threads + Sync>(
         lines,
         len,
         rest,
+        spare,
         ..
     } = read;
     if limit < len + rest.len() {
@@ -478,6 +488,7 @@ fn ended<T: Threads + Sync>(
         Ok(read) => read,
         Err(fault) => return Err(fault),
     };
+    let_go(rt, (rest, spare), threads);
     let (front, last) = read;
     let whole = and_pieces(rt, front, last, threads)?;
     Ok(whole.dataset)

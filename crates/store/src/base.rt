@@ -14,7 +14,7 @@ use canonical_nquads::tag;
 use datasets::{Id, Quad, Read};
 use dict::Dict;
 use dict::laws::is_renaming;
-use quad_lists::Arrangement;
+use quad_lists::{Arrangement, KnownQuad};
 use reads::{Answered, IndexedView, Source, Stop};
 use std::alloc::{AllocError, Global};
 use std::marker::Model;
@@ -41,13 +41,14 @@ impl Model for Base {
     ghost invariant = { λ b. IsDataset b.dataset };
 }
 
-// The dictionary of these terms and of more, and the numbers of both lists.
+// The dictionary of these terms and of more, the numbers of both lists, and room for so many quads.
 fn numbered_both<H: Hands>(
     hands: &H,
     alloc: Global,
     mut terms: Vec<Term>,
     mut more: Vec<Term>,
-) -> Result<(Dict, Vec<Id>, Vec<Id>), AllocError>
+    quads: usize,
+) -> Result<(Dict, Vec<Id>, Vec<Id>, Vec<KnownQuad>), AllocError>
     requires { H.Ready }
     ensures terms { IfOk result (λ r. r.0 ≡ set_of term_order
         (filter is_written (terms.items ++ more.items))) }
@@ -59,9 +60,9 @@ fn numbered_both<H: Hands>(
 {
     let count = terms.len();
     terms.append(&mut more)?;
-    let (dict, mut ids) = hands.numbered(alloc, terms)?;
+    let (dict, mut ids, room) = hands.numbered(alloc, terms, quads)?;
     let others = ids.split_off(count)?;
-    Ok((dict, ids, others))
+    Ok((dict, ids, others, room))
 }
 
 impl Base {
@@ -84,8 +85,10 @@ impl Base {
         is_renaming();
         let tag = tag(alloc, &dataset)?;
         let parts = dataset.into_parts(alloc)?;
-        let (terms, ids, others) = numbered_both(hands, alloc, parts.terms, more)?;
-        let quads = hands.placed(alloc, ids.as_slice(), parts.quads.as_slice())?;
+        let count = parts.quads.len();
+        let (terms, ids, others, room) = numbered_both(hands, alloc, parts.terms, more, count)?;
+        let quads = hands.placed(alloc, ids.as_slice(), parts.quads.as_slice(), room)?;
+        hands.let_go(parts.quads);
         let places = distinct(parts.names);
         let names = name_numbers(alloc, ids.as_slice(), places.as_slice())?;
         let indexed = hands.indexed(alloc, quads, names, orders)?;
@@ -110,6 +113,14 @@ impl Base {
         ensures { result ≡ self.terms }
     {
         self.terms
+    }
+
+    /// Its dictionary and its dataset, by themselves.
+    pub fn apart(self) -> (Dict, IndexedView)
+        ensures terms { result.0 ≡ self.terms }
+        ensures dataset { result.1 ≡ self.dataset }
+    {
+        (self.terms, self.dataset)
     }
 
     /// Its dataset.

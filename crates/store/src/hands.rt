@@ -7,13 +7,13 @@ ghost use Rattle.datasets.specs.Dataset.{quad_order};
 ghost use Rattle.terms.specs.Term.{term_order};
 ghost use Rattle.dict.specs.Dictionary.{IsDictionary, is_written, is_known, term_of};
 
-use crate::numbers::{quad_numbers, quad_numbers_by};
+use crate::numbers::{quad_numbers, quad_numbers_by, room_for};
 use datasets::{Id, Quad};
 use dict::Dict;
-use quad_lists::{Arrangement, QuadList};
+use quad_lists::{Arrangement, KnownQuad, QuadList};
 use reads::IndexedView;
 use std::alloc::{AllocError, Global};
-use std::thread::Threads;
+use std::thread::{Threads, join, spawn};
 use terms::Term;
 
 /// One thread or several, that put terms and quads in order.
@@ -31,19 +31,34 @@ pub trait Hands {
     // What it takes of its types.
     ghost Ready: { Type 0 };
 
-    /// The dictionary of these terms, and their numbers.
-    fn numbered(&self, alloc: Global, terms: Vec<Term>) -> Result<(Dict, Vec<Id>), AllocError>
+    /// The dictionary of these terms, and their numbers, and room for so many quads, if it takes it now.
+    fn numbered(
+        &self,
+        alloc: Global,
+        terms: Vec<Term>,
+        count: usize,
+    ) -> Result<(Dict, Vec<Id>, Vec<KnownQuad>), AllocError>
         requires { Ready }
         ensures terms { IfOk result (λ r. r.0 ≡ set_of term_order (filter is_written terms.items)) }
         ensures form { IfOk result (λ r. IsDictionary r.0) }
         ensures renamed { IfOk result (λ r. map (term_of r.0) r.1.items ≡ terms.items) }
         ensures known { IfOk result (λ r. list_all (is_known r.0) r.1.items ≡ true) };
 
-    /// Quads by places, at the numbers that stand there.
-    fn placed(&self, alloc: Global, ids: &[Id], quads: &[Quad<u32>]) -> Result<QuadList, AllocError>
+    /// Quads by places, at the numbers that stand there, in the room that was made for so many.
+    fn placed(
+        &self,
+        alloc: Global,
+        ids: &[Id],
+        quads: &[Quad<u32>],
+        room: Vec<KnownQuad>,
+    ) -> Result<QuadList, AllocError>
         requires ready { Ready }
         requires within { list_all (is_quad_within ids.now) quads.now ≡ true }
         ensures { IfOk result (λ list. list ≡ map (numbers_at ids.now) quads.now) };
+
+    /// Lets quads go that are not needed any more.
+    fn let_go(&self, quads: Vec<Quad<u32>>)
+        requires { Ready };
 
     /// The dataset of these quads and graph names, its quads in these orders beside SPOG.
     fn indexed(
@@ -66,8 +81,15 @@ pub struct Alone;
 impl Hands for Alone {
     ghost Ready = { Unit {0} };
 
-    fn numbered(&self, alloc: Global, terms: Vec<Term>) -> Result<(Dict, Vec<Id>), AllocError> {
-        Dict::numbered(alloc, terms, Vec::new(alloc))
+    fn numbered(
+        &self,
+        alloc: Global,
+        terms: Vec<Term>,
+        count: usize,
+    ) -> Result<(Dict, Vec<Id>, Vec<KnownQuad>), AllocError> {
+        let _ = count;
+        let (dict, ids) = Dict::numbered(alloc, terms, Vec::new(alloc))?;
+        Ok((dict, ids, Vec::new(alloc)))
     }
 
     fn placed(
@@ -75,8 +97,14 @@ impl Hands for Alone {
         alloc: Global,
         ids: &[Id],
         quads: &[Quad<u32>],
+        room: Vec<KnownQuad>,
     ) -> Result<QuadList, AllocError> {
+        drop(room);
         quad_numbers(alloc, ids, quads)
+    }
+
+    fn let_go(&self, quads: Vec<Quad<u32>>) {
+        drop(quads);
     }
 
     fn indexed(
@@ -108,8 +136,27 @@ impl<'r, T: Threads + Sync> Hands for Together<'r, T> {
 
     ghost Ready = { IsSync T.row };
 
-    fn numbered(&self, alloc: Global, terms: Vec<Term>) -> Result<(Dict, Vec<Id>), AllocError> {
-        Dict::numbered_by(self.rt, alloc, terms, Vec::new(alloc))
+    // The room is made meanwhile: a page of it that is touched first takes as long as some hundred quads.
+    fn numbered(
+        &self,
+        alloc: Global,
+        terms: Vec<Term>,
+        count: usize,
+    ) -> Result<(Dict, Vec<Id>, Vec<KnownQuad>), AllocError> {
+        let rt = self.rt;
+        let (room, numbered) = join(
+            rt,
+            move || room_for(alloc, count),
+            move || -> Result<(Dict, Vec<Id>), AllocError>
+                requires { IsSync T.row }
+                ensures { IfOk result (λ r.
+                    ((r.0 ≡ set_of term_order (filter is_written terms.items)) × IsDictionary r.0)
+                    × ((map (term_of r.0) r.1.items ≡ terms.items)
+                    × (list_all (is_known r.0) r.1.items ≡ true))) }
+            { Dict::numbered_by(rt, alloc, terms, Vec::new(alloc)) },
+        );
+        let (dict, ids) = numbered?;
+        Ok((dict, ids, room?))
     }
 
     fn placed(
@@ -117,8 +164,14 @@ impl<'r, T: Threads + Sync> Hands for Together<'r, T> {
         alloc: Global,
         ids: &[Id],
         quads: &[Quad<u32>],
+        room: Vec<KnownQuad>,
     ) -> Result<QuadList, AllocError> {
-        quad_numbers_by(self.rt, alloc, ids, quads)
+        quad_numbers_by(self.rt, alloc, ids, quads, room)
+    }
+
+    // Nobody waits for it.
+    fn let_go(&self, quads: Vec<Quad<u32>>) {
+        let _ = spawn(self.rt, move || drop(quads));
     }
 
     fn indexed(

@@ -161,35 +161,41 @@ fn known_put_by<T: Threads + Sync>(
     known
 }
 
-// The same as `quad_numbers`, where all are numbers of known terms.
+// The same as `quad_numbers`, where all are numbers of known terms, in a list that has as many.
 fn known_numbers_by<T: Threads + Sync>(
     rt: &T,
-    alloc: Global,
     ids: &[Id],
     quads: &[Quad<u32>],
-) -> Result<Vec<KnownQuad>, AllocError>
+    room: Vec<KnownQuad>,
+) -> Vec<KnownQuad>
     requires within { list_all (is_quad_within ids.now) quads.now ≡ true }
     requires numbers { list_all the_is_number ids.now ≡ true }
-    ensures { IfOk result (λ known. map quad_of known.items ≡ map (numbers_at ids.now) quads.now) }
+    requires long { length room.items ≡ length quads.now }
+    ensures { map quad_of result.items ≡ map (numbers_at ids.now) quads.now }
 {
-    let known = vec![in alloc; NO_QUAD; quads.len()]?;
-    Ok(known_put_by(rt, ids, quads, known))
+    known_put_by(rt, ids, quads, room)
 }
 
-/// The same as `quad_numbers`, where several threads look for the numbers of known terms.
+/// Room for so many quads.
+pub(crate) fn room_for(alloc: Global, count: usize) -> Result<Vec<KnownQuad>, AllocError> {
+    vec![in alloc; NO_QUAD; count]
+}
+
+/// The same as `quad_numbers`, where several threads look for the numbers of known terms and put them into the room that was made for so many.
 pub(crate) fn quad_numbers_by<T: Threads + Sync>(
     rt: &T,
     alloc: Global,
     ids: &[Id],
     quads: &[Quad<u32>],
+    room: Vec<KnownQuad>,
 ) -> Result<QuadList, AllocError>
     requires { list_all (is_quad_within ids.now) quads.now ≡ true }
     ensures { IfOk result (λ list. list ≡ map (numbers_at ids.now) quads.now) }
 {
-    if !are_numbers(ids) {
+    if room.len() != quads.len() || !are_numbers(ids) {
         return quad_numbers(alloc, ids, quads);
     }
-    let known = known_numbers_by(rt, alloc, ids, quads)?;
+    let known = known_numbers_by(rt, ids, quads, room);
     Ok(QuadList::of_known(known))
 }
 
