@@ -15,14 +15,14 @@ use delta::Outcome;
 use devices::Watched;
 use engines::{Runs, named_with, read_base_by, read_block_by, run_by};
 use meaning::Request;
-use numbering::{Numbered, number, number_by};
+use numbering::{Numbered, named, number, number_by};
 use pool::{Open, run_block};
 use reads::CompactView;
 use rules::Block;
 use std::alloc::{AllocError, Global};
 use std::io::{Read, Write};
 use std::sync::Wait;
-use std::thread::{Threads, join};
+use std::thread::{Threads, join, spawn};
 use store::Base;
 use terms::DataSet;
 
@@ -79,15 +79,17 @@ impl<'r, T: Threads + Wait + Sync> Runs for Workers<'r, T> {
             drop(block);
             return named_with(alloc, base, dataset);
         }
+        let (terms, orders) = base.apart();
+        // Nobody waits until they are let go.
+        let _ = spawn(self.rt, move || drop(orders));
         let (_, answer) = join(
             self.rt,
             move || drop(block),
             move || -> Result<DataSet, AllocError>
-                requires { (dataset_known (is_known base.terms) dataset ≡ true)
-                    × IsDataset term_order (renamed (term_of base.terms) dataset) }
-                ensures { IfOk result (λ answer. answer
-                    ≡ renamed (term_of base.terms) dataset) }
-            { named_with(alloc, base, dataset) },
+                requires { (dataset_known (is_known terms) dataset ≡ true)
+                    × IsDataset term_order (renamed (term_of terms) dataset) }
+                ensures { IfOk result (λ answer. answer ≡ renamed (term_of terms) dataset) }
+            { named(alloc, terms, dataset) },
         );
         answer
     }
