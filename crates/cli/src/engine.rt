@@ -97,6 +97,15 @@ impl<'r, T: Threads + Wait + Sync> Runs for Workers<'r, T> {
     fn text(&self, alloc: Global, dataset: &DataSet, tag: u32) -> Result<Vec<Vec<u8>>, AllocError> {
         canonical_pieces_by(self.rt, alloc, dataset, tag, self.count as usize)
     }
+
+    // With more than one thread nobody waits for it: the pieces are most of what the process would give back at its end.
+    fn let_go(&self, piece: Vec<u8>) {
+        if self.count == 1 {
+            drop(piece);
+            return;
+        }
+        let _ = spawn(self.rt, move || drop(piece));
+    }
 }
 
 /// Reads a base and a block, runs the block by this many workers, and writes the canonical text of the new dataset and one line a request. The

@@ -169,6 +169,11 @@ pub fn run_with_journal_engine<
     let Ok(texts) = texts_with_journal(rt, alloc, read, requests, workers) else {
         return Err(Fault::Memory);
     };
-    write_texts(&texts.answer, dataset, replies)?;
-    write_journal(journal, texts.journal.as_slice())
+    let RecordTexts {
+        answer,
+        journal: lines,
+    } = texts;
+    let way = Workers { rt, count: workers };
+    write_texts(&way, answer, dataset, replies)?;
+    write_journal(journal, lines.as_slice())
 }

@@ -21,6 +21,7 @@ use sets::{is_member, set_of};
 use std::alloc::{AllocError, Global};
 use std::marker::Model;
 use std::sync::Arc;
+use std::thread::Threads;
 
 /// A change: quads that come to be present or absent, and graphs that come to be there or gone. It is shared, and not copied.
 #[derive(Drop)]
@@ -260,7 +261,27 @@ impl Delta {
         let quads = QuadSet::changed(alloc, &dataset.quads(), &self.absent(), &self.present())?;
         let own = copied_names(alloc, dataset.names())?;
         let names = names_after(alloc, own, self.gone(), self.there())?;
-        Ok(CompactView::from_sets(quads, names))
+        CompactView::from_sets(alloc, quads, names)
+    }
+
+    /// The same, its quads made by so many threads, where they are many.
+    #[tactic(auto, unfolding(reads::specs::Reads::applied))]
+    pub fn apply_indexed_by<T: Threads + Sync>(
+        &self,
+        rt: &T,
+        alloc: Global,
+        dataset: &IndexedView,
+        threads: usize,
+    ) -> Result<CompactView, AllocError>
+        ensures { IfOk result (λ after. after ≡ applied self.now dataset.now) }
+    {
+        dataset.rises();
+        let (going, coming) = (self.absent(), self.present());
+        let own = dataset.quads();
+        let quads = QuadSet::changed_in_pieces(rt, alloc, &own, &going, &coming, threads)?;
+        let there = copied_names(alloc, dataset.names())?;
+        let names = names_after(alloc, there, self.gone(), self.there())?;
+        Ok(CompactView::from_pieces(quads, names))
     }
 
     /// This change and then a later one, as one change. What the later one speaks of is as it says.

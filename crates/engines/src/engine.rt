@@ -94,6 +94,10 @@ pub trait Runs {
     fn text(&self, alloc: Global, dataset: &DataSet, tag: u32) -> Result<Vec<Vec<u8>>, AllocError>
         requires ready { Ready }
         ensures { IfOk result (λ pieces. text_of_pieces pieces.items ≡ canonical dataset.now tag) };
+
+    /// Lets a piece of text go that is written.
+    fn let_go(&self, piece: Vec<u8>)
+        requires ready { Ready };
 }
 
 /// The dataset of terms that one at numbers of a base's terms stands for. Of the base only its terms are left. An `Err` is want of memory.
@@ -201,7 +205,7 @@ pub fn run_by<W: Runs, B: Read, K: Read, D: Write, A: Write>(
     let read = way.read(alloc, base)?;
     let requests = way.requests(alloc, block)?;
     match texts_of(way, alloc, read, requests) {
-        Ok(texts) => write_texts(&texts, dataset, replies),
+        Ok(texts) => write_texts(way, texts, dataset, replies),
         Err(_) => Err(Fault::Memory),
     }
 }

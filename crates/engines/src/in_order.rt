@@ -63,6 +63,10 @@ impl Runs for OneByOne {
     fn text(&self, alloc: Global, dataset: &DataSet, tag: u32) -> Result<Vec<Vec<u8>>, AllocError> {
         canonical_pieces(alloc, dataset, tag)
     }
+
+    fn let_go(&self, piece: Vec<u8>) {
+        drop(piece);
+    }
 }
 
 /// Reads a base and a block, runs the block by one thread, one request after another, and writes the canonical text of the new dataset and

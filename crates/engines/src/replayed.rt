@@ -144,7 +144,7 @@ pub fn replay_engine<B: Read, K: Read, J: Read, D: Write, A: Write>(
     };
     let bytes = read_journal_bytes(alloc, journal)?;
     match texts_of_journal(alloc, read, requests, bytes) {
-        Ok(texts) => write_texts(&texts, dataset, replies),
+        Ok(texts) => write_texts(&OneByOne, texts, dataset, replies),
         Err(fault) => Err(fault),
     }
 }

@@ -425,6 +425,49 @@ fn long_sets_are_changed(rt: HostRuntime) -> Result<(), AllocError> {
     Ok(())
 }
 
+// What a change of a set of twenty thousand quads makes of it, in pieces.
+fn changed_pieces(
+    rt: &HostRuntime,
+    alloc: Global,
+    threads: usize,
+) -> Result<Vec<QuadList>, AllocError> {
+    let long = QuadSet::of_quads(alloc, quads_of(alloc, &[(0, 20_000, false)])?)?;
+    let gone = quads_of(alloc, &[(100, 120, false), (19_990, 20_010, false)])?;
+    let gone = QuadSet::of_quads(alloc, gone)?;
+    let more = quads_of(alloc, &[(110, 115, false), (20_000, 30_000, false)])?;
+    let more = QuadSet::of_quads(alloc, more)?;
+    let (long, gone, more) = (long.as_slice(), gone.as_slice(), more.as_slice());
+    QuadSet::changed_in_pieces(rt, alloc, &long, &gone, &more, threads)
+}
+
+// Whether the pieces that so many threads make are what plain vectors say, one behind another, and one for each thread.
+fn is_changed_in_pieces(
+    rt: &HostRuntime,
+    alloc: Global,
+    threads: usize,
+) -> Result<bool, AllocError> {
+    let rows = [
+        (0, 100, false),
+        (110, 115, false),
+        (120, 19_990, false),
+        (20_000, 30_000, false),
+    ];
+    let left = set_of(quads_of(alloc, &rows)?);
+    let pieces = changed_pieces(rt, alloc, threads)?;
+    let mut quads = Vec::new(alloc);
+    for piece in &pieces {
+        quads.extend_from_slice(piece.quads(alloc)?.as_slice())?;
+    }
+    Ok(pieces.len() == threads && quads == left)
+}
+
+#[test]
+fn long_sets_are_changed_in_pieces(rt: HostRuntime) -> Result<(), AllocError> {
+    assert!(rt; is_changed_in_pieces(&rt, rt.alloc(), 1)?);
+    assert!(rt; is_changed_in_pieces(&rt, rt.alloc(), 3)?);
+    Ok(())
+}
+
 // Whether a part of a set is that of its vector.
 fn is_part(alloc: Global, set: &QuadSlice<'_>, quads: &[Quad<Id>]) -> Result<bool, AllocError> {
     if set.len() < 200 {

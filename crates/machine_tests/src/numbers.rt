@@ -121,9 +121,11 @@ pub fn has_quads(
     dataset: &CompactView,
     quads: &str,
 ) -> Result<bool, AllocError> {
-    let list = dataset.quads().quads(alloc)?;
     let mut text = Vec::new(alloc);
-    tell_quads(alloc, terms, b'+', &list, &mut text)?;
+    for piece in dataset.quads() {
+        let list = piece.quads(alloc)?;
+        tell_quads(alloc, terms, b'+', &list, &mut text)?;
+    }
     Ok(text.as_slice() == quads.as_bytes())
 }
 

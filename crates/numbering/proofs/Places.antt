@@ -1,10 +1,12 @@
 -- Places of numbers.
 use Rattle.std.specs.Prelude.{map, slice_index_or}
-use Rattle.std.proofs.Common.{◌≡◌, ℕ, ◌<◌, true, List, [], ◌∷◌, ◌++◌, length, Option, Some, None, refl, sym, ap, ◌∙◌, subst, ◌+◌, take, add-one, append_assoc}
+use Rattle.std.proofs.Common.{◌≡◌, ℕ, zero, suc, Bool, ◌<◌, true, List, [], ◌∷◌, ◌++◌, length, Option, Some, None, refl, sym, ap, ◌∙◌, subst, ◌+◌, take, add-one, append_assoc}
 use Rattle.std.specs.List.{list_all}
 use Rattle.std.specs.Option.{option_map}
 use Rattle.std.proofs.lemmas.Bool.{and_parts, and_from}
-use Rattle.std.proofs.lemmas.List.{map-append}
+use Rattle.std.proofs.lemmas.List.{map-append, append-nil}
+use Rattle.std.proofs.lemmas.List.Concat.{flat_map-append}
+use Rattle.std.proofs.lemmas.List.Folds.{list_all-append}
 use Rattle.std.proofs.Math.Seq.{take-suc}
 use Rattle.sets.proofs.Filters.{each_joined}
 use Rattle.terms.specs.declared.term.Term.{Term}
@@ -16,6 +18,7 @@ use Rattle.dict.specs.Dictionary.{term_of, is_known}
 use Rattle.meaning_laws.specs.Renaming.{renamed_quad, quad_known, option_known}
 use Rattle.quad_lists.specs.Known.{known_graph, quad_of}
 use Rattle.quad_lists.specs.declared.known.KnownQuad.{KnownQuad}
+use Rattle.quad_sets.specs.Pieces.{quads_in_pieces}
 use Rattle.numbering.specs.Tables.{StandFor, NamesStandFor, places_of}
 
 -- ---- lists of terms that go on
@@ -196,3 +199,42 @@ known_stand terms (q ∷ qs) h =
       each = λ i. first.0 i ∷ rest.each i;
       within = and_from (is_quad_within terms (places_of q)) _ first.1 rest.within;
     }
+
+-- so many quads of known terms more
+pub known_more : (keep : TermsKeepPlaces) (dict table : List Term) → GoesOn dict table → (placed after : List (Quad ℕ)) (done : List (Quad Id)) (quads : List KnownQuad)
+    → after ≡ placed ++ map places_of quads → list_all (quad_known (is_known dict)) (map quad_of quads) ≡ true
+    → StandFor dict table placed done → StandFor dict table after (done ++ map quad_of quads)
+known_more keep dict table on placed after done quads made known s =
+    let here = stand_kept keep dict table on dict (map places_of quads) (map quad_of quads) (known_stand dict quads known) in
+    record {
+      each = ap (map (quad_at table)) made ∙ map-append (quad_at table) placed (map places_of quads)
+          ∙ (λ i. s.each i ++ here.each i) ∙ sym (map-append (renamed_quad (term_of dict)) done (map quad_of quads));
+      within = ap (list_all (is_quad_within table)) made ∙ each_joined (is_quad_within table) placed (map places_of quads) s.within here.within;
+    }
+
+-- ---- quads in pieces
+
+known_kept_all : (keep : TermsKeepPlaces) (old new : List Term) → GoesOn old new → (quads : List (Quad Id)) → list_all (quad_known (is_known old)) quads ≡ true → list_all (quad_known (is_known new)) quads ≡ true
+known_kept_all keep old new on [] h = refl
+known_kept_all keep old new on (q ∷ qs) h =
+    let parts = and_parts (quad_known (is_known old) q) _ h in
+    and_from (quad_known (is_known new) q) _ (known_quad_kept keep old new on q parts.0).1 (known_kept_all keep old new on qs parts.1)
+
+both_pass : (p : Quad Id → Bool) (xs ys : List (Quad Id)) → list_all p (xs ++ ys) ≡ true → (list_all p xs ≡ true) × (list_all p ys ≡ true)
+both_pass p xs ys h = and_parts (list_all p xs) (list_all p ys) (sym (list_all-append p xs ys) ∙ h)
+
+-- those of one of the pieces
+pub piece_passes : (p : Quad Id → Bool) (pieces : List (List (Quad Id))) (i : ℕ) → list_all p (quads_in_pieces pieces) ≡ true → list_all p (slice_index_or pieces i []) ≡ true
+piece_passes p [] i h = refl
+piece_passes p (x ∷ xs) zero h = (both_pass p x (quads_in_pieces xs) h).0
+piece_passes p (x ∷ xs) (suc i) h = piece_passes p xs i (both_pass p x (quads_in_pieces xs) h).1
+
+pub piece_known : (keep : TermsKeepPlaces) (old new : List Term) → GoesOn old new → (pieces : List (List (Quad Id))) (i : ℕ)
+    → list_all (quad_known (is_known old)) (quads_in_pieces pieces) ≡ true → list_all (quad_known (is_known new)) (slice_index_or pieces i []) ≡ true
+piece_known keep old new on pieces i h = known_kept_all keep old new on (slice_index_or pieces i []) (piece_passes (quad_known (is_known old)) pieces i h)
+
+-- one piece more
+pub pieces_next : (P : List (Quad Id) → Type 0) (pieces : List (List (Quad Id))) (i : ℕ) → i < length pieces → P (quads_in_pieces (take i pieces) ++ slice_index_or pieces i []) → P (quads_in_pieces (take (i + 1) pieces))
+pieces_next P pieces i lt h =
+    loop_next (λ xs. P (quads_in_pieces xs)) pieces i [] lt
+    (subst P (sym (flat_map-append (λ piece. piece) (take i pieces) (slice_index_or pieces i [] ∷ []) ∙ ap (λ xs. quads_in_pieces (take i pieces) ++ xs) (append-nil (slice_index_or pieces i [])))) h)

@@ -7,15 +7,16 @@ ghost use Rattle.datasets.specs.declared.quad.Quad.{Quad};
 ghost use Rattle.datasets.specs.Dataset.{IsDataset};
 ghost use Rattle.dict.specs.Dictionary.{term_of, is_known};
 ghost use Rattle.quad_lists.specs.Part.{quads_of_part};
+ghost use Rattle.quad_sets.specs.Pieces.{quads_in_pieces};
 ghost use Rattle.terms.specs.declared.term.Term.{Term as OneTerm};
 ghost use Rattle.terms.specs.Term.{term_order};
 ghost use Rattle.terms.specs.Placed.{term_at, quad_at, is_within, is_name_within, is_quad_within, GoesOn};
 ghost use Rattle.meaning_laws.specs.Renaming.{renamed, renamed_quad, dataset_known, quad_known, option_known};
-ghost use Rattle.numbering.specs.Tables.{StandFor, NamesStandFor, places_of};
+ghost use Rattle.numbering.specs.Tables.{StandFor, StandsForMore, NamesStandFor, places_of};
 
 use datasets::Quad;
 use dict::{Dict, Id};
-use quad_lists::{KnownQuad, Part};
+use quad_lists::{KnownQuad, Part, QuadList};
 use reads::CompactView;
 use std::alloc::{AllocError, Global};
 use terms::laws::terms_keep_places;
@@ -97,23 +98,22 @@ fn push_quad(
     Ok(())
 }
 
-/// The places of the terms of quads, one after another.
-fn place_each(
-    alloc: Global,
+/// Adds the places of the terms of quads, one after another.
+fn push_each(
     table: &mut TermTable,
+    list: &mut Vec<Quad<u32>>,
     quads: &[Quad<Id>],
-) -> Result<Vec<Quad<u32>>, AllocError>
+) -> Result<(), AllocError>
     requires { list_all (quad_known (is_known table.old)) quads.now ≡ true }
-    ensures kept { IfOk result (λ list. GoesOn table.old table.new) }
-    ensures stands { IfOk result (λ list. StandFor table.old table.new list.items quads.now) }
+    ensures kept { OnOk result (GoesOn table.old table.new) }
+    ensures stands { OnOk result
+        (StandsForMore table.old list.old.items table.new list.new.items quads.now) }
 {
     terms_keep_places();
-    let mut list = Vec::new(alloc);
-    list.reserve(quads.len())?;
     for quad in quads {
-        push_quad(table, &mut list, quad)?;
+        push_quad(table, list, quad)?;
     }
-    Ok(list)
+    Ok(())
 }
 
 /// The places of the terms of a quad of known terms: their numbers.
@@ -128,32 +128,59 @@ fn place_known(quad: &KnownQuad) -> Quad<u32>
     }
 }
 
-fn place_each_known(alloc: Global, quads: &[KnownQuad]) -> Result<Vec<Quad<u32>>, AllocError>
-    ensures { IfOk result (λ list. list.items ≡ map places_of quads.now) }
+fn push_known(list: &mut Vec<Quad<u32>>, quads: &[KnownQuad]) -> Result<(), AllocError>
+    ensures { OnOk result (list.new.items ≡ list.old.items ++ map places_of quads.now) }
 {
-    let mut list = Vec::new(alloc);
-    list.reserve(quads.len())?;
     for quad in quads {
         list.push(place_known(quad))?;
+    }
+    Ok(())
+}
+
+/// Adds the places of quads' terms. No term is looked at where all are known.
+fn push_quads(
+    table: &mut TermTable,
+    list: &mut Vec<Quad<u32>>,
+    quads: Part<'_>,
+) -> Result<(), AllocError>
+    requires { list_all (quad_known (is_known table.old)) (quads_of_part quads) ≡ true }
+    ensures kept { OnOk result (GoesOn table.old table.new) }
+    ensures stands { OnOk result (StandsForMore table.old list.old.items table.new list.new.items
+        (quads_of_part quads.entry)) }
+{
+    terms_keep_places();
+    match quads {
+        Part::Narrow(known) => push_known(list, known),
+        Part::Wide(quads) => push_each(table, list, quads),
+    }
+}
+
+/// The places of the terms of quads that lie in pieces, one behind another.
+fn place_quads(
+    alloc: Global,
+    table: &mut TermTable,
+    pieces: &[QuadList],
+) -> Result<Vec<Quad<u32>>, AllocError>
+    requires { list_all (quad_known (is_known table.old)) (quads_in_pieces pieces.now) ≡ true }
+    ensures kept { IfOk result (λ list. GoesOn table.old table.new) }
+    ensures stands { IfOk result (λ list. StandFor table.old table.new list.items
+        (quads_in_pieces pieces.now)) }
+{
+    terms_keep_places();
+    let mut list = Vec::new(alloc);
+    list.reserve(quads_of(pieces))?;
+    for piece in pieces {
+        push_quads(table, &mut list, piece.lent())?;
     }
     Ok(list)
 }
 
-/// The places of quads' terms. No term is looked at where all are known.
-fn place_quads(
-    alloc: Global,
-    table: &mut TermTable,
-    quads: Part<'_>,
-) -> Result<Vec<Quad<u32>>, AllocError>
-    requires { list_all (quad_known (is_known table.old)) (quads_of_part quads) ≡ true }
-    ensures kept { IfOk result (λ list. GoesOn table.old table.new) }
-    ensures stands { IfOk result (λ list. StandFor table.old table.new list.items
-        (quads_of_part quads.entry)) }
-{
-    match quads {
-        Part::Narrow(known) => place_each_known(alloc, known),
-        Part::Wide(quads) => place_each(alloc, table, quads),
-    }
+/// How many quads lie in pieces.
+fn quads_of(pieces: &[QuadList]) -> usize {
+    pieces
+        .iter()
+        .map(|piece| piece.len())
+        .fold(0usize, |sum, len| sum.saturating_add(len))
 }
 
 /// Adds the place of a name.
@@ -195,8 +222,7 @@ pub fn named(alloc: Global, terms: Dict, view: CompactView) -> Result<DataSet, A
     terms_keep_places();
     let mut table = TermTable::from_list(terms.into_terms());
     let (quads, names) = view.into_parts();
-    let list = quads.into_list();
-    let quads = place_quads(alloc, &mut table, list.lent())?;
+    let quads = place_quads(alloc, &mut table, quads.as_slice())?;
     let names = place_names(alloc, &mut table, names.as_slice())?;
     Ok(DataSet::from_parts(table, quads, names))
 }

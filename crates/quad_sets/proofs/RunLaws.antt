@@ -30,17 +30,17 @@ nil_not_cons x xs e = absurd cc
 pub first_same : {A : Type 0} (x y : A) (xs ys : List A) → x ∷ xs ≡ y ∷ ys → x ≡ y
 first_same x y xs ys e = cc
 
-all_taken : {A : Type 0} (P : A → Type 0) (n : ℕ) (xs : List A) → ((k : ℕ) (d : A) → k < n → P (get_or xs k d)) → n ≤ length xs → AllByRecursion P (take n xs)
+pub all_taken : {A : Type 0} (P : A → Type 0) (n : ℕ) (xs : List A) → ((k : ℕ) (d : A) → k < n → P (get_or xs k d)) → n ≤ length xs → AllByRecursion P (take n xs)
 all_taken P zero xs each within = tt
 all_taken P (suc n) [] each within = absurd (omega (arith, within))
 all_taken P (suc n) (x ∷ xs) each within = (each 0 x (omega arith), all_taken P n xs (λ k d h. each (suc k) d (omega (arith, h))) (omega (arith, within)))
 
 module _ {A : Type 0} (R : A → A → Ordering) where
-  sorted_behind : (xs ys : List A) → IsStrictlySortedBy R (xs ++ ys) → IsStrictlySortedBy R ys
+  pub sorted_behind : (xs ys : List A) → IsStrictlySortedBy R (xs ++ ys) → IsStrictlySortedBy R ys
   sorted_behind [] ys s = s
   sorted_behind (x ∷ xs) ys s = sorted_behind xs ys (sorted_tail R x (xs ++ ys) s)
 
-  sorted_front : (xs ys : List A) → IsStrictlySortedBy R (xs ++ ys) → IsStrictlySortedBy R xs
+  pub sorted_front : (xs ys : List A) → IsStrictlySortedBy R (xs ++ ys) → IsStrictlySortedBy R xs
   sorted_front [] ys s = sorted-empty R
   sorted_front (x ∷ xs) ys s = sorted-cons R x xs (all_front (λ y. R x y ≡ Less) xs ys (sorted_head R x (xs ++ ys) s)) (sorted_front xs ys (sorted_tail R x (xs ++ ys) s))
 
@@ -73,7 +73,7 @@ module _ {A : Type 0} {R : A → A → Ordering} (o : IsTotalOrder R) where
   covers_above : (v : A) (others : List A) → AllByRecursion (λ y. R v y ≡ Less) others → Covers v others
   covers_above v others greater x e = below_all x v others e greater
 
-  covers_least : (v : A) (others : List A) → AllByRecursion (λ y. R y v ≢ Less) others → Covers v others
+  pub covers_least : (v : A) (others : List A) → AllByRecursion (λ y. R y v ≢ Less) others → Covers v others
   covers_least v others least x e = all_weaker (λ y. R y v ≢ Less) (λ y. R x y ≡ Less) (λ y h. below_least x y v (R y v) refl e h) others least
 
   -- ---- without one more
@@ -106,7 +106,7 @@ module _ {A : Type 0} {R : A → A → Ordering} (o : IsTotalOrder R) where
   is_greater v x Equal e less same = absurd (same refl)
   is_greater v x Greater e less same = o.antisymm v x ∙ ap ordering_reverse e
 
-  dropped_is : (count : ℕ) (set : List A) (x : A) (xs : List A) → drop count set ≡ x ∷ xs → (count < length set) × ((d : A) → get_or set count d ≡ x)
+  pub dropped_is : (count : ℕ) (set : List A) (x : A) (xs : List A) → drop count set ≡ x ∷ xs → (count < length set) × ((d : A) → get_or set count d ≡ x)
   dropped_is count [] x xs e = absurd (nil_not_cons x xs (sym (drop_nil count) ∙ e))
   dropped_is zero (y ∷ ys) x xs e = (let h : length (y ∷ ys) ≡ length ys + 1 = omega arith in omega arith, λ d. first_same y x ys xs e)
   dropped_is (suc count) (y ∷ ys) x xs e = let r = dropped_is count ys x xs e in (let h : length (y ∷ ys) ≡ length ys + 1 = omega arith in let k : count < length ys = r.0 in omega arith, λ d. r.1 d)

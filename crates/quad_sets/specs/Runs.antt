@@ -20,6 +20,12 @@ module _ {A : Type 0} (R : A → A → Ordering) where
     pub same : AllByRecursion (λ x. R x v ≡ Equal) middle
     pub greater : AllByRecursion (λ x. R v x ≡ Less) above
 
+  -- the members below the value, and the others
+  pub record IsCut (set : List A) (v : A) (below others : List A) : Type 0 where
+    pub whole : set ≡ below ++ others
+    pub less : AllByRecursion (λ x. R x v ≡ Less) below
+    pub rest : AllByRecursion (λ x. R x v ≢ Less) others
+
   -- of what goes and what comes, the value is the least, and comes if it is of what comes; these go and come after it
   abbrev pub IsFirstChange : List A → List A → A → Bool → List A → List A → Type 0
   IsFirstChange gone more v false gone' more' = (gone ≡ v ∷ gone') × (more ≡ more') × AllByRecursion (λ x. R v x ≡ Less) more

@@ -8,6 +8,7 @@
 pub mod lists;
 mod narrow;
 mod near;
+mod pieces;
 mod quad_set;
 mod quad_slice;
 mod runs;

@@ -5,9 +5,11 @@ ghost use Rattle.sets.specs.Sets.{set_of as the_set_of, union, without};
 ghost use Rattle.datasets.specs.Id.{id_order};
 ghost use Rattle.datasets.specs.Dataset.{quad_order};
 ghost use Rattle.quad_lists.specs.QuadList.{quads_in};
+ghost use Rattle.quad_sets.specs.Pieces.{quads_in_pieces};
 
 use crate::lists::merged;
 use crate::narrow::{known_changed, known_changed_in_runs};
+use crate::pieces::{as_piece, changed_in_pieces};
 use crate::quad_slice::QuadSlice;
 use datasets::{Id, Quad};
 use quad_index::Index;
@@ -15,6 +17,7 @@ use quad_lists::{Entries, Part, QuadList, known_quads, known_set, widened_quads}
 use sets::set_of;
 use std::alloc::{AllocError, Global};
 use std::marker::Model;
+use std::thread::Threads;
 
 /// A set of quads, a quarter as long where all are of known terms. Contracts see its list, by subject, predicate, object and graph.
 #[derive(Drop)]
@@ -40,6 +43,9 @@ impl Model for QuadSet {
 
 /// A set of fewer members is sorted with what comes.
 const MANY: usize = 32;
+
+/// Changes of a set of fewer members are made by one thread.
+const WORTH_THREADS: usize = 16384;
 
 // The same items, with room for more behind them.
 fn with_room<T: Copy>(alloc: Global, items: &[T], more: usize) -> Result<Vec<T>, AllocError>
@@ -218,6 +224,31 @@ impl QuadSet {
         }
         let list = listed_with_room(alloc, quads, more.len())?;
         QuadSet::of_changed(alloc, list, gone, more)
+    }
+
+    /// The same set as that which is `changed`, as pieces that stand one behind another. Of many quads of known terms so many threads make one each.
+    pub fn changed_in_pieces<T: Threads + Sync>(
+        rt: &T,
+        alloc: Global,
+        quads: &QuadSlice<'_>,
+        gone: &QuadSlice<'_>,
+        more: &QuadSlice<'_>,
+        threads: usize,
+    ) -> Result<Vec<QuadList>, AllocError>
+        ensures { IfOk result (λ pieces. quads_in_pieces pieces.items
+            ≡ union (quad_order id_order)
+            (without (quad_order id_order) quads.now gone.now) more.now) }
+    {
+        match (quads.entries(), gone.entries(), more.entries()) {
+            (Part::Narrow(known), Part::Narrow(going), Part::Narrow(coming))
+                if WORTH_THREADS <= known.len() => {
+                changed_in_pieces(rt, alloc, known, going, coming, threads)
+            }
+            _ => {
+                let set = QuadSet::changed(alloc, quads, gone, more)?;
+                as_piece(alloc, set.into_list())
+            }
+        }
     }
 
     /// The quads of either set.

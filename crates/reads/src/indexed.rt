@@ -125,7 +125,7 @@ impl IndexedView {
         self.rises();
         let quads = QuadSet::of_index(alloc, &self.quads)?;
         let names = copied_names(alloc, self.names())?;
-        Ok(CompactView::from_sets(quads, names))
+        CompactView::from_sets(alloc, quads, names)
     }
 
     /// Its quads and its names are sets.

@@ -66,9 +66,13 @@ fn compact_copy(alloc: Global, numbered: &Numbered) -> Result<CompactView, Alloc
 
 /// Whether the dataset is the same in little room as a copy of it.
 fn is_compacted(alloc: Global, numbered: &Numbered) -> Result<bool, AllocError> {
-    let compact = compact_copy(alloc, numbered)?;
-    let same = numbered.base.dataset().compact(alloc)?;
-    Ok(compact.quads().is_same(&same.quads()) && compact.names() == same.names())
+    let (quads, names) = compact_copy(alloc, numbered)?.into_parts();
+    let (others, same_names) = numbered.base.dataset().compact(alloc)?.into_parts();
+    let are_same = match (quads.as_slice(), others.as_slice()) {
+        ([quads], [others]) => quads.is_same(others),
+        _ => false,
+    };
+    Ok(are_same && names == same_names)
 }
 
 fn base(alloc: Global) -> Result<DataSet, BaseFault> {

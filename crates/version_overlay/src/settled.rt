@@ -159,7 +159,7 @@ impl Settled {
         joined.apply_indexed(alloc, dataset)
     }
 
-    /// The same, where so many threads make the changes one.
+    /// The same, where so many threads make the changes one, and lay them over the dataset.
     pub fn into_applied_by<T: Threads + Sync>(
         self,
         rt: &T,
@@ -176,7 +176,7 @@ impl Settled {
         let change = all_joined_by(rt, alloc, self.levels.as_slice(), threads);
         drop(self);
         let joined = change?;
-        joined.apply_indexed(alloc, dataset)
+        joined.apply_indexed_by(rt, alloc, dataset, threads as usize)
     }
 }
 
