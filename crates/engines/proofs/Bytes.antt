@@ -43,33 +43,22 @@ appended (Some us) None c x y p q = absurd p
 appended (Some us) (Some bs) None x y p q = q
 appended (Some us) (Some bs) (Some cs) x y p q = q ∙ ap (λ (t : List ℕ). t ++ y) p ∙ append_assoc us x y
 
-module _ (pieces : List (Vec ℕ)) (i : ℕ) (piece : Vec ℕ) (lt : i < length pieces) (is : piece ≡ get_or pieces i piece) where
-  -- the pieces before it, it, and those behind it
-  split : text_of_pieces pieces ≡ text_of_pieces (take i pieces) ++ (piece.items ++ text_of_pieces (drop (i + 1) pieces))
-  split =
-      ap text_of_pieces (sym (take-append-drop i pieces) ∙ ap (λ (ps : List (Vec ℕ)). take i pieces ++ ps) (drop_more pieces i piece lt ∙ ap (λ (p : Vec ℕ). p ∷ drop (i + 1) pieces) (sym is)))
-      ∙ flat_map-append (λ (p : Vec ℕ). p.items) (take i pieces) (piece ∷ drop (i + 1) pieces)
+module _ (whole done : List ℕ) (piece : Vec ℕ) (pieces rest : List (Vec ℕ)) (left : whole ≡ done ++ text_of_pieces pieces) (next : pieces ≡ piece ∷ rest) where
+  -- the text behind one piece more
+  pub left_behind : whole ≡ (done ++ piece.items) ++ text_of_pieces rest
+  left_behind = left ∙ ap (λ (ps : List (Vec ℕ)). done ++ text_of_pieces ps) next ∙ sym (append_assoc done piece.items (text_of_pieces rest))
 
-  more : text_of_pieces (take (i + 1) pieces) ≡ text_of_pieces (take i pieces) ++ piece.items
-  more =
-      ap text_of_pieces (take_more pieces i piece lt ∙ ap (λ (p : Vec ℕ). take i pieces ++ p ∷ []) (sym is))
-      ∙ flat_map-append (λ (p : Vec ℕ). p.items) (take i pieces) (piece ∷ []) ∙ ap (λ (t : List ℕ). text_of_pieces (take i pieces) ++ t) (append-nil piece.items)
-
-  pub one_more : (a b c : Option (List ℕ)) → Appends a b (text_of_pieces (take i pieces)) → Appends b c piece.items → Appends a c (text_of_pieces (take (i + 1) pieces))
-  one_more a b c p q = subst (Appends a c) (sym more) (appended a b c (text_of_pieces (take i pieces)) piece.items p q)
+  pub one_more : (a b c : Option (List ℕ)) → Appends a b done → Appends b c piece.items → Appends a c (done ++ piece.items)
+  one_more a b c p q = appended a b c done piece.items p q
 
   -- where a beginning of it was written, a beginning of the whole was
-  pub part_of_one : (a b c : Option (List ℕ)) (n : ℕ) → Appends a b (text_of_pieces (take i pieces)) → Appends b c (take n piece.items)
-      → GrewInPart (record { before = a; after = c }) (text_of_pieces pieces)
+  pub part_of_one : (a b c : Option (List ℕ)) (n : ℕ) → Appends a b done → Appends b c (take n piece.items) → GrewInPart (record { before = a; after = c }) whole
   part_of_one a b c n p q =
-      let front = text_of_pieces (take i pieces) in
-      let behind = text_of_pieces (drop (i + 1) pieces) in
-      let written = front ++ take n piece.items in
-      let whole : text_of_pieces pieces ≡ written ++ (drop n piece.items ++ behind) =
-      split ∙ ap (λ (t : List ℕ). front ++ (t ++ behind)) (sym (take-append-drop n piece.items))
-      ∙ ap (λ (t : List ℕ). front ++ t) (append_assoc (take n piece.items) (drop n piece.items) behind)
-      ∙ sym (append_assoc front (take n piece.items) (drop n piece.items ++ behind)) in
-      (length written, subst (Appends a c) (sym (take-append_seam written (drop n piece.items ++ behind)) ∙ ap (take (length written)) (sym whole)) (appended a b c front (take n piece.items) p q))
-
-pub all_of_them : (pieces : List (Vec ℕ)) (i : ℕ) (a b : Option (List ℕ)) → take i pieces ≡ pieces → Appends a b (text_of_pieces (take i pieces)) → Appends a b (text_of_pieces pieces)
-all_of_them pieces i a b e p = subst (λ (ps : List (Vec ℕ)). Appends a b (text_of_pieces ps)) e p
+      let behind = text_of_pieces rest in
+      let written = done ++ take n piece.items in
+      let parted : whole ≡ written ++ (drop n piece.items ++ behind) =
+      left_behind
+      ∙ ap (λ (t : List ℕ). (done ++ t) ++ behind) (sym (take-append-drop n piece.items))
+      ∙ ap (λ (t : List ℕ). t ++ behind) (sym (append_assoc done (take n piece.items) (drop n piece.items)))
+      ∙ append_assoc written (drop n piece.items) behind in
+      (length written, subst (Appends a c) (sym (take-append_seam written (drop n piece.items ++ behind)) ∙ ap (take (length written)) (sym parted)) (appended a b c done (take n piece.items) p q))

@@ -1,6 +1,6 @@
 -- Places of numbers.
 use Rattle.std.specs.Prelude.{map, slice_index_or}
-use Rattle.std.proofs.Common.{◌≡◌, ℕ, zero, suc, Bool, ◌<◌, true, List, [], ◌∷◌, ◌++◌, length, Option, Some, None, refl, sym, ap, ◌∙◌, subst, ◌+◌, take, add-one, append_assoc}
+use Rattle.std.proofs.Common.{◌≡◌, ℕ, zero, suc, Bool, ◌<◌, true, List, [], ◌∷◌, ◌++◌, length, Option, Some, None, refl, sym, ap, ◌∙◌, subst, ◌+◌, take, add-one, append_assoc, arith}
 use Rattle.std.specs.List.{list_all}
 use Rattle.std.specs.Option.{option_map}
 use Rattle.std.proofs.lemmas.Bool.{and_parts, and_from}
@@ -224,17 +224,17 @@ both_pass : (p : Quad Id → Bool) (xs ys : List (Quad Id)) → list_all p (xs +
 both_pass p xs ys h = and_parts (list_all p xs) (list_all p ys) (sym (list_all-append p xs ys) ∙ h)
 
 -- those of one of the pieces
-pub piece_passes : (p : Quad Id → Bool) (pieces : List (List (Quad Id))) (i : ℕ) → list_all p (quads_in_pieces pieces) ≡ true → list_all p (slice_index_or pieces i []) ≡ true
-piece_passes p [] i h = refl
-piece_passes p (x ∷ xs) zero h = (both_pass p x (quads_in_pieces xs) h).0
-piece_passes p (x ∷ xs) (suc i) h = piece_passes p xs i (both_pass p x (quads_in_pieces xs) h).1
+pub piece_passes : (p : Quad Id → Bool) (pieces : List (List (Quad Id))) (i : ℕ) (d : List (Quad Id)) → i < length pieces → list_all p (quads_in_pieces pieces) ≡ true → list_all p (slice_index_or pieces i d) ≡ true
+piece_passes p [] i d lt h = absurd (omega (arith, lt))
+piece_passes p (x ∷ xs) zero d lt h = (both_pass p x (quads_in_pieces xs) h).0
+piece_passes p (x ∷ xs) (suc i) d lt h = piece_passes p xs i d (omega (arith, lt)) (both_pass p x (quads_in_pieces xs) h).1
 
-pub piece_known : (keep : TermsKeepPlaces) (old new : List Term) → GoesOn old new → (pieces : List (List (Quad Id))) (i : ℕ)
-    → list_all (quad_known (is_known old)) (quads_in_pieces pieces) ≡ true → list_all (quad_known (is_known new)) (slice_index_or pieces i []) ≡ true
-piece_known keep old new on pieces i h = known_kept_all keep old new on (slice_index_or pieces i []) (piece_passes (quad_known (is_known old)) pieces i h)
+pub piece_known : (keep : TermsKeepPlaces) (old new : List Term) → GoesOn old new → (pieces : List (List (Quad Id))) (i : ℕ) (d : List (Quad Id)) → i < length pieces
+    → list_all (quad_known (is_known old)) (quads_in_pieces pieces) ≡ true → list_all (quad_known (is_known new)) (slice_index_or pieces i d) ≡ true
+piece_known keep old new on pieces i d lt h = known_kept_all keep old new on (slice_index_or pieces i d) (piece_passes (quad_known (is_known old)) pieces i d lt h)
 
 -- one piece more
-pub pieces_next : (P : List (Quad Id) → Type 0) (pieces : List (List (Quad Id))) (i : ℕ) → i < length pieces → P (quads_in_pieces (take i pieces) ++ slice_index_or pieces i []) → P (quads_in_pieces (take (i + 1) pieces))
-pieces_next P pieces i lt h =
-    loop_next (λ xs. P (quads_in_pieces xs)) pieces i [] lt
-    (subst P (sym (flat_map-append (λ piece. piece) (take i pieces) (slice_index_or pieces i [] ∷ []) ∙ ap (λ xs. quads_in_pieces (take i pieces) ++ xs) (append-nil (slice_index_or pieces i [])))) h)
+pub pieces_next : (P : List (Quad Id) → Type 0) (pieces : List (List (Quad Id))) (i : ℕ) (d : List (Quad Id)) → i < length pieces → P (quads_in_pieces (take i pieces) ++ slice_index_or pieces i d) → P (quads_in_pieces (take (i + 1) pieces))
+pieces_next P pieces i d lt h =
+    loop_next (λ xs. P (quads_in_pieces xs)) pieces i d lt
+    (subst P (sym (flat_map-append (λ piece. piece) (take i pieces) (slice_index_or pieces i d ∷ []) ∙ ap (λ xs. quads_in_pieces (take i pieces) ++ xs) (append-nil (slice_index_or pieces i d)))) h)

@@ -1,5 +1,5 @@
-use Rattle.std.proofs.Common.{◌++◌, ◌∷◌, [], take, slice_index_or, ap, sym, subst, append_assoc}
-use Rattle.std.proofs.lemmas.List.{append-nil}
+use Rattle.std.proofs.Common.{◌++◌, ◌∷◌, [], take, slice_index_or, subst, append_assoc}
+use Rattle.std.proofs.lemmas.List.{take_all}
 use Rattle.std.proofs.lemmas.List.Sums.{AllPass-from_list_all}
 use Rattle.dict.specs.Dictionary.{is_known}
 use Rattle.meaning_laws.specs.Renaming.{quad_known}
@@ -24,3 +24,7 @@ loop-quad-preserved c =
           loop_next (λ qs. StandFor terms c.push_quad.new.table c.push_quad.new.list.items (done ++ qs)) quads i no_quad c.loop-quad-test.true
           (subst (StandFor terms c.push_quad.new.table c.push_quad.new.list.items) (append_assoc done (take i quads) (slice_index_or quads i no_quad ∷ [])) more);
     }
+
+pub returns-clause-stands : goal.returns-clause-stands
+returns-clause-stands c = λ terms done on known s.
+    subst (λ qs. StandFor terms c.loop-quad.table c.loop-quad.list.items (done ++ qs)) (take_all c.loop-quad.quad-index c.args.quads.now c.loop-quad-test.false) (c.loop-quad.invariant.stands terms done on known s)
