@@ -2,13 +2,15 @@
 ghost use Rattle.std.specs.Prelude.{IsTrue};
 ghost use Rattle.update.specs.Asked.{AreShort, IsShort};
 
-use crate::numbers::{has_quads, numbered, numbered_by};
+use crate::numbers::{count_quads, has_quads, numbered, numbered_by};
 use datasets::Id;
 use delta::Outcome;
 use meaning::{Refusal, Reply, Request};
 use numbering::Numbered;
+use pool::{Open, run_block};
 use serial::run;
 use std::alloc::{AllocError, Global};
+use std::sync::Wait;
 use std::test::Fail;
 use std::thread::Threads;
 
@@ -162,7 +164,7 @@ fn is_joined(alloc: Global, numbered: &Numbered) -> Result<bool, AllocError> {
         return Ok(false);
     };
     let replies = outcome.replies.as_slice();
-    Ok(replies.len() == 209 && are_as_told(replies) && outcome.dataset.quads().len() == 16)
+    Ok(replies.len() == 209 && are_as_told(replies) && count_quads(&outcome.dataset) == 16)
 }
 
 // The rounds at their numbers.
@@ -192,5 +194,53 @@ fn changes_numbered_by_threads_are_joined(rt: HostRuntime) -> Result<(), Fail> {
     let is_joined = is_joined(rt.alloc(), &numbered);
     drop(numbered);
     assert!(rt; is_joined?);
+    Ok(())
+}
+
+// A number's last four digits to the base of four.
+fn push_number(text: &mut String, number: usize) -> Result<(), AllocError> {
+    for part in [number / 64, number / 16, number / 4, number] {
+        text.push_str(DIGITS[part % 4])?;
+    }
+    Ok(())
+}
+
+// 100 requests, each of which puts in a quad of its own.
+fn apart(alloc: Global) -> Result<String, AllocError> {
+    let mut text = String::new(alloc);
+    for place in 0..100 {
+        text.push_str("INSERT DATA { <x:a> <x:p> ")?;
+        push_number(&mut text, place)?;
+        text.push_str(" }\n----\n")?;
+    }
+    Ok(text)
+}
+
+// Whether four workers put in each of 100 quads, whose changes are joined at the end by threads.
+fn are_put_in<R: Threads + Wait + Sync>(
+    rt: &R,
+    alloc: Global,
+    numbered: &Numbered,
+) -> Result<bool, AllocError> {
+    let block = numbered.block.as_slice();
+    if block.len() > 1000 || !are_short(block) {
+        return Ok(false);
+    }
+    let (terms, base) = (numbered.base.terms(), numbered.base.dataset());
+    let outcome = run_block(rt, alloc, terms, base, block, 4, &Open)?;
+    let added = outcome
+        .replies
+        .iter()
+        .filter(|reply| **reply == reply_at(0));
+    Ok(added.count() == 100 && count_quads(&outcome.dataset) == 100)
+}
+
+#[test]
+fn changes_apart_are_joined_by_threads(rt: HostRuntime) -> Result<(), Fail> {
+    let block = apart(rt.alloc())?;
+    let numbered = numbered(rt.alloc(), "", block.as_str())?;
+    let are_put_in = are_put_in(&rt, rt.alloc(), &numbered);
+    drop(numbered);
+    assert!(rt; are_put_in?);
     Ok(())
 }

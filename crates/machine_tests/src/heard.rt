@@ -2,7 +2,7 @@
 
 use crate::blocks::are_short;
 use crate::lines::{Line, line_of, line_of_kept};
-use crate::numbers::numbered;
+use crate::numbers::{count_quads, numbered};
 use block_machine::Entry;
 use book::Book;
 use numbering::Numbered;
@@ -49,7 +49,7 @@ fn has_all(book: &Book<'_>, lines: &[(u32, Line)]) -> bool {
 // Whether the outcome of a book is that of the block.
 fn is_outcome(alloc: Global, book: &Book<'_>) -> Result<bool, AllocError> {
     let outcome = book.outcome(alloc)?;
-    Ok(outcome.replies.len() == 64 && outcome.dataset.quads().len() == 2)
+    Ok(outcome.replies.len() == 64 && count_quads(&outcome.dataset) == 2)
 }
 
 // Whether four workers, watched by a gate, run the block so.

@@ -129,6 +129,15 @@ pub fn has_quads(
     Ok(text.as_slice() == quads.as_bytes())
 }
 
+/// How many quads a dataset has.
+pub fn count_quads(dataset: &CompactView) -> usize {
+    let mut count = 0usize;
+    for piece in dataset.quads() {
+        count = count.saturating_add(piece.len());
+    }
+    count
+}
+
 // Lines of so many quads in two graphs, from the last subject to the first.
 fn falling(alloc: Global, quads: u32) -> Result<Vec<u8>, AllocError> {
     let mut text = Vec::new(alloc);
