@@ -11,6 +11,7 @@ use quad_sets::{QuadSet, QuadSlice};
 use radix::{by_numbers, sample, set_by_numbers};
 use sets::set_of;
 use std::alloc::{AllocError, Global};
+use std::thread::Threads;
 
 /// Quads from one number on and before another, and whether every fifth of them is of a made node.
 type Row = (usize, usize, bool);
@@ -426,8 +427,8 @@ fn long_sets_are_changed(rt: HostRuntime) -> Result<(), AllocError> {
 }
 
 // What a change of a set of twenty thousand quads makes of it, in pieces.
-fn changed_pieces(
-    rt: &HostRuntime,
+fn changed_pieces<T: Threads + Sync>(
+    rt: &T,
     alloc: Global,
     threads: usize,
 ) -> Result<Vec<QuadList>, AllocError> {
@@ -441,8 +442,8 @@ fn changed_pieces(
 }
 
 // Whether the pieces that so many threads make are what plain vectors say, one behind another, and one for each thread.
-fn is_changed_in_pieces(
-    rt: &HostRuntime,
+fn is_changed_in_pieces<T: Threads + Sync>(
+    rt: &T,
     alloc: Global,
     threads: usize,
 ) -> Result<bool, AllocError> {

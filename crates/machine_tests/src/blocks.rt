@@ -228,10 +228,8 @@ fn are_put_in<R: Threads + Wait + Sync>(
     }
     let (terms, base) = (numbered.base.terms(), numbered.base.dataset());
     let outcome = run_block(rt, alloc, terms, base, block, 4, &Open)?;
-    let added = outcome
-        .replies
-        .iter()
-        .filter(|reply| **reply == reply_at(0));
+    let replies = outcome.replies.as_slice();
+    let added = replies.iter().filter(|reply| **reply == reply_at(0));
     Ok(added.count() == 100 && count_quads(&outcome.dataset) == 100)
 }
 

@@ -177,10 +177,11 @@ fn place_quads(
 
 /// How many quads lie in pieces.
 fn quads_of(pieces: &[QuadList]) -> usize {
-    pieces
-        .iter()
-        .map(|piece| piece.len())
-        .fold(0usize, |sum, len| sum.saturating_add(len))
+    let mut count = 0usize;
+    for piece in pieces {
+        count = count.saturating_add(piece.len());
+    }
+    count
 }
 
 /// Adds the place of a name.
