@@ -182,8 +182,10 @@ class Copy:
             return None, None
         what = BY_NAME if re.search(r"has no field|is not in scope|has no `", answer[2]) else BY_TYPE
         own = [it for edit in self.edits for it in edit.functions if is_proof_of(answer[1], it)]
-        # of several functions in a cycle of calls, whose proof is one, the name of the answer begins with that of the function
-        own = own if len(own) < 2 else [it for it in own if re.match(rf"`(\w+-)?{it.name}-", answer[2])]
+        if len(own) > 1:
+            # of several functions in a cycle of calls, whose proof is one, the name of the answer begins with that of the function; the folder of one that calls itself alone has its name
+            by_name = [it for it in own if re.match(rf"`(\w+-)?{it.name}-", answer[2])]
+            own = by_name or [it for it in own if answer[1].rpartition("/")[2] == f"+{it.name}"]
         return own[0] if len(own) == 1 else None, what
 
 
