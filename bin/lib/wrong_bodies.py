@@ -183,9 +183,10 @@ class Copy:
         what = BY_NAME if re.search(r"has no field|is not in scope|has no `", answer[2]) else BY_TYPE
         own = [it for edit in self.edits for it in edit.functions if is_proof_of(answer[1], it)]
         if len(own) > 1:
-            # of several functions in a cycle of calls, whose proof is one, the name of the answer begins with that of the function; the folder of one that calls itself alone has its name
+            # of several functions in a cycle of calls, whose proof is one, the name of the answer begins with that of the function, and the
+            # folder of one that calls itself alone has its name
             by_name = [it for it in own if re.match(rf"`(\w+-)?{it.name}-", answer[2])]
-            own = by_name or [it for it in own if answer[1].rpartition("/")[2] == f"+{it.name}"]
+            own = by_name or [it for it in own if answer[1].rpartition("/")[2] == f"+{it.name}" and not is_in_a_cycle(it, spans)]
         return own[0] if len(own) == 1 else None, what
 
 
@@ -201,6 +202,11 @@ def is_proof_of(folder, function):
     if not of_type:
         return folder == (f"{inside}/" if inside else "") + function.name
     return len(parts) > 1 and parts[-1] == function.name and parts[-2].startswith(of_type)
+
+
+def is_in_a_cycle(function, spans):
+    """Whether a function's attribute names a cycle of calls, which it is in with others: such a cycle may have the name of one of them."""
+    return any(token[3] == "cycle" for it in spans.get(function.file, []) if it.function == function for token in it.head)
 
 
 def is_worth_emptying(crate, edits):
