@@ -1,4 +1,5 @@
--- A code of patterns: the symbols of a pattern in order, each before its parts, from which the pattern is built again from the right.
+-- A code of patterns: the symbols of a pattern in order, each before its parts, from which the
+-- pattern is built again from the right.
 use Rattle.std.specs.Prelude.{ℕ, ◌≡◌, List, [], ◌∷◌, refl}
 use Rattle.std.proofs.Common.{ap, ◌∙◌}
 use Rattle.std.specs.Coded.{Coded, code_by}

@@ -33,8 +33,8 @@ pub enum TwoOperator {
     Contains,
 }
 
-/// A filter expression (SPARQL 1.1 Query, section 17). Variables have the numbers that they have in patterns. It is no deeper than the
-/// parentheses of its text, however long that is.
+/// A filter expression (SPARQL 1.1 Query, section 17). Variables have the numbers that they have in
+/// patterns. It is no deeper than the parentheses of its text, however long that is.
 #[derive(Drop)]
 pub enum Expression<T> {
     Constant(T),

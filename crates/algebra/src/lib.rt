@@ -1,7 +1,8 @@
-//! The algebra of updates: filter expressions, patterns, templates and operations, as requests are translated to them, for any kind of term.
+//! The algebra of updates: filter expressions, patterns, templates and operations, as requests are
+//! translated to them, for any kind of term.
 //!
-//! Stands on `sets`. An update is pure data in every contract: patterns and expressions refer to themselves, and contracts see them as the
-//! trees of `specs/`.
+//! Stands on `sets`. An update is pure data in every contract: patterns and expressions refer to
+//! themselves, and contracts see them as the trees of `specs/`.
 #![tactic(auto)]
 
 mod expression;

@@ -1,6 +1,7 @@
 //! Triple patterns.
 
-/// A place of a triple pattern: a term, or a variable by its number. Variables are numbered from 0 in the byte order of their names.
+/// A place of a triple pattern: a term, or a variable by its number. Variables are numbered from 0
+/// in the byte order of their names.
 #[derive(Clone, Copy, Drop)]
 pub enum Place<T> {
     Term(T),

@@ -16,11 +16,12 @@ pub enum Link<T> {
     Minus,
 }
 
-/// A graph pattern of the algebra (SPARQL 1.1 Query, 18.2 and 18.6). The filters of a list all have to hold. It is no deeper than the
-/// braces of its text, however long that is.
+/// A graph pattern of the algebra (SPARQL 1.1 Query, 18.2 and 18.6). The filters of a list all have
+/// to hold. It is no deeper than the braces of its text, however long that is.
 #[derive(Drop)]
 pub enum Plan<T> {
-    /// A basic graph pattern, asked of the active graph. With no triple pattern it is the empty group.
+    /// A basic graph pattern, asked of the active graph. With no triple pattern it is the empty
+    /// group.
     Basic(Items<TriplePattern<T>>),
     /// A group: from the empty group on each pattern in order, and then filters over the whole.
     Group(Vec<(Link<T>, Plan<T>)>, Vec<Expression<T>>),

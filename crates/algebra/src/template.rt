@@ -1,7 +1,7 @@
 //! Templates.
 
-/// A place of a template: a term, a variable by its number, or a blank node label by its number. Variables are numbered as in patterns,
-/// labels from 0 by first appearance in the operation.
+/// A place of a template: a term, a variable by its number, or a blank node label by its number.
+/// Variables are numbered as in patterns, labels from 0 by first appearance in the operation.
 #[derive(Clone, Copy, Drop)]
 pub enum Slot<T> {
     Term(T),

@@ -1,14 +1,11 @@
 //! Operations of a request (SPARQL 1.1 Update, section 3).
-ghost use Rattle.std.specs.Prelude.{◌≡◌, [], None};
-ghost use Rattle.algebra.specs.Plans.{nothing};
 
-use crate::plan::{Pattern, Plan};
+use crate::plan::Pattern;
 use crate::template::QuadTemplate;
 use sets::Items;
-use std::alloc::Global;
 
-/// DELETE and INSERT with their WHERE (SPARQL 1.1 Update, 3.1.3). INSERT DATA and DELETE DATA have the empty group as WHERE, and DELETE WHERE
-/// has its quads as pattern and template.
+/// DELETE and INSERT with their WHERE (SPARQL 1.1 Update, 3.1.3). INSERT DATA and DELETE DATA have
+/// the empty group as WHERE, and DELETE WHERE has its quads as pattern and template.
 #[derive(Drop)]
 pub struct Modify<T> {
     /// How many variables WHERE has. They are numbered from 0 in the byte order of their names.
@@ -58,41 +55,4 @@ pub enum Operation<T> {
         silent: bool,
         operation: GraphOperation<T>,
     },
-}
-
-// The pattern that is the empty group.
-fn nothing<T>(alloc: Global) -> Pattern<T>
-    ensures { result ≡ nothing }
-{
-    Pattern::new(Plan::Basic(Items::new(alloc)))
-}
-
-impl<T> Operation<T> {
-    /// INSERT DATA of these quads (SPARQL 1.1 Update, section 3.1.1). It takes no memory.
-    pub fn insert_data(alloc: Global, quads: Items<QuadTemplate<T>>) -> Operation<T>
-        ensures { result ≡ Operation.Modify (record
-            { width = 0; active = None; pattern = nothing; delete = []; insert = quads }) }
-    {
-        Operation::Modify(Modify {
-            width: 0,
-            active: None,
-            pattern: nothing(alloc),
-            delete: Items::new(alloc),
-            insert: quads,
-        })
-    }
-
-    /// DELETE DATA of these quads (SPARQL 1.1 Update, section 3.1.2). It takes no memory.
-    pub fn delete_data(alloc: Global, quads: Items<QuadTemplate<T>>) -> Operation<T>
-        ensures { result ≡ Operation.Modify (record
-            { width = 0; active = None; pattern = nothing; delete = quads; insert = [] }) }
-    {
-        Operation::Modify(Modify {
-            width: 0,
-            active: None,
-            pattern: nothing(alloc),
-            delete: quads,
-            insert: Items::new(alloc),
-        })
-    }
 }

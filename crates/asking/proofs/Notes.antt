@@ -56,7 +56,8 @@ module _ {S : Type 0} (asks : S → Read → Result Answer Stop → S → Type 0
   ends_at allowed left s s' (Err stop) near (inl e) = inl e
   ends_at allowed left s s' (Err stop) near (inr e) = inr (e.0, allowed_next allowed left near e.0 e.1, e.2)
 
-  -- Where each answer keeps a fact of the source, and brings one of the read and the answer, a run of them does.
+  -- Where each answer keeps a fact of the source, and brings one of the read and the answer, a run
+  -- of them does.
   pub asked_all : (Is : S → Type 0) (Tells : Read → Answer → Type 0)
       → ((s s' : S) (r : Read) (a : Answer) → Is s → asks s r (Ok a) s' → Is s' × Tells r a)
       → (ns : List Note) (s s' : S) → Is s → Asked asks s ns s' → Is s' × AllByRecursion (λ n. Tells n.read n.answer) ns
@@ -162,7 +163,8 @@ pub first_of : (notes : List Note) (n : Note) → n ≡ get_or notes 0 n → 1 �
 first_of [] n is some = absurd (omega (arith, some))
 first_of (m ∷ ms) n is some = λ i. sym is i ∷ sym (take_rest (m ∷ ms) 1) i
 
--- what was noted last, behind so many notes, is of the reads that were asked for, and agrees with what all notes agree with
+-- what was noted last, behind so many notes, is of the reads that were asked for, and agrees with
+-- what all notes agree with
 pub noted_behind : (reads : List Read) (notes notes' tail : List Note) (n : ℕ) (d : View) → AreNoted reads notes notes' → length notes ≡ n → tail ≡ drop n notes' → Agrees notes' d
     → (map (λ m. m.read) tail ≡ reads) × Agrees tail d
 noted_behind reads notes notes' tail n d noted e is a =

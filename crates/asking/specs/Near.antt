@@ -1,4 +1,5 @@
--- Which reads are near a request: a run that reads only these conflicts with another only where their quads meet.
+-- Which reads are near a request: a run that reads only these conflicts with another only where
+-- their quads meet.
 use Rattle.std.specs.Prelude.{Bool, true, false, ◌&&◌, ◌||◌, List, Option, Some, None, is_none}
 use Rattle.std.specs.List.{list_any}
 use Rattle.std.specs.Option.{option_map, option_cmp}
@@ -85,7 +86,8 @@ module _ {K : Type 0} (R : K → K → Ordering) where
   is_near_plan graph (Filter es a) p = is_near_plan graph a p
   is_near_plan graph (InGraph n a) p = is_near_plan (Some (slot_of n)) a p
 
-  -- a read for a pattern: of the names of graphs one that is written, or all where a graph variable is
+  -- a read for a pattern: of the names of graphs one that is written, or all where a graph variable
+  -- is
   abbrev pub is_for_plan : Option (Slot K) → Plan K → Read K → Bool
   is_for_plan graph plan (Scan p) = is_near_plan graph plan p
   is_for_plan graph plan (GraphIs g) = names_graph plan g
@@ -126,8 +128,9 @@ module _ {K : Type 0} (R : K → K → Ordering) where
   is_near_graphs (graphs.Clear t) read = is_near_target t read
   is_near_graphs (graphs.Transfer how from to) read = is_of_graph from read || is_of_graph to read
 
-  -- A scan has the written terms and the graph place of a quad or a triple pattern of the operation, or is of a graph that it names; the
-  -- name of a graph is written, or inserted into, or a variable stands there.
+  -- A scan has the written terms and the graph place of a quad or a triple pattern of the
+  -- operation, or is of a graph that it names; the name of a graph is written, or inserted into, or
+  -- a variable stands there.
   abbrev pub is_near : Operation K → Read K → Bool
   is_near (operation.Modify m) read =
       is_near_deleted m.delete read || (is_near_inserted m.insert read || is_for_plan (option_map slot.Term m.active) m.pattern read)

@@ -7,8 +7,8 @@ use datasets::{Id, Read};
 use reads::{Answered, Note, Source, Stop};
 use std::alloc::Global;
 
-/// What a source answers to a read, which is noted at the end. The room for the note is there before the source is asked, so that no
-/// answer is lost.
+/// What a source answers to a read, which is noted at the end. The room for the note is there
+/// before the source is asked, so that no answer is lost.
 pub fn ask<S: Source>(
     alloc: Global,
     read: Read<Id>,
@@ -28,8 +28,8 @@ pub fn ask<S: Source>(
     Ok(shared?)
 }
 
-/// What a source answers to each of the reads, which are asked for in order and noted at the end, one by one. So the last notes have the
-/// answers.
+/// What a source answers to each of the reads, which are asked for in order and noted at the end,
+/// one by one. So the last notes have the answers.
 #[tactic(auto, using(crate::proofs::Notes::all_noted))]
 pub fn ask_all<S: Source>(
     reads: &[Read<Id>],

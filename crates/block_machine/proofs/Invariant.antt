@@ -21,7 +21,8 @@ is_done (HasCommitted n) = true
 is_done (Ready n) = false
 is_done (Executing n by) = false
 
--- the first k notes have the answers of view(i), unless a lower request has changed after this moment
+-- the first k notes have the answers of view(i), unless a lower request has changed after this
+-- moment
 pub record Holds (base : View) (slots : List Slot) (i moment k : ℕ) (notes : List Noted) : Type 0 where
   pub known : Clear slots i moment → Known (view_at base slots i) k notes
 

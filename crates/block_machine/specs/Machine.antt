@@ -18,7 +18,8 @@ use Rattle.validate.specs.Below.{slot_at, view_at, blocker, touching}
 use Rattle.validate.specs.Verdicts.{NoteVerdict}
 use Rattle.slots.specs.Slots.{status_of}
 
--- The machine's state: a slot for each request, the clock, and the front, which is the number of commits.
+-- The machine's state: a slot for each request, the clock, and the front, which is the number of
+-- commits.
 pub record State : Type 0 where
   pub slots : List Slot
   pub clock : ℕ
@@ -59,7 +60,8 @@ NextNamesAnswer base s i =
     (pass : Pass) (note : Noted) → (slot_at s.slots i).pass ≡ Some pass → slice_get (slot_at s.slots i).notes pass.next ≡ Some note
     → NamesAnswer base s.slots i note
 
--- what a step needs of the state: room, a next note for each pass, and that its list names its answer
+-- what a step needs of the state: room, a next note for each pass, and that its list names its
+-- answer
 pub record IsReady (base : View) (s : State) : Type 0 where
   pub room : HasRoom s
   pub next : (i : ℕ) → HasNext s i
@@ -92,7 +94,8 @@ PublishReply notes (Some finished) NotYet = finished.transcript ≢ transcript_o
 PublishReply notes (Some finished) _ = ⊥
 PublishReply notes None reply = reply ≡ NotYet
 
--- one noted read: blocked as for a read; passed only if the answer is the same now; aborted only if the touching list differs
+-- one noted read: blocked as for a read; passed only if the answer is the same now; aborted only if
+-- the touching list differs
 abbrev pub NoteReply : View → List Slot → ℕ → Option Noted → Reply → Type 0
 NoteReply base slots i (Some note) (Blocked j) = blocker slots i note.read ≡ Some j
 NoteReply base slots i (Some note) Passed = (blocker slots i note.read ≡ None) × (note.answer ≡ says note.read (view_at base slots i))

@@ -14,7 +14,8 @@ can_go_on (Some (Executed n)) has_pass stamped = has_pass || not stamped
 can_go_on (Some (Committed n)) has_pass stamped = false
 can_go_on None has_pass stamped = false
 
--- Whether something can be done for a request but to commit it: it is ready, or it is executed, and a pass stands or no stamp that holds.
+-- Whether something can be done for a request but to commit it: it is ready, or it is executed, and
+-- a pass stands or no stamp that holds.
 abbrev pub has_work : List Slot → ℕ → Bool
 has_work slots i = can_go_on (status_of slots i) (is_some (slot_at slots i).pass) (is_stamped slots i (slot_at slots i).stamp)
 

@@ -10,7 +10,8 @@ ghost use Rattle.reads.specs.Reads.{View};
 
 use delta::laws::equal_deltas_are_one;
 
-/// After any lawful events of any workers, the front's view and replies are those of that many first requests, one after another.
+/// After any lawful events of any workers, the front's view and replies are those of that many
+/// first requests, one after another.
 pub fn front_is_serial()
     ensures { (m : Setting) (history : List Entry) → IsSetting m → IsHistory m history
         → FrontIsSerial m (state_of m history) }
@@ -18,7 +19,8 @@ pub fn front_is_serial()
     equal_deltas_are_one();
 }
 
-/// After any lawful events of any workers, each request has its slot, and no more are committed than there are.
+/// After any lawful events of any workers, each request has its slot, and no more are committed
+/// than there are.
 pub fn front_is_within()
     ensures slots { (m : Setting) (history : List Entry) → IsSetting m → IsHistory m history
         → length (state_of m history).slots ≡ m.size }
@@ -44,13 +46,15 @@ pub fn history_goes_on()
         ≡ after (state_of m history) entry.worker entry.event entry.reply) }
 {}
 
-/// After any lawful events of any workers, each standing pass's next note names its answer: if the touching list now is the noted one, then the answer now is the noted one.
+/// After any lawful events of any workers, each standing pass's next note names its answer: if the
+/// touching list now is the noted one, then the answer now is the noted one.
 pub fn names_after()
     ensures { (m : Setting) (history : List Entry) (i : ℕ) → IsSetting m → IsHistory m history
         → NextNamesAnswer m.base (state_of m history) i }
 {}
 
-/// Where a note's list names its answer, the verdict by the lists alone gives a reply that the machine may give.
+/// Where a note's list names its answer, the verdict by the lists alone gives a reply that the
+/// machine may give.
 pub fn lists_are_enough()
     ensures { (base : View) (slots : List Slot) (i : ℕ) (note : Noted) (verdict : Verdict)
         → NamesAnswer base slots i note → ListVerdict slots i note.read note.touching verdict

@@ -48,7 +48,8 @@ impl<'a> Model for Machine<'a> {
 }
 
 impl<'a> Machine<'a> {
-    /// The machine of a block of this many requests. The orders are those in which committed changes are kept beside SPOG.
+    /// The machine of a block of this many requests. The orders are those in which committed
+    /// changes are kept beside SPOG.
     pub fn new(
         alloc: Global,
         size: usize,
@@ -116,7 +117,8 @@ impl<'a> Machine<'a> {
         self.latest
     }
 
-    /// The least request for which something can be done but to commit it. It looks along one path of a tree, and not at each request.
+    /// The least request for which something can be done but to commit it. It looks along one path
+    /// of a tree, and not at each request.
     pub fn least_work(&self) -> Option<usize>
         ensures some { IfSome result (IsLeastWork self.now.slots) }
         ensures none { result ≡ None → (j : ℕ) → has_work self.now.slots j ≡ false }
@@ -132,7 +134,8 @@ impl<'a> Machine<'a> {
         self.slots.view(alloc, base, self.front)
     }
 
-    /// The same, where the machine is not needed any more. By several threads what it holds besides is let go beside the work.
+    /// The same, where the machine is not needed any more. By several threads what it holds besides
+    /// is let go beside the work.
     pub fn into_front_view<T: Threads + Sync>(
         self,
         rt: &T,
@@ -162,7 +165,8 @@ impl<'a> Machine<'a> {
         self.slots.replies(alloc, self.front)
     }
 
-    /// One event of a worker, with what its read says of the base. A check compares touching lists. It takes memory before it changes anything.
+    /// One event of a worker, with what its read says of the base. A check compares touching lists.
+    /// It takes memory before it changes anything.
     pub fn step(
         &mut self,
         alloc: Global,
@@ -208,7 +212,8 @@ impl<'a> Machine<'a> {
         }
     }
 
-    /// Leaves a request that the worker executes: its next incarnation is ready, and its delta stays.
+    /// Leaves a request that the worker executes: its next incarnation is ready, and its delta
+    /// stays.
     fn give_up(&mut self, worker: u32, i: usize, n: u64) -> Reply
         requires { status_of self.old.slots i ≡ Some (Status.Executing n worker) → n + 1 < 2 ^ 64 }
         ensures plain { IsPlain result }
@@ -325,8 +330,8 @@ impl<'a> Machine<'a> {
         Reply::Begun
     }
 
-    /// A check whose reply is chosen: where both `Passed` and `Aborted` are lawful it is the one that `passed` says. It takes memory before it
-    /// changes anything.
+    /// A check whose reply is chosen: where both `Passed` and `Aborted` are lawful it is the one
+    /// that `passed` says. It takes memory before it changes anything.
     pub fn check_as(
         &mut self,
         alloc: Global,
@@ -349,8 +354,9 @@ impl<'a> Machine<'a> {
         self.check(alloc, base, worker, i, n, passed)
     }
 
-    /// Checks the next note, unless an estimate blocks. If `passed` is wanted it compares the noted answer with what it would be now: `Passed`
-    /// where it is the same, and `Aborted` where it is another. Else it compares the touching lists. An `Err` is want of memory, and nothing else.
+    /// Checks the next note, unless an estimate blocks. If `passed` is wanted it compares the noted
+    /// answer with what it would be now: `Passed` where it is the same, and `Aborted` where it is
+    /// another. Else it compares the touching lists. An `Err` is want of memory, and nothing else.
     fn check(
         &mut self,
         alloc: Global,
@@ -408,7 +414,8 @@ impl<'a> Machine<'a> {
         }
     }
 
-    // What the check of the next note of the pass that stands finds: by answers if `passed` is wanted, and else by touching lists.
+    // What the check of the next note of the pass that stands finds: by answers if `passed` is
+    // wanted, and else by touching lists.
     fn next_verdict(
         &self,
         alloc: Global,
@@ -439,7 +446,8 @@ impl<'a> Machine<'a> {
         }
     }
 
-    /// Commits the request at the front, where it is executed and stamped and no lower request has changed since.
+    /// Commits the request at the front, where it is executed and stamped and no lower request has
+    /// changed since.
     fn commit(&mut self, worker: u32, i: usize) -> Reply
         ensures plain { IsPlain result }
         ensures allowed { (base : Base) → IsAllowed base self.old worker (Event.Commit i) result }
@@ -485,7 +493,7 @@ fn settled_view<T: Threads + Sync>(
     requires committed { (j : ℕ) → j < front → closed (Some (slot_at slots j).status) ≡ true }
     ensures { IfOk result (λ view. view ≡ view_at base.now slots.entry front) }
 {
-    // What was committed last is settled too: where some is not, the dataset is widened.
+    // What was committed last is settled first, so that the dataset is that of the front.
     match slots.settle(alloc, front) {
         Ok(()) => slots.into_view(rt, alloc, base, front, threads),
         Err(error) => {

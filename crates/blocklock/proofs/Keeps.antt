@@ -121,7 +121,8 @@ module _ {T S E : Type 0} (worker_of : E → ℕ) (history : T → History S E) 
       let same : v ≡ out.1 = some-injective v out.1 (sym at ∙ (ap (get_elem? s.views) here ∙ out.2)) in
       (ap (λ (y : View S E). y.seen) same ∙ out.4, held, λ k u e h. out.5 k u e h ∙ sym here))
 
-  -- the book may be given back: it goes on from what the seat has seen by entries of the seat's workers
+  -- the book may be given back: it goes on from what the seat has seen by entries of the seat's
+  -- workers
   pub record MayGiveBook (v : View S E) (b : T) : Type 0 where
     pub holds : v.holds ≡ true
     pub told : v.told ≡ []

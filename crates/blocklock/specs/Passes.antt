@@ -7,7 +7,8 @@ use Rattle.blocklock.specs.declared.view.Told.{Told}
 use Rattle.blocklock.specs.History.{History, of_worker, BeginsWith, GoesOn}
 use Rattle.blocklock.specs.Rule.{first_view}
 
--- its lock's table, its worker, what the book is about, the journal that it has seen, and whether it holds the book
+-- its lock's table, its worker, what the book is about, the journal that it has seen, and whether
+-- it holds the book
 pub record PassView (S E : Type 0) : Type 0 where
   pub table : TableId
   pub worker : ℕ
@@ -48,7 +49,8 @@ module _ {S E : Type 0} (worker_of : E → ℕ) where
   abbrev pub mine_of : PassView S E → List E
   mine_of p = of_worker worker_of p.worker p.seen
 
-  -- the book is about the same, and its journal begins with all that the pass has seen and has no other entries of its worker
+  -- the book is about the same, and its journal begins with all that the pass has seen and has no
+  -- other entries of its worker
   pub record Includes (p : PassView S E) (book : History S E) : Type 0 where
     pub subject : book.subject ≡ p.subject
     pub begins : BeginsWith book.journal p.seen

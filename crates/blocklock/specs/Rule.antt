@@ -32,7 +32,8 @@ module _ {S E : Type 0} where
   spent any_subject = record { subject = any_subject; from = 0; until = 0; seen = []; holds = false; told = [] }
 
 module _ {S E : Type 0} (worker_of : E → ℕ) where
-  -- what a seat has seen begins with what another had seen, and has no other entries of that one's worker
+  -- what a seat has seen begins with what another had seen, and has no other entries of that one's
+  -- worker
   pub record Covers (subject : S) (seen : List E) (t : Told S E) : Type 0 where
     pub same_subject : t.subject ≡ subject
     pub begins : BeginsWith seen t.seen
@@ -42,7 +43,8 @@ module _ {S E : Type 0} (worker_of : E → ℕ) where
   AllCovered subject seen [] = Unit {0}
   AllCovered subject seen (t ∷ ts) = Covers subject seen t × AllCovered subject seen ts
 
-  -- the current journal begins with what a seat has seen, and has no other entries of the seat's workers
+  -- the current journal begins with what a seat has seen, and has no other entries of the seat's
+  -- workers
   pub record Follows (subject : S) (journal : List E) (v : View S E) : Type 0 where
     pub begins : BeginsWith journal v.seen
     pub own : (w : ℕ) → Owns v w → (v.subject ≡ subject) × (of_worker worker_of w journal ≡ of_worker worker_of w v.seen)
@@ -66,7 +68,8 @@ module _ {T S E : Type 0} (history : T → History S E) where
   gave st m found n = (b : T) → m.1 ≡ (0, Some b) ∷ rest m.1 → n ≡ (seeing m.0 (history b).journal false, rest m.1)
 
 module _ {T S E : Type 0} (worker_of : E → ℕ) (history : T → History S E) where
-  -- There is a current journal, which goes on from what every seat has seen. The book at home has it, or the seat that holds the book has seen it
+  -- There is a current journal, which goes on from what every seat has seen. The book at home has
+  -- it, or the seat that holds the book has seen it
   pub record Kept (subject : S) (s : State (Option T) (View S E)) : Type 0 where
     pub journal : List E
     pub words : length s.words ≡ 1

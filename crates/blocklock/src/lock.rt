@@ -115,7 +115,8 @@ impl<B: Journaled> BlockLock<B> {
     }
 }
 
-// Waits for some cycles after so many looks, and now and then leaves the processor to others: most often a book is back after a few looks.
+// Waits for some cycles after so many looks, and now and then leaves the processor to others: most
+// often a book is back after a few looks.
 fn wait_after(looks: u32) {
     if looks % LOOKS_A_YIELD == 0 {
         yield_now();
@@ -175,7 +176,8 @@ impl<B: Journaled> BlockLock<B> {
         }
     }
 
-    /// Ends the sharing. The book's journal begins with what each pass has seen, and has no other entries of its worker.
+    /// Ends the sharing. The book's journal begins with what each pass has seen, and has no other
+    /// entries of its worker.
     pub fn close<R: Wait>(self, rt: &R, mut passes: Vec<Pass<B>>) -> B
         requires some { 0 < vec_len passes }
         requires passes { All (IsIdleAt self) passes.items }

@@ -1,5 +1,6 @@
--- What a journal keeps of each answered event, and the history that it stands for. A read has one answer where the machine stands, and a run
--- is published only with the transcript that its request has noted: so neither is kept.
+-- What a journal keeps of each answered event, and the history that it stands for. A read has one
+-- answer where the machine stands, and a run is published only with the transcript that its request
+-- has noted: so neither is kept.
 use Rattle.std.specs.Prelude.{◌≡◌, ℕ, true, false, List, [], ◌∷◌, length, Some}
 use Rattle.datasets.specs.Dataset.{Quads, Is, Names}
 use Rattle.reads.specs.Reads.{View, Answer, says}

@@ -17,7 +17,8 @@ abbrev pub count_if : Bool → ℕ
 count_if true = 1
 count_if false = 0
 
--- an answer to the question whether a quad is there, a step of a request that was not refused, or any entry
+-- an answer to the question whether a quad is there, a step of a request that was not refused, or
+-- any entry
 abbrev pub entry_of : Form → JournalEntry
 entry_of (form.Presence worker request incarnation quad there) =
     record { worker = worker; kept = Answered request incarnation (scan_for (quad_of quad)) (count_if there) }

@@ -52,7 +52,8 @@ abbrev pub run_of_journal : List Term → View → List (Request Id) → List Jo
 run_of_journal terms base block journal =
     record { terms = terms; base = base; block = block; history = history_from base (fresh (length block)) journal }
 
--- the base is a dataset, the journal is what is kept of a history, and the machine is where that leads
+-- the base is a dataset, the journal is what is kept of a history, and the machine is where that
+-- leads
 pub record IsReplayed (run : Run) (journal : List JournalEntry) (machine : State) : Type 0 where
   pub base : IsDataset run.base
   pub lawful : IsHistory (setting_of run) run.history

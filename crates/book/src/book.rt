@@ -27,7 +27,8 @@ use std::alloc::{AllocError, Global};
 use std::marker::Model;
 use std::thread::Threads;
 
-/// A run of a block: what it is of, and every event that was answered, in order. Contracts see each with its answer and its transcript.
+/// A run of a block: what it is of, and every event that was answered, in order. Contracts see each
+/// with its answer and its transcript.
 #[derive(Drop)]
 pub struct Book<'a> {
     terms: &'a Dict,
@@ -78,8 +79,9 @@ impl<'a> Book<'a> {
         })
     }
 
-    /// One event of a worker, with what its read says of the base. Its reply is lawful, and the history has both at its end. A finished run is
-    /// shared, and not copied. After want of memory the book is as before.
+    /// One event of a worker, with what its read says of the base. Its reply is lawful, and the
+    /// history has both at its end. A finished run is shared, and not copied. After want of memory
+    /// the book is as before.
     pub fn step_scanned(
         &mut self,
         alloc: Global,
@@ -129,8 +131,9 @@ impl<'a> Book<'a> {
         self.step_scanned(alloc, worker, event, &scans)
     }
 
-    /// A check whose reply is chosen: where both `Passed` and `Aborted` are lawful it is the one that `passed` says. Else it is as a step of
-    /// the check, and after want of memory the book is as before.
+    /// A check whose reply is chosen: where both `Passed` and `Aborted` are lawful it is the one
+    /// that `passed` says. Else it is as a step of the check, and after want of memory the book is
+    /// as before.
     pub fn check_as(
         &mut self,
         alloc: Global,
@@ -212,7 +215,8 @@ impl<'a> Book<'a> {
         self.machine.latest()
     }
 
-    /// The least request for which something can be done but to commit it. It looks along one path of a tree, and not at each request.
+    /// The least request for which something can be done but to commit it. It looks along one path
+    /// of a tree, and not at each request.
     pub fn least_work(&self) -> Option<usize>
         ensures some { IfSome result (IsLeastWork (state_of self.now).slots) }
         ensures none { result ≡ None → (j : ℕ) → has_work (state_of self.now).slots j ≡ false }
@@ -250,8 +254,8 @@ impl<'a> Book<'a> {
         })
     }
 
-    /// The same, where the book is not needed any more: its journal and its notes are let go before the dataset is made, or the notes by another
-    /// thread of so many.
+    /// The same, where the book is not needed any more: its journal and its notes are let go before
+    /// the dataset is made, or the notes by another thread of so many.
     pub fn into_outcome<T: Threads + Sync>(
         self,
         rt: &T,
@@ -282,7 +286,8 @@ impl<'a> Book<'a> {
         }
     }
 
-    /// What is kept of every event that was answered, in order: each is lawful where those before it lead.
+    /// What is kept of every event that was answered, in order: each is lawful where those before
+    /// it lead.
     pub fn journal(&self) -> &[PackedEntry]
         ensures journal { result.now ≡ map journal_entry_of self.now.history }
         ensures lawful { IsHistory (setting_of self.now) self.now.history }

@@ -10,8 +10,8 @@ use delta::Delta;
 use reads::Answered;
 use std::alloc::{AllocError, Global};
 
-/// An answered event as a journal keeps it: with no answer and no transcript, of which the machine leaves no choice. So a journal needs no
-/// more memory where answers are long.
+/// An answered event as a journal keeps it: with no answer and no transcript, of which the machine
+/// leaves no choice. So a journal needs no more memory where answers are long.
 #[derive(Drop)]
 pub struct JournalEntry {
     pub worker: u32,
@@ -21,7 +21,8 @@ pub struct JournalEntry {
 /// What is kept of an event and its reply.
 #[derive(Drop)]
 pub enum Kept {
-    /// A read that was answered: with how many quads or names, or 0 or 1 for whether a graph is there.
+    /// A read that was answered: with how many quads or names, or 0 or 1 for whether a graph is
+    /// there.
     Answered(usize, u64, Read<Id>, u64),
     /// A run that was published: the change that it makes, and the reply to its request.
     Published(usize, u64, Delta, meaning::Reply),
@@ -85,7 +86,8 @@ impl JournalEntry {
         }
     }
 
-    /// Keeps what a journal will keep of a finished run, should the event publish it. An error comes only where memory runs out.
+    /// Keeps what a journal will keep of a finished run, should the event publish it. An error
+    /// comes only where memory runs out.
     pub(crate) fn prepare(&mut self, alloc: Global, event: &Event) -> Result<(), AllocError>
         ensures { OnOk result (IsRoomFor event.now self.new) }
     {
@@ -96,7 +98,8 @@ impl JournalEntry {
         Ok(())
     }
 
-    /// Keeps what a journal keeps of a worker's event that was answered so, for which there is room.
+    /// Keeps what a journal keeps of a worker's event that was answered so, for which there is
+    /// room.
     pub(crate) fn fill(&mut self, worker: u32, event: &Event, reply: &Reply)
         requires told { IsTold event.now reply.now }
         requires room { IsRoomFor event.now self.old }

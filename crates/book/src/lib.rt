@@ -1,7 +1,9 @@
-//! The book of a block: its machine, with the journal of every answered event. Stands on `block_machine`, `dict` and `meaning`.
+//! The book of a block: its machine, with the journal of every answered event. Stands on
+//! `block_machine`, `dict` and `meaning`.
 //!
-//! The contract used above: a `Book`'s type keeps that its journal is a history and its state is where the journal leads. So its front is
-//! the sequential run of that many first requests, whatever the workers did.
+//! The contract used above: a `Book`'s type keeps that its journal is a history and its state is
+//! where the journal leads. So its front is the sequential run of that many first requests,
+//! whatever the workers did.
 #![tactic(auto)]
 
 mod book;

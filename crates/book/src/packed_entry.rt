@@ -19,7 +19,8 @@ pub struct PackedEntry {
     form: Form,
 }
 
-/// Most entries are the answer to a read that asks for one quad, or a step of a request that was not refused. Those need little memory.
+/// Most entries are the answer to a read that asks for one quad, or a step of a request that was
+/// not refused. Those need little memory.
 #[derive(Drop)]
 pub(crate) enum Form {
     Presence {
@@ -54,7 +55,8 @@ pub(crate) enum Form {
 /// What an entry keeps of its event and the reply, to be looked at.
 #[derive(Drop)]
 pub enum Shown<'a> {
-    /// A read that was answered, with how many quads or names, or 0 or 1 for whether a graph is there.
+    /// A read that was answered, with how many quads or names, or 0 or 1 for whether a graph is
+    /// there.
     Answered(usize, u64, Read<Id>, u64),
     /// Another event and its reply.
     Other(Event, Reply),
@@ -106,7 +108,8 @@ fn packed_answer(worker: u32, i: usize, n: u64, read: &Read<Id>, count: u64) -> 
     })
 }
 
-// An answered event in little memory: the answer to a read, or a step of a request that was not refused.
+// An answered event in little memory: the answer to a read, or a step of a request that was not
+// refused.
 fn packed(worker: u32, event: &Event, reply: &Reply) -> Option<Form>
     ensures { IfSome result (λ form. entry_of form
         ≡ journal_entry_of (record { worker = worker; event = kept event.now reply.now; reply = reply.now })) }
@@ -139,7 +142,8 @@ fn packed(worker: u32, event: &Event, reply: &Reply) -> Option<Form>
 }
 
 impl PackedEntry {
-    /// What a journal keeps of a worker's event under this reply, and the room that it does not need.
+    /// What a journal keeps of a worker's event under this reply, and the room that it does not
+    /// need.
     #[inline(always)]
     pub(crate) fn new(
         worker: u32,

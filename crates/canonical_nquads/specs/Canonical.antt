@@ -1,5 +1,6 @@
--- The one text of a dataset (RDF 1.1 N-Quads, section 4, canonical form): a line a quad, and a line `#@graph` and its name for each named
--- graph without a quad; the lines in the order of their bytes, each once, each ended by LF.
+-- The one text of a dataset (RDF 1.1 N-Quads, section 4, canonical form): a line a quad, and a line
+-- `#@graph` and its name for each named graph without a quad; the lines in the order of their
+-- bytes, each once, each ended by LF.
 use Rattle.std.specs.Prelude.{ℕ, Bool, not, List, [], ◌∷◌, ◌++◌, map, filter, Option, Some, None, codes}
 use Rattle.std.specs.List.{flat_map}
 use Rattle.std.specs.Global.{Vec}

@@ -12,7 +12,8 @@ use Rattle.canonical_nquads.specs.declared.rising.Rising.{Rising}
 use Rattle.canonical_nquads.specs.declared.rising_pieces.RisingInPieces.{RisingInPieces}
 use Rattle.canonical_nquads.specs.declared.text_parts.OrderedPart.{OrderedPart}
 
--- these are its lines, each above those before it, and what is above its last line is above them all
+-- these are its lines, each above those before it, and what is above its last line is above them
+-- all
 pub record IsRising (lines : List (List ℕ)) (made : Rising) : Type 0 where
   pub text : made.text.items ≡ flat_map ended lines
   pub rises : IsStrictlySortedBy text_cmp lines

@@ -178,7 +178,8 @@ fn add_graph(
     Ok(())
 }
 
-/// The names of the graphs that have a quad. So many places are looked up in a list, and the others among the names.
+/// The names of the graphs that have a quad. So many places are looked up in a list, and the others
+/// among the names.
 fn full_graphs(
     alloc: Global,
     quads: &[Quad<u32>],
@@ -275,7 +276,8 @@ fn sorted_text(
     joined(alloc, set_of(lines).as_slice())
 }
 
-/// The text of the lines of these quads and graphs. Lines in the order of their terms' texts rise, so they needn't be kept and put in order.
+/// The text of the lines of these quads and graphs. Lines in the order of their terms' texts rise,
+/// so they needn't be kept and put in order.
 fn text_of_lines(
     alloc: Global,
     texts: &[TextLine],
@@ -346,7 +348,8 @@ fn pieces_of_lines_by<T: Threads + Sync>(
     in_one_piece(alloc, text)
 }
 
-/// The canonical text of a dataset, where `tag` is in the labels of made nodes. It fails only where memory runs out.
+/// The canonical text of a dataset, where `tag` is in the labels of made nodes. It fails only where
+/// memory runs out.
 pub fn canonical_text(alloc: Global, dataset: &DataSet, tag: u32) -> Result<Vec<u8>, AllocError>
     ensures { IfOk result (λ text. text.items ≡ canonical_of dataset.now tag) }
 {
@@ -371,8 +374,9 @@ pub fn canonical_pieces(
     in_one_piece(alloc, text)
 }
 
-/// The same pieces, made by so many threads, where they can be had. Of quads that do not stand in the order of their texts each of four parts is
-/// put in order, and its lines are made, by a thread of its own. No piece is moved once it is made.
+/// The same pieces, made by so many threads, where they can be had. Of quads that do not stand in
+/// the order of their texts each of four parts is put in order, and its lines are made, by a thread
+/// of its own. No piece is moved once it is made.
 pub fn canonical_pieces_by<T: Threads + Sync>(
     rt: &T,
     alloc: Global,
@@ -398,9 +402,7 @@ pub fn canonical_pieces_by<T: Threads + Sync>(
         &full,
         threads,
     )?;
-    if 1 < threads {
-        // Nobody waits until they are let go.
-        let _ = spawn(rt, move || drop(texts));
-    }
+    // A thread of its own drops the texts, so that nobody waits until they are dropped.
+    let _ = spawn(rt, move || drop(texts));
     Ok(pieces)
 }

@@ -31,7 +31,8 @@ pub(crate) fn is_above(last: &[u8], line: &[u8]) -> bool
     last.cmp(&line).is_lt()
 }
 
-/// Adds a line, if it is above the last, and says whether it is. The line's memory is then the last one's.
+/// Adds a line, if it is above the last, and says whether it is. The line's memory is then the last
+/// one's.
 fn push_line(made: &mut Rising, line: &mut Vec<u8>) -> Result<bool, AllocError>
     ensures { IfOk result (λ rises. rises ≡ true → (lines : List (List ℕ)) → IsRising lines made.old
         → IsRising (lines ++ line.old.items ∷ []) made.new) }
@@ -124,7 +125,8 @@ pub(crate) fn push_graphs(
     Ok(true)
 }
 
-/// The lines of the graphs that have no quad and those of the quads, one after another, if each is above the one before it.
+/// The lines of the graphs that have no quad and those of the quads, one after another, if each is
+/// above the one before it.
 pub(crate) fn rising_text(
     alloc: Global,
     texts: &[TextLine],

@@ -56,7 +56,8 @@ pub(crate) fn as_piece(alloc: Global, made: Rising) -> Result<RisingInPieces, Al
     })
 }
 
-/// A text and another behind it that begins with this line, if the line is above the first text's last. No byte of theirs is moved.
+/// A text and another behind it that begins with this line, if the line is above the first text's
+/// last. No byte of theirs is moved.
 fn behind(
     low: RisingInPieces,
     high: RisingInPieces,
@@ -127,7 +128,8 @@ fn room_for(texts: &[TextLine], quads: &[Quad<u32>]) -> usize {
     bytes.saturating_mul(SAMPLED).min(MOST_ROOM)
 }
 
-/// No lines, and room for so many bytes where memory has it. A text that has room is not copied when it grows.
+/// No lines, and room for so many bytes where memory has it. A text that has room is not copied
+/// when it grows.
 fn begun(alloc: Global, room: usize) -> Rising
     ensures { IsRising [] result }
 {
@@ -159,8 +161,9 @@ fn rising_piece(
     Ok(Some(whole))
 }
 
-/// The text of the lines of these quads, made by so many threads, if they rise, each piece where its thread made it. The thread that calls makes
-/// all others: of those that new ones make, two often share a processor at first.
+/// The text of the lines of these quads, made by so many threads, if they rise, each piece where
+/// its thread made it. The thread that calls makes all others: of those that new ones make, two
+/// often share a processor at first.
 pub(crate) fn rising_quads<T: Threads + Sync>(
     rt: &T,
     alloc: Global,

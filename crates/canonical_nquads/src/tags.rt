@@ -167,7 +167,8 @@ fn is_marked(terms: &[Term], mark: &[u8]) -> bool
     terms.iter().any(|term| has_mark(term, mark))
 }
 
-/// Whether none of the dataset's terms is a blank node whose label begins as that of a made node where the tag is 1.
+/// Whether none of the dataset's terms is a blank node whose label begins as that of a made node
+/// where the tag is 1.
 fn is_unmarked(alloc: Global, dataset: &DataSet) -> Result<bool, AllocError>
     ensures { IfOk result (λ free. IsTrue free → is_taken dataset.now.quads 1 ≡ false) }
 {
@@ -177,8 +178,8 @@ fn is_unmarked(alloc: Global, dataset: &DataSet) -> Result<bool, AllocError>
     Ok(!is_marked(parts.terms, mark.as_slice()))
 }
 
-/// The least number from 1 with which no blank label of the dataset begins as a made node's does. It fails where memory runs out, or where
-/// 2^32 - 2 numbers are taken.
+/// The least number from 1 with which no blank label of the dataset begins as a made node's does.
+/// It fails where memory runs out, or where 2^32 - 2 numbers are taken.
 pub fn tag(alloc: Global, dataset: &DataSet) -> Result<u32, AllocError>
     ensures { IfOk result (λ tag. IsTagOf dataset.now tag) }
 {

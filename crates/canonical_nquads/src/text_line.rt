@@ -11,7 +11,8 @@ use std::cmp::Ordering;
 use std::hash::{Hash, Hasher};
 use std::marker::Model;
 
-/// A line of a canonical text, without its end, or the text of a term in it. Contracts see its bytes, and lines are ordered by them.
+/// A line of a canonical text, without its end, or the text of a term in it. Contracts see its
+/// bytes, and lines are ordered by them.
 #[derive(Drop)]
 pub struct TextLine {
     bytes: Vec<u8>,

@@ -43,7 +43,8 @@ fn graph_lines(
     Ok(Some(whole))
 }
 
-/// A text, and behind it the lines of quads as they stand, made by so many threads, if each line is above the one before it.
+/// A text, and behind it the lines of quads as they stand, made by so many threads, if each line is
+/// above the one before it.
 fn behind_as_they_stand<T: Threads + Sync>(
     rt: &T,
     alloc: Global,
@@ -62,7 +63,8 @@ fn behind_as_they_stand<T: Threads + Sync>(
     }
 }
 
-/// The same, of quads that are put in order first where they do not stand so by the ranks of their terms' texts.
+/// The same, of quads that are put in order first where they do not stand so by the ranks of their
+/// terms' texts.
 fn behind_in_order<T: Threads + Sync>(
     rt: &T,
     alloc: Global,
@@ -82,8 +84,9 @@ fn behind_in_order<T: Threads + Sync>(
     behind_by_ranks(rt, alloc, front, texts, ranks, quads)
 }
 
-/// The lines of the graphs that have no quad and those of the quads, made by so many threads, if each is above the one before it once they are
-/// in the order of these ranks, in pieces that stand one behind another.
+/// The lines of the graphs that have no quad and those of the quads, made by so many threads, if
+/// each is above the one before it once they are in the order of these ranks, in pieces that stand
+/// one behind another.
 pub(crate) fn rising_pieces_by<T: Threads + Sync>(
     rt: &T,
     alloc: Global,

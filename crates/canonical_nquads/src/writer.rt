@@ -21,7 +21,8 @@ pub enum WriteFault {
     Device,
 }
 
-/// Writes the canonical text of a dataset, which is made before the first byte goes out. The flush is the caller's.
+/// Writes the canonical text of a dataset, which is made before the first byte goes out. The flush
+/// is the caller's.
 pub fn write<W: Write>(
     alloc: Global,
     writer: &mut Watched<W>,

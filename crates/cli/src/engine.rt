@@ -98,7 +98,8 @@ impl<'r, T: Threads + Wait + Sync> Runs for Workers<'r, T> {
         canonical_pieces_by(self.rt, alloc, dataset, tag, self.count as usize)
     }
 
-    // With more than one thread nobody waits for it: the pieces are most of what the process would give back at its end.
+    // With more than one thread nobody waits for it: the pieces are most of what the process would
+    // give back at its end.
     fn let_go(&self, piece: Vec<u8>) {
         if self.count == 1 {
             drop(piece);
@@ -108,10 +109,12 @@ impl<'r, T: Threads + Wait + Sync> Runs for Workers<'r, T> {
     }
 }
 
-/// Reads a base and a block, runs the block by this many workers, and writes the canonical text of the new dataset and one line a request. The
-/// base is read before the block, and all texts are made before a writer is touched; then the dataset and the replies are written in this
-/// order, each flushed, also where it is empty. Workers are from 1 to 64, each on a thread of its own where one can be had, and change nothing
-/// in the answer. A fault is the first that comes: of the base, of the block, want of memory, or of a writer.
+/// Reads a base and a block, runs the block by this many workers, and writes the canonical text of
+/// the new dataset and one line a request. The base is read before the block, and all texts are
+/// made before a writer is touched; then the dataset and the replies are written in this order,
+/// each flushed, also where it is empty. Workers are from 1 to 64, each on a thread of its own
+/// where one can be had, and change nothing in the answer. A fault is the first that comes: of the
+/// base, of the block, want of memory, or of a writer.
 pub fn run_engine<T: Threads + Wait + Sync, B: Read, K: Read, D: Write, A: Write>(
     rt: &T,
     alloc: Global,

@@ -95,10 +95,12 @@ fn texts_with_journal<T: Threads + Wait + Sync>(
     Ok(RecordTexts { answer, journal })
 }
 
-/// Reads a base and a block, runs the block by this many workers, and writes the canonical text of the new dataset, one line a request, and the
-/// journal of the run. The base is read before the block, and all texts are made before a writer is touched; then the dataset, the replies and
-/// the journal are written in this order, each flushed, also where it is empty. Workers are from 1 to 64, each on a thread of its own where one
-/// can be had, and change nothing in the answer. A fault is the first that comes: of the base, of the block, want of memory, or of a writer.
+/// Reads a base and a block, runs the block by this many workers, and writes the canonical text of
+/// the new dataset, one line a request, and the journal of the run. The base is read before the
+/// block, and all texts are made before a writer is touched; then the dataset, the replies and the
+/// journal are written in this order, each flushed, also where it is empty. Workers are from 1 to
+/// 64, each on a thread of its own where one can be had, and change nothing in the answer. A fault
+/// is the first that comes: of the base, of the block, want of memory, or of a writer.
 pub fn run_with_journal_engine<
     T: Threads + Wait + Sync,
     B: Read,
@@ -145,7 +147,8 @@ pub fn run_with_journal_engine<
     ensures journal_part { IsErrOf result (Fault.CannotWrite File.Journal)
         → IfBoth (B.remaining base.old.inner) (K.remaining block.old.inner)
         (λ b k. WroteJournalInPart b k (taken J.contents journal.old.inner journal.new.inner)) }
-    // Any other fault comes before a writer is touched, and one of the answer's before that of the journal is.
+    // Any other fault comes before a writer is touched, and one of the answer's before that of the
+    // journal is.
     ensures untouched { IfErr result (λ fault. fault ≢ Fault.CannotWrite File.Answer
         → fault ≢ Fault.CannotWrite File.Journal → (dataset.new ≡ dataset.old)
         × (replies.new ≡ replies.old)) }

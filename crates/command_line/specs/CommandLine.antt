@@ -1,5 +1,6 @@
--- The command line, as `clap` reads it: `sparql-block run BASE BLOCK OUT [--workers N] [--journal FILE]`,
--- `sparql-block serial BASE BLOCK OUT`, `sparql-block replay BASE BLOCK JOURNAL OUT` or `sparql-block check BLOCK`.
+-- The command line, as `clap` reads it: `sparql-block run BASE BLOCK OUT [--workers N] [--journal
+-- FILE]`, `sparql-block serial BASE BLOCK OUT`, `sparql-block replay BASE BLOCK JOURNAL OUT` or
+-- `sparql-block check BLOCK`.
 use Rattle.std.specs.Prelude.{◌≡◌, ◌≢◌, ◌≤◌, ⊤, true, ℕ, List, [], ◌∷◌, Option, Some, None, Result, Ok, Err, codes, pos, option_map, String, string_bytes}
 use Rattle.std.specs.declared.alloc.Global.{Global}
 use Rattle.std.specs.Str.Parse.{IsNumeral, digits_value, without_leading_plus}
@@ -66,8 +67,8 @@ IsNumber t n = IsNumeral 10 (without_leading_plus t) × (n ≡ digits_value 10 (
 abbrev pub IsWorkers : Option Text → ℕ → Type 0
 IsWorkers text n = ((t : Text) × (text ≡ Some t) × IsNumber t n) × (1 ≤ n) × (n ≤ 64)
 
--- the command of this name and its rows give this job: its files are the words of the rows, and its workers their number; a journal is
--- written where a file is named for it
+-- the command of this name and its rows give this job: its files are the words of the rows, and its
+-- workers their number; a journal is written where a file is named for it
 abbrev pub IsAsked : Text → List Row → Job → Type 0
 IsAsked name rows (Run base block out workers journal) = (name ≡ codes "run")
     × (first_of (codes "BASE") rows ≡ Some (string_bytes base))
@@ -124,7 +125,8 @@ IsToldAs k (Wrong text) = (k ≢ OutOfMemory) × (k ≢ DisplayHelp)
 abbrev pub IsJob : List Text → Job → Type 0
 IsJob words j = (name : Text) × (rows : List Row) × (subcommand_of program words ≡ Some (name, rows)) × IsAsked name rows j
 
--- a job where the words are free of faults and give it; help where they ask for it; else they have another fault or give no job
+-- a job where the words are free of faults and give it; help where they ask for it; else they have
+-- another fault or give no job
 abbrev pub IsAnswer : List Text → Result Job LineFault → Type 0
 IsAnswer words (Ok j) = (fault_of program words ≡ []) × IsJob words j
 IsAnswer words (Err Memory) = ⊤

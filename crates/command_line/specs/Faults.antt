@@ -1,4 +1,5 @@
--- What the program tells where it ends without an answer: the process's exit status and a line, without its LF.
+-- What the program tells where it ends without an answer: the process's exit status and a line,
+-- without its LF.
 use Rattle.std.specs.Prelude.{ℕ, List, ◌++◌, codes}
 use Rattle.std.specs.Fmt.{decimal}
 use Rattle.command_line.specs.declared.fault.File.{File}
@@ -19,7 +20,8 @@ status_of_line line.Memory = 5
 status_of_line (line.Help text) = 0
 status_of_line (line.Wrong text) = 2
 
--- 2 is the command line's fault, 3 the base's, 4 the block's, 5 memory's, 6 a file's and 7 the journal's; help is no fault
+-- 2 is the command line's fault, 3 the base's, 4 the block's, 5 memory's, 6 a file's and 7 the
+-- journal's; help is no fault
 abbrev pub status_of : Fault → ℕ
 status_of (Line fault) = status_of_line fault
 status_of (BadLine n) = 3

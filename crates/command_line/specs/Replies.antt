@@ -27,7 +27,8 @@ reply_line i (Done added removed) = decimal i ++ codes " ok +" ++ decimal added 
 reply_line i (Failed operation cause) = decimal i ++ codes " failed " ++ decimal operation ++ codes " " ++ cause_word cause
 reply_line i (Refused refusal) = decimal i ++ codes " refused " ++ refusal_word refusal
 
--- the line that tells whether the request at a place of the block is accepted, or why it is refused, without its LF
+-- the line that tells whether the request at a place of the block is accepted, or why it is
+-- refused, without its LF
 abbrev pub verdict_line : ℕ → Option Refusal → List ℕ
 verdict_line i None = decimal i ++ codes " accepted"
 verdict_line i (Some refusal) = decimal i ++ codes " refused " ++ refusal_word refusal

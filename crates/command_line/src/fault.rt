@@ -20,7 +20,8 @@ pub enum File {
     Answer,
 }
 
-/// A text for the person at the command line, of one or more lines and without the last LF. Contracts see its bytes.
+/// A text for the person at the command line, of one or more lines and without the last LF.
+/// Contracts see its bytes.
 #[derive(Debug, Drop)]
 pub struct Message {
     text: String,
@@ -162,8 +163,8 @@ impl Fault {
     }
 }
 
-/// The exit status, and the line that tells the fault, without its LF. Where memory runs out `status` and the fault's `Display` still tell
-/// both.
+/// The exit status, and the line that tells the fault, without its LF. Where memory runs out
+/// `status` and the fault's `Display` still tell both.
 pub fn told(alloc: Global, fault: &Fault) -> Result<(u8, String), AllocError>
     ensures status { IfOk result (λ r. r.0 ≡ status_of fault.now) }
     ensures line { IfOk result (λ r. string_bytes r.1 ≡ line_of fault.now) }

@@ -32,7 +32,8 @@ pub enum Job {
         /// The path that the journal of the run is written to, where one is asked for.
         journal: Option<String>,
     },
-    /// Runs the block on the base, one request after another by one thread, and writes the dataset that it ends with.
+    /// Runs the block on the base, one request after another by one thread, and writes the dataset
+    /// that it ends with.
     Serial {
         /// The path of the base.
         base: String,
@@ -41,7 +42,8 @@ pub enum Job {
         /// The path that the dataset is written to.
         out: String,
     },
-    /// Replays a journal of a run of the block on the base, and writes the dataset that its committed requests end with.
+    /// Replays a journal of a run of the block on the base, and writes the dataset that its
+    /// committed requests end with.
     Replay {
         /// The path of the base.
         base: String,
@@ -330,8 +332,9 @@ fn command_job(alloc: Global, name: &str, command: &ArgMatches<'_>) -> Result<Jo
     }
 }
 
-/// Reads a command line, whose first word is the program's name. The workers of a run are from 1 to 64. `Help` comes where the words ask
-/// for help, `Wrong` where they are no command line of the program, and `Memory` where memory runs out.
+/// Reads a command line, whose first word is the program's name. The workers of a run are from 1 to
+/// 64. `Help` comes where the words ask for help, `Wrong` where they are no command line of the
+/// program, and `Memory` where memory runs out.
 pub fn read_job(alloc: Global, words: &[String]) -> Result<Job, LineFault>
     ensures { IsAnswer (map string_bytes words.now) result }
 {

@@ -42,7 +42,8 @@ fn push_reply(text: &mut String, place: usize, reply: Reply) -> Result<(), Alloc
     }
 }
 
-/// The lines of a block's replies in their order, the requests counted from 0, each ended by LF. It fails only where memory runs out.
+/// The lines of a block's replies in their order, the requests counted from 0, each ended by LF. It
+/// fails only where memory runs out.
 pub fn replies_text(alloc: Global, replies: &[Reply]) -> Result<String, AllocError>
     ensures { IfOk result (λ text. string_bytes text ≡ reply_lines replies.now) }
 {
@@ -64,8 +65,9 @@ fn push_verdict(text: &mut String, place: usize, verdict: Option<Refusal>) -> Re
     }
 }
 
-/// The lines of the verdicts on a block's requests in their order, the requests counted from 0, each ended by LF: nothing where the request is
-/// accepted, and else why it is refused. It fails only where memory runs out.
+/// The lines of the verdicts on a block's requests in their order, the requests counted from 0,
+/// each ended by LF: nothing where the request is accepted, and else why it is refused. It fails
+/// only where memory runs out.
 pub fn verdicts_text(alloc: Global, verdicts: &[Option<Refusal>]) -> Result<String, AllocError>
     ensures { IfOk result (λ text. string_bytes text ≡ verdict_lines verdicts.now) }
 {

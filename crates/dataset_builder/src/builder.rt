@@ -14,8 +14,8 @@ use terms::{DataSet, TermCow};
 /// How many quads are placed together.
 const TOGETHER: usize = 64;
 
-/// A dataset that is built of the terms of a text. An IRI that came before is found again by its text, without memory of its own.
-/// Contracts see the dataset.
+/// A dataset that is built of the terms of a text. An IRI that came before is found again by its
+/// text, without memory of its own. Contracts see the dataset.
 #[derive(Drop)]
 pub struct DatasetBuilder<'a> {
     alloc: Global,

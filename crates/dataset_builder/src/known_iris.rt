@@ -25,8 +25,9 @@ pub(crate) struct KnownIri<'a> {
     hash: u32,
 }
 
-/// IRIs with their places, and slots that lead to them by the hashes of their texts. Contracts see the list alone: what is found is told by
-/// its text, so nothing has to be known of the slots. One that is not found is only slower to place.
+/// IRIs with their places, and slots that lead to them by the hashes of their texts. Contracts see
+/// the list alone: what is found is told by its text, so nothing has to be known of the slots. One
+/// that is not found is only slower to place.
 #[derive(Drop)]
 pub(crate) struct KnownIris<'a> {
     list: Vec<KnownIri<'a>>,
@@ -87,8 +88,8 @@ fn first_guess(term: &TermCow<'_>) -> Guess {
     }
 }
 
-/// Guesses for these quads. They are made in turns of all quads, since a table of many IRIs lies in slow memory, and what is asked for
-/// together comes together.
+/// Guesses for these quads. They are made in turns of all quads, since a table of many IRIs lies in
+/// slow memory, and what is asked for together comes together.
 pub(crate) fn guesses_of(
     alloc: Global,
     known: &KnownIris<'_>,

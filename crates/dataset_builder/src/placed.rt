@@ -13,7 +13,8 @@ use std::alloc::{AllocError, Global};
 use std::marker::Model;
 use terms::{DataSet, Term, TermCow, TermForm, TermTable, push_both};
 
-/// A dataset whose terms come from a text, and the IRIs that were found by their texts. Contracts see the dataset.
+/// A dataset whose terms come from a text, and the IRIs that were found by their texts. Contracts
+/// see the dataset.
 #[derive(Drop)]
 pub(crate) struct PlacedDataset<'a> {
     alloc: Global,
@@ -144,7 +145,8 @@ impl<'a> PlacedDataset<'a> {
         }
     }
 
-    /// Puts in a quad, and the name of its graph. An `Err`, which comes only where memory runs out, leaves the dataset as it was.
+    /// Puts in a quad, and the name of its graph. An `Err`, which comes only where memory runs out,
+    /// leaves the dataset as it was.
     pub(crate) fn add(
         &mut self,
         quad: Quad<TermCow<'a>>,
@@ -158,7 +160,8 @@ impl<'a> PlacedDataset<'a> {
         Ok(())
     }
 
-    /// Puts in a graph, empty if no quad is in it. An `Err`, which comes only where memory runs out, leaves the dataset as it was.
+    /// Puts in a graph, empty if no quad is in it. An `Err`, which comes only where memory runs
+    /// out, leaves the dataset as it was.
     pub(crate) fn declare(&mut self, name: TermCow<'a>) -> Result<(), AllocError>
         ensures ok { OnOk result (self.new ≡ with_graph name.entry self.old) }
         ensures err { OnErr result (self.new ≡ self.old) }

@@ -1,4 +1,5 @@
--- Datasets (RDF 1.1 Concepts, section 4), and what is told of them. A graph name or nothing stands for a graph: nothing is the default graph.
+-- Datasets (RDF 1.1 Concepts, section 4), and what is told of them. A graph name or nothing stands
+-- for a graph: nothing is the default graph.
 use Rattle.std.specs.Prelude.{◌≡◌, Bool, true, ◌&&◌, ◌||◌, List, Option, Some, None, filter, filter_map}
 use Rattle.std.specs.declared.cmp.Ordering.{Ordering}
 use Rattle.std.specs.Ordering.{eq_by_cmp, ordering_then}

@@ -1,4 +1,5 @@
--- The order of numbers of terms: known terms by number, then made nodes by their four numbers. Orders that tell any two values apart.
+-- The order of numbers of terms: known terms by number, then made nodes by their four numbers.
+-- Orders that tell any two values apart.
 use Rattle.std.specs.Prelude.{◌≡◌, List, [], ◌∷◌, Option, Some, None, refl}
 use Rattle.std.proofs.Common.{ap, sym, ◌∙◌}
 use Rattle.std.proofs.lemmas.Bool.{false≢true}

@@ -1,6 +1,8 @@
-//! Quads, patterns, reads and answers for any kind of term, and in specs/ what datasets and changes are.
+//! Quads, patterns, reads and answers for any kind of term, and in specs/ what datasets and changes
+//! are.
 //!
-//! Definitions are read at terms and code is proved at numbers of terms, so everything here is generic in the term. Stands on `sets`.
+//! Definitions are read at terms and code is proved at numbers of terms, so everything here is
+//! generic in the term. Stands on `sets`.
 #![tactic(auto)]
 
 mod id;

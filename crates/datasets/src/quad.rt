@@ -2,7 +2,8 @@
 
 use sets::Exact;
 
-/// A quad: a triple and the graph that it is in. No graph name is the default graph, which comes first.
+/// A quad: a triple and the graph that it is in. No graph name is the default graph, which comes
+/// first.
 #[derive(Clone, Copy, Drop, PartialEq, Eq, PartialOrd, Ord, Debug)]
 pub struct Quad<T> {
     pub subject: T,

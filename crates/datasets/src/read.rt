@@ -18,7 +18,8 @@ pub struct QuadPattern<T> {
     pub graph: GraphPlace<T>,
 }
 
-/// A question to a dataset: the quads of a pattern, whether it has a graph name, or all its graph names.
+/// A question to a dataset: the quads of a pattern, whether it has a graph name, or all its graph
+/// names.
 #[derive(Clone, Copy, PartialEq, Eq, Debug)]
 pub enum Read<T> {
     Scan(QuadPattern<T>),

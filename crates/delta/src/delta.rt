@@ -23,7 +23,8 @@ use std::marker::Model;
 use std::sync::Arc;
 use std::thread::Threads;
 
-/// A change: quads that come to be present or absent, and graphs that come to be there or gone. It is shared, and not copied.
+/// A change: quads that come to be present or absent, and graphs that come to be there or gone. It
+/// is shared, and not copied.
 #[derive(Drop)]
 pub struct Delta {
     // Nothing stands for no change.
@@ -224,7 +225,8 @@ impl Delta {
         Delta::from_sets(alloc, QuadSet::new(alloc), QuadSet::new(alloc), there, gone)
     }
 
-    /// The part of the change that the read asks for: what the read says after the part is what it says after the whole.
+    /// The part of the change that the read asks for: what the read says after the part is what it
+    /// says after the whole.
     pub fn asked(&self, alloc: Global, read: &Read<Id>) -> Result<Delta, AllocError>
         ensures { IfOk result (λ part. (d : Dataset)
             → says read.now (applied part d) ≡ says read.now (applied self.now d)) }
@@ -299,7 +301,8 @@ impl Delta {
         Delta::within(alloc, present, absent, there, gone, GraphSpan::Any)
     }
 
-    /// The same change again, with the same lists. It takes no memory, and fails only where they have too many owners.
+    /// The same change again, with the same lists. It takes no memory, and fails only where they
+    /// have too many owners.
     pub fn copied(&self, _alloc: Global) -> Result<Self, AllocError>
         ensures { IfOk result (λ copy. copy ≡ self.now) }
     {

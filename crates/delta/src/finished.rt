@@ -6,8 +6,8 @@ use reads::{CompactView, Note, SharedItems};
 use sets::Items;
 use std::alloc::{AllocError, Global};
 
-/// A finished run of a request: what it read and was answered, in order, the change that it makes, and the reply to the request.
-/// Specs/Sound.antt says when it is sound.
+/// A finished run of a request: what it read and was answered, in order, the change that it makes,
+/// and the reply to the request. Specs/Sound.antt says when it is sound.
 #[derive(Drop)]
 pub struct Finished {
     pub transcript: SharedItems<Note>,

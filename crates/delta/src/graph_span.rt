@@ -7,8 +7,8 @@ ghost use Rattle.delta.specs.GraphSpan.{graph_number as the_graph_number, IsWith
 use datasets::{GraphPlace, Id, Quad};
 use quad_sets::QuadSlice;
 
-/// Between which graphs, by their numbers, some quads lie: any, or those from the least to the greatest, of which there are none where the
-/// least is above the greatest.
+/// Between which graphs, by their numbers, some quads lie: any, or those from the least to the
+/// greatest, of which there are none where the least is above the greatest.
 #[derive(Clone, Copy)]
 pub enum GraphSpan {
     Any,

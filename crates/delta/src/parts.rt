@@ -10,7 +10,8 @@ use datasets::{Id, QuadPattern};
 use quad_sets::{QuadSet, QuadSlice};
 use std::marker::Model;
 
-/// The sets that a change speaks of: quads that come to be present or absent, and graphs that come to be there or gone.
+/// The sets that a change speaks of: quads that come to be present or absent, and graphs that come
+/// to be there or gone.
 #[derive(Drop)]
 pub struct Parts {
     pub present: QuadSet,

@@ -10,8 +10,8 @@ pub record IsFront (limit : ℕ) (text bytes : List ℕ) : Type 0 where
   pub cut : text ≡ bytes ++ rest
   pub whole : length bytes ≤ limit → rest ≡ []
 
--- a reader, which had some bytes left before and has some left after, gave bytes that now stand behind others: all that it had, or so many that
--- more than the limit stand there
+-- a reader, which had some bytes left before and has some left after, gave bytes that now stand
+-- behind others: all that it had, or so many that more than the limit stand there
 pub record IsFilled (limit : ℕ) (before after : Option (List ℕ)) (old new : List ℕ) (is_all : Bool) : Type 0 where
   pub given : List ℕ
   pub cut : new ≡ old ++ given

@@ -46,9 +46,10 @@ impl From<Failed> for ReadFault {
     }
 }
 
-/// Adds bytes of a reader to those that are there, until it has no more or there are more than the limit. Says whether it has no more.
-/// Nothing is read behind a failed read. `OutOfMemory` may come at any text, and then bytes that the reader gave may be lost; `Device` comes only
-/// where a read failed. What was there stays in front, also where it fails.
+/// Adds bytes of a reader to those that are there, until it has no more or there are more than the
+/// limit. Says whether it has no more. Nothing is read behind a failed read. `OutOfMemory` may come
+/// at any text, and then bytes that the reader gave may be lost; `Device` comes only where a read
+/// failed. What was there stays in front, also where it fails.
 pub fn fill<R: Read>(
     reader: &mut Watched<R>,
     bytes: &mut Vec<u8>,
@@ -74,8 +75,8 @@ pub fn fill<R: Read>(
     Ok(false)
 }
 
-/// The first bytes that a reader gives: all of them, or more than the limit. Nothing is read behind a failed read. `OutOfMemory` may come at
-/// any text, `Device` only where a read failed.
+/// The first bytes that a reader gives: all of them, or more than the limit. Nothing is read behind
+/// a failed read. `OutOfMemory` may come at any text, `Device` only where a read failed.
 pub fn front_of<R: Read>(
     alloc: Global,
     reader: &mut Watched<R>,
@@ -93,7 +94,8 @@ pub fn front_of<R: Read>(
     Ok(bytes)
 }
 
-/// All bytes that a reader gives. Nothing is read behind a failed read. `OutOfMemory` may come at any text, `Device` only where a read failed.
+/// All bytes that a reader gives. Nothing is read behind a failed read. `OutOfMemory` may come at
+/// any text, `Device` only where a read failed.
 pub fn all_of<R: Read>(alloc: Global, reader: &mut Watched<R>) -> Result<Vec<u8>, ReadFault>
     requires failures { reader.old.failures < 2 ^ 64 - 1 }
     ensures all { IfOk result (λ bytes. IfSome (R.remaining reader.old.inner)

@@ -11,8 +11,9 @@ use thiserror::Error;
 #[error("the device failed")]
 pub struct Failed;
 
-/// A reader or a writer. `failures` is the number of its failed calls: an `Err`, or a write of none of a slice that has bytes. Nothing is tried
-/// again. `is_flushed` says whether a flush went well and nothing, not even an empty text, was written since.
+/// A reader or a writer. `failures` is the number of its failed calls: an `Err`, or a write of none
+/// of a slice that has bytes. Nothing is tried again. `is_flushed` says whether a flush went well
+/// and nothing, not even an empty text, was written since.
 #[derive(Drop)]
 pub struct Watched<T> {
     pub inner: T,
@@ -55,7 +56,8 @@ impl<R: Read> Watched<R> {
 }
 
 impl<W: Write> Watched<W> {
-    /// One write. It takes at least a byte where there is one. An `Err` comes where it failed, and then no byte is written.
+    /// One write. It takes at least a byte where there is one. An `Err` comes where it failed, and
+    /// then no byte is written.
     pub fn write(&mut self, buf: &[u8]) -> Result<usize, Failed>
         requires { self.old.failures < 2 ^ 64 - 1 }
         ensures bound { IfOk result (λ n. n ≤ length buf.now) }
@@ -77,7 +79,8 @@ impl<W: Write> Watched<W> {
         }
     }
 
-    /// Writes a whole text. An `Err` comes where a write failed, and then a beginning of the text is written.
+    /// Writes a whole text. An `Err` comes where a write failed, and then a beginning of the text
+    /// is written.
     pub fn write_all(&mut self, text: &[u8]) -> Result<(), Failed>
         requires { self.old.failures < 2 ^ 64 - 1 }
         ensures ok { OnOk result (Appends (W.contents self.old.inner) (W.contents self.new.inner)

@@ -1,4 +1,5 @@
--- Numbers of terms stay where a list of terms goes on, and a list of numbers by their places stands for the terms there.
+-- Numbers of terms stay where a list of terms goes on, and a list of numbers by their places stands
+-- for the terms there.
 use Rattle.std.specs.Prelude.{Bool, ◌⊎◌, ◌||◌, ◌==◌, ◌≢◌, nat_lt, if◌then◌else◌, slice_index_or}
 use Rattle.std.proofs.Common.{◌≡◌, ℕ, zero, suc, ◌+◌, ◌-◌, ◌<◌, ◌≤◌, true, false, List, [], ◌∷◌, ◌++◌, length, map, take, set, inl, inr, refl, sym, ap, subst, ◌∙◌, arith}
 use Rattle.std.specs.List.{list_all, list_any}

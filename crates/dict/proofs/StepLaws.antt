@@ -1,4 +1,5 @@
--- Steps from one term to the next: what rises is in order, and which term is the same as the last that was taken.
+-- Steps from one term to the next: what rises is in order, and which term is the same as the last
+-- that was taken.
 use Rattle.std.specs.Prelude.{Bool, ◌⊎◌, ◌||◌, if◌then◌else◌}
 use Rattle.std.proofs.Common.{◌≡◌, ℕ, zero, suc, ◌+◌, ◌-◌, ◌<◌, ◌≤◌, true, false, List, [], ◌∷◌, ◌++◌, length, map, take, drop, get_or, inl, inr, refl, sym, ap, subst, ◌∙◌, arith, zero-add}
 use Rattle.std.specs.List.{AllZip, list_any, range_with_len}

@@ -1,4 +1,5 @@
--- Numbers of terms. A dictionary is a list of written terms that rises in their order; the number of a term is its place.
+-- Numbers of terms. A dictionary is a list of written terms that rises in their order; the number
+-- of a term is its place.
 use Rattle.std.specs.Prelude.{◌≡◌, Bool, true, not, ◌==◌, nat_lt, List, length, slice_index_or}
 use Rattle.std.specs.List.{list_all}
 use Rattle.std.specs.List.Sorted.{IsStrictlySortedBy}

@@ -14,7 +14,8 @@ use Rattle.dict.specs.declared.ranks.Placed.{Placed}
 abbrev pub term_in : Placed → Term
 term_in p = p.term
 
--- how the term at a place stands to the one in front of it; the first is not the same as what is not there
+-- how the term at a place stands to the one in front of it; the first is not the same as what is
+-- not there
 pub record IsStep (list : List Placed) (place : ℕ) (step : Ordering) : Type 0 where
   pub first : place ≡ 0 → is_eq step ≡ false
   pub later : (d : Placed) → 0 < place → place < length list → step ≡ term_order (term_in (slice_index_or list place d)) (term_in (slice_index_or list (place - 1) d))

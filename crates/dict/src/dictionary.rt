@@ -14,8 +14,9 @@ use std::marker::Model;
 use std::thread::Threads;
 use terms::Term;
 
-/// Terms, each once and in their order. The number of a term is its place, counted from 0. A node that a request makes is in no
-/// dictionary: its number is the node itself. Contracts see the list of the terms.
+/// Terms, each once and in their order. The number of a term is its place, counted from 0. A node
+/// that a request makes is in no dictionary: its number is the node itself. Contracts see the list
+/// of the terms.
 #[derive(Drop)]
 pub struct Dict {
     terms: Vec<Term>,
@@ -34,7 +35,8 @@ impl Model for Dict {
 }
 
 impl Dict {
-    /// The dictionary that is this list. 2^32 terms and more are out of memory, since a number has 32 bits.
+    /// The dictionary that is this list. 2^32 terms and more are out of memory, since a number has
+    /// 32 bits.
     fn of(terms: Vec<Term>) -> Result<Dict, AllocError>
         requires { IsDictionary terms.items }
         ensures ok { IfOk result (λ dict. dict ≡ terms.items) }
@@ -46,8 +48,8 @@ impl Dict {
         Ok(Dict { terms })
     }
 
-    /// The dictionary of these terms, in any order and with doubles. Made nodes are left out. An error comes only where 2^32 terms and more
-    /// are left, since a number has 32 bits.
+    /// The dictionary of these terms, in any order and with doubles. Made nodes are left out. An
+    /// error comes only where 2^32 terms and more are left, since a number has 32 bits.
     pub fn freeze(mut terms: Vec<Term>) -> Result<Dict, AllocError>
         ensures terms { IfOk result (λ dict. dict
             ≡ the_set_of term_order (filter is_written terms.items)) }
@@ -59,9 +61,10 @@ impl Dict {
         Dict::of(set_of(terms))
     }
 
-    /// The dictionary of these terms and of more, in any order and with doubles, and the numbers of the first list's terms, each at its term's
-    /// place. Made nodes are left out of the dictionary. Terms are compared only to put them in order, and none is copied. An error comes only
-    /// where memory runs out.
+    /// The dictionary of these terms and of more, in any order and with doubles, and the numbers of
+    /// the first list's terms, each at its term's place. Made nodes are left out of the dictionary.
+    /// Terms are compared only to put them in order, and none is copied. An error comes only where
+    /// memory runs out.
     pub fn numbered(
         alloc: Global,
         terms: Vec<Term>,

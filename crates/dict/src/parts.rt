@@ -1,4 +1,5 @@
-//! Where terms stand in an order of which some terms are known, so that most of a sort compares numbers.
+//! Where terms stand in an order of which some terms are known, so that most of a sort compares
+//! numbers.
 use rayon::prelude::*;
 use std::alloc::{AllocError, Global};
 use std::thread::Threads;
@@ -7,7 +8,8 @@ use terms::Term;
 /// How many terms part a list at most.
 const MOST_MARKS: usize = 512;
 
-/// Where a term stands: the part of the order that it is in, and there its first bytes behind those that the terms of the part share.
+/// Where a term stands: the part of the order that it is in, and there its first bytes behind those
+/// that the terms of the part share.
 #[derive(Clone, Copy, Drop, PartialEq, Eq, PartialOrd, Ord)]
 pub(crate) struct Stand {
     part: usize,
@@ -17,8 +19,8 @@ pub(crate) struct Stand {
 /// Where a term stands before all others.
 pub(crate) const FIRST: Stand = Stand { part: 0, bytes: 0 };
 
-/// Some terms in their order, which part it, and how many bytes the terms of each part share at the front. Nothing is known of the bytes
-/// where a part has terms of two kinds.
+/// Some terms in their order, which part it, and how many bytes the terms of each part share at the
+/// front. Nothing is known of the bytes where a part has terms of two kinds.
 #[derive(Drop)]
 struct Parts<'a> {
     marks: Vec<&'a Term>,
@@ -89,8 +91,8 @@ impl<'a> Parts<'a> {
     }
 }
 
-/// For each part, how many bytes its terms share: those between a mark and the one before it. The first part has no mark before it, and the
-/// last has none behind it.
+/// For each part, how many bytes its terms share: those between a mark and the one before it. The
+/// first part has no mark before it, and the last has none behind it.
 fn shared_of(alloc: Global, marks: &[&Term]) -> Result<Vec<Option<usize>>, AllocError> {
     let mut shared = Vec::new(alloc);
     shared.push(None)?;

@@ -41,7 +41,8 @@ fn narrowed(place: usize) -> Result<u32, AllocError>
     }
 }
 
-/// Adds the terms of a list that goes on where the others ended, each with where it stands by its place.
+/// Adds the terms of a list that goes on where the others ended, each with where it stands by its
+/// place.
 fn push_placed(
     placed: &mut Vec<Placed>,
     stands: &[Stand],
@@ -59,7 +60,8 @@ fn push_placed(
     Ok(())
 }
 
-/// The terms of these two lists, one after the other, with their places, each with where it stands by its place.
+/// The terms of these two lists, one after the other, with their places, each with where it stands
+/// by its place.
 fn gathered_with(
     alloc: Global,
     terms: Vec<Term>,
@@ -118,7 +120,8 @@ fn sorted_with_steps(alloc: Global, mut moved: Vec<Placed>) -> Result<Ordered, A
     })
 }
 
-/// These terms in their order, in which they are likely to be: with these steps they are looked at first, and put in order where one falls.
+/// These terms in their order, in which they are likely to be: with these steps they are looked at
+/// first, and put in order where one falls.
 fn by_terms(alloc: Global, moved: Vec<Placed>, steps: Vec<Ordering>) -> Result<Ordered, AllocError>
     requires { AreSteps moved.items steps.items }
     ensures same { IfOk result (λ r. IsPermutation moved.items r.placed.items) }
@@ -171,7 +174,8 @@ pub(crate) fn in_order_by<T: Threads + Sync>(
     by_terms(alloc, moved, steps)
 }
 
-/// The number of a written term that is above a rising list, where it is put in, or that is the same as its last.
+/// The number of a written term that is above a rising list, where it is put in, or that is the
+/// same as its last.
 fn next_known(found: &mut Vec<Term>, term: Term, is_same: bool) -> Result<Id, AllocError>
     requires written { is_written term ≡ true }
     requires same { is_same ≡ ends_with found.old.items term }
@@ -206,8 +210,9 @@ fn next_number(found: &mut Vec<Term>, term: Term, is_same: bool) -> Result<Id, A
     }
 }
 
-/// The terms of a rising list, each once and without made nodes, and the numbers at the places of the list that they came from, which is of
-/// this length. No term is compared: the steps tell which is the same as the one in front of it.
+/// The terms of a rising list, each once and without made nodes, and the numbers at the places of
+/// the list that they came from, which is of this length. No term is compared: the steps tell which
+/// is the same as the one in front of it.
 pub(crate) fn numbered(
     alloc: Global,
     ordered: Ordered,

@@ -1,4 +1,5 @@
-//! How terms with their places stand, each to the one in front of it, also looked at by several threads.
+//! How terms with their places stand, each to the one in front of it, also looked at by several
+//! threads.
 ghost use Rattle.std.specs.Prelude.{◌≡◌, IfOk};
 ghost use Rattle.std.specs.List.{list_any};
 ghost use Rattle.std.specs.Ordering.{is_lt};

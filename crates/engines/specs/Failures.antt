@@ -22,12 +22,14 @@ abbrev pub is_journal_unwritten : {A : Type 0} → Result A Fault → Bool
 is_journal_unwritten (Err (told.CannotWrite file.Journal)) = true
 is_journal_unwritten result = false
 
--- a device's count of failed calls, before and after: one more where a failure is told, and else the same
+-- a device's count of failed calls, before and after: one more where a failure is told, and else
+-- the same
 abbrev pub FailedIf : Bool → (old new : ℕ) → Type 0
 FailedIf true old new = new ≡ old + 1
 FailedIf false old new = new ≡ old
 
--- the counts of two devices: one more of one of them where a failure is told, and else both the same
+-- the counts of two devices: one more of one of them where a failure is told, and else both the
+-- same
 abbrev pub OneFailedIf : Bool → (first_old first_new second_old second_new : ℕ) → Type 0
 OneFailedIf true first_old first_new second_old second_new =
     ((first_new ≡ first_old + 1) × (second_new ≡ second_old)) ⊎ ((first_new ≡ first_old) × (second_new ≡ second_old + 1))

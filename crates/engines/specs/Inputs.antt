@@ -15,7 +15,8 @@ use Rattle.command_line.specs.declared.fault.Fault.{Fault}
 use Rattle.command_line.specs.declared.fault.Fault.TheVariants as told
 use Rattle.command_line.specs.declared.fault.File.TheVariants as file
 
--- what is told of a base that was not read, of a block whose bytes did not come, and of a block that was not cut
+-- what is told of a base that was not read, of a block whose bytes did not come, and of a block
+-- that was not cut
 abbrev pub base_fault : BaseFault → Fault
 base_fault base_faults.OutOfMemory = told.Memory
 base_fault (base_faults.BadLine n) = told.BadLine n
@@ -32,7 +33,8 @@ block_fault block_faults.TooLong = told.BlockTooLong
 block_fault block_faults.TooManyRequests = told.TooManyRequests
 block_fault block_faults.BadUtf8 = told.BadUtf8
 
--- the dataset that the base spells, or the fault of the base; memory may run out and a read may fail at any base
+-- the dataset that the base spells, or the fault of the base; memory may run out and a read may
+-- fail at any base
 abbrev pub IsBaseAnswer : List ℕ → Result (Dataset Term) Fault → Type 0
 IsBaseAnswer text (Ok d) = IsAnswer (2 ^ 30) text (Ok d)
 IsBaseAnswer text (Err (told.BadLine n)) = IsAnswer (2 ^ 30) text (Err (base_faults.BadLine n))
@@ -41,7 +43,8 @@ IsBaseAnswer text (Err told.Memory) = Unit {0}
 IsBaseAnswer text (Err (told.CannotRead file.Base)) = Unit {0}
 IsBaseAnswer text (Err _) = ⊥
 
--- the block's requests, or the fault of the block; memory may run out and a read may fail at any block
+-- the block's requests, or the fault of the block; memory may run out and a read may fail at any
+-- block
 abbrev pub IsBlockAnswer : List ℕ → Result (List (Request Term)) Fault → Type 0
 IsBlockAnswer text (Ok requests) = IsSplit text (Ok requests)
 IsBlockAnswer text (Err told.BlockTooLong) = IsSplit text (Err block_faults.TooLong)
@@ -51,8 +54,8 @@ IsBlockAnswer text (Err told.Memory) = Unit {0}
 IsBlockAnswer text (Err (told.CannotRead file.Block)) = Unit {0}
 IsBlockAnswer text (Err _) = ⊥
 
--- a fault of the base, or of the block where the base is read, of its bytes or of its device; memory may run out, and the device of the base
--- or of the answer may fail, at any input
+-- a fault of the base, or of the block where the base is read, of its bytes or of its device;
+-- memory may run out, and the device of the base or of the answer may fail, at any input
 abbrev pub IsFaultOf : (base block : List ℕ) → Fault → Type 0
 IsFaultOf base block (told.BadLine n) = IsBaseAnswer base (Err (told.BadLine n))
 IsFaultOf base block told.BaseTooLong = IsBaseAnswer base (Err told.BaseTooLong)

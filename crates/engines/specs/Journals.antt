@@ -26,7 +26,8 @@ use Rattle.command_line.specs.declared.fault.File.TheVariants as file
 use Rattle.engines.specs.Inputs.{IsBaseAnswer, IsBlockAnswer, IsFaultOf}
 use Rattle.engines.specs.Outputs.{Taken, Grew, IsPart}
 
--- at numbers of terms: the journal is the text of a lawful history of the block, behind which so many requests are committed
+-- at numbers of terms: the journal is the text of a lawful history of the block, behind which so
+-- many requests are committed
 pub record IsJournalAt (base : Base) (block : List (Request Id)) (journal : List ℕ) (front : ℕ) : Type 0 where
   pub book : Run
   pub terms_are : book.terms ≡ base.terms
@@ -62,7 +63,8 @@ pub record IsJournalOf (before : Dataset Term) (requests : List (Request Term)) 
   pub numbered : IsNumbered before requests base block
   pub journal_is : IsJournalAt base block journal front
 
--- the canonical text of the dataset after the first n requests, with the tag of the dataset before them, and their reply lines
+-- the canonical text of the dataset after the first n requests, with the tag of the dataset before
+-- them, and their reply lines
 pub record IsAnswerAfter (n : ℕ) (before : Dataset Term) (requests : List (Request Term)) (dataset replies : List ℕ) : Type 0 where
   pub tag : ℕ
   pub tagged : IsTagOf before tag
@@ -75,7 +77,8 @@ pub record IsReplay (before : Dataset Term) (requests : List (Request Term)) (jo
   pub journal_is : IsJournalOf before requests journal front
   pub answer : IsAnswerAfter front before requests dataset replies
 
--- the first bad entry of the journal, or the first that is not lawful; memory may run out at any journal
+-- the first bad entry of the journal, or the first that is not lawful; memory may run out at any
+-- journal
 abbrev pub IsReplayFault : (before : Dataset Term) (requests : List (Request Term)) (journal : List ℕ) → Fault → Type 0
 IsReplayFault before requests journal (told.BadEntry n) = (base : Base) × (block : List (Request Id)) × IsNumbered before requests base block × IsFirstBad base.tag journal n
 IsReplayFault before requests journal (told.Illegal n) =

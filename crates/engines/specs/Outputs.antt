@@ -12,15 +12,16 @@ use Rattle.canonical_nquads.specs.Tag.{IsTagOf}
 use Rattle.command_line.specs.Replies.{reply_lines}
 use Rattle.engines.specs.Inputs.{IsBaseAnswer, IsBlockAnswer}
 
--- the answer to a dataset and a block: the canonical text of the dataset after the sequential run, with the tag of the dataset before it,
--- and the reply lines
+-- the answer to a dataset and a block: the canonical text of the dataset after the sequential run,
+-- with the tag of the dataset before it, and the reply lines
 pub record IsAnswerTo (before : Dataset Term) (requests : List (Request Term)) (dataset replies : List ℕ) : Type 0 where
   pub tag : ℕ
   pub tagged : IsTagOf before tag
   pub dataset_is : dataset ≡ canonical (run written requests before).0 tag
   pub replies_are : replies ≡ reply_lines (run written requests before).1
 
--- the output for the bytes of a base and of a block: the answer to the dataset that the base spells and the block's requests
+-- the output for the bytes of a base and of a block: the answer to the dataset that the base spells
+-- and the block's requests
 pub record IsOutput (base block dataset replies : List ℕ) : Type 0 where
   pub before : Dataset Term
   pub requests : List (Request Term)
@@ -45,8 +46,8 @@ Grew writer text = Appends writer.before writer.after text
 abbrev pub GrewInPart : Taken → List ℕ → Type 0
 GrewInPart writer text = (n : ℕ) × Appends writer.before writer.after (take n text)
 
--- one of two writers failed: of the first text a beginning was written and of the second nothing, or the first is whole and of the second a
--- beginning was written
+-- one of two writers failed: of the first text a beginning was written and of the second nothing,
+-- or the first is whole and of the second a beginning was written
 abbrev pub IsPart : (first second : Taken) → (text later : List ℕ) → Type 0
 IsPart first second text later =
     (GrewInPart first text × Keeps second.before second.after) ⊎ (Grew first text × GrewInPart second later)

@@ -9,7 +9,8 @@ use Rattle.command_line.specs.declared.fault.Fault.TheVariants as told
 use Rattle.command_line.specs.declared.fault.File.TheVariants as file
 use Rattle.engines.specs.Outputs.{Taken, Grew, GrewInPart}
 
--- the verdicts on the block's requests, or the fault of the block; memory may run out and a read may fail at any block
+-- the verdicts on the block's requests, or the fault of the block; memory may run out and a read
+-- may fail at any block
 abbrev pub IsJudgement : List ℕ → Result (List (Option Refusal)) Fault → Type 0
 IsJudgement text (Ok verdicts) = AreVerdicts text (Ok verdicts)
 IsJudgement text (Err told.BlockTooLong) = AreVerdicts text (Err block_faults.TooLong)

@@ -11,9 +11,10 @@ use devices::Watched;
 use std::alloc::Global;
 use std::io::{Read, Write};
 
-/// Reads a block, and writes one line a request, in order: whether it is accepted, or why it is refused. Nothing is run. The text is made
-/// before the writer is touched; then it is written and flushed, also where it is empty. A fault is the first that comes: of the block,
-/// want of memory, or of the writer.
+/// Reads a block, and writes one line a request, in order: whether it is accepted, or why it is
+/// refused. Nothing is run. The text is made before the writer is touched; then it is written and
+/// flushed, also where it is empty. A fault is the first that comes: of the block, want of memory,
+/// or of the writer.
 pub fn check_engine<K: Read, A: Write>(
     alloc: Global,
     block: &mut Watched<K>,

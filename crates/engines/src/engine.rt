@@ -27,7 +27,8 @@ use std::mem::forget;
 use store::Base;
 use terms::DataSet;
 
-/// A way to read a base and a block, to run the block at numbers of terms, and to make the text of a dataset.
+/// A way to read a base and a block, to run the block at numbers of terms, and to make the text of
+/// a dataset.
 pub trait Runs {
     ghost use Rattle.std.specs.Prelude.{◌≡◌, ◌<◌, ◌≤◌, ◌-◌, ◌^◌, true, length, IfOk, IfSome};
     ghost use Rattle.update.specs.Asked.{AreShort};
@@ -53,7 +54,8 @@ pub trait Runs {
             base.new.failures }
         ensures others { TellsNoOther File.Base result };
 
-    /// The requests of the block that a reader gives. `CannotRead` comes where a read failed, and only there.
+    /// The requests of the block that a reader gives. `CannotRead` comes where a read failed, and
+    /// only there.
     fn requests<R: Read>(&self, alloc: Global, block: &mut Watched<R>) -> Result<Block, Fault>
         requires ready { Ready }
         requires failures { block.old.failures < 2 ^ 64 - 1 }
@@ -69,15 +71,16 @@ pub trait Runs {
         requires ready { Ready }
         ensures { IfOk result (λ n. IsNumbered dataset block n.base n.block.items) };
 
-    /// The outcome of the whole block, whose requests are fewer than 2^32. An `Err` is want of memory.
+    /// The outcome of the whole block, whose requests are fewer than 2^32. An `Err` is want of
+    /// memory.
     fn outcome(&self, alloc: Global, numbered: &Numbered) -> Result<Outcome, AllocError>
         requires ready { Ready }
         requires few { length numbered.now.block.items < 2 ^ 32 }
         requires short { AreShort numbered.now.block.items }
         ensures { IfOk result (λ outcome. IsWhole numbered.now.base.terms numbered.now.base.dataset numbered.now.block.items outcome.dataset outcome.replies) };
 
-    /// The dataset of terms that one at numbers stands for, where neither the base nor the block is needed any more: what is left of them is let
-    /// go. An `Err` is want of memory.
+    /// The dataset of terms that one at numbers stands for, where neither the base nor the block is
+    /// needed any more: what is left of them is let go. An `Err` is want of memory.
     fn named(
         &self,
         alloc: Global,
@@ -90,7 +93,8 @@ pub trait Runs {
         requires dataset { IsDataset term_order (renamed (term_of base.terms) dataset) }
         ensures { IfOk result (λ answer. answer ≡ renamed (term_of base.terms) dataset) };
 
-    /// The canonical text of a dataset, with this tag of the made nodes, in pieces that stand one behind another. An `Err` is want of memory.
+    /// The canonical text of a dataset, with this tag of the made nodes, in pieces that stand one
+    /// behind another. An `Err` is want of memory.
     fn text(&self, alloc: Global, dataset: &DataSet, tag: u32) -> Result<Vec<Vec<u8>>, AllocError>
         requires ready { Ready }
         ensures { IfOk result (λ pieces. text_of_pieces pieces.items ≡ canonical dataset.now tag) };
@@ -100,7 +104,8 @@ pub trait Runs {
         requires ready { Ready };
 }
 
-/// The dataset of terms that one at numbers of a base's terms stands for. Of the base only its terms are left. An `Err` is want of memory.
+/// The dataset of terms that one at numbers of a base's terms stands for. Of the base only its
+/// terms are left. An `Err` is want of memory.
 pub fn named_with(alloc: Global, base: Base, dataset: CompactView) -> Result<DataSet, AllocError>
     requires known { dataset_known (is_known base.terms) dataset ≡ true }
     requires dataset { IsDataset term_order (renamed (term_of base.terms) dataset) }
@@ -109,8 +114,9 @@ pub fn named_with(alloc: Global, base: Base, dataset: CompactView) -> Result<Dat
     named(alloc, base.into_terms(), dataset)
 }
 
-/// The texts of an outcome at numbers of terms: the canonical text of its dataset, with the tag of the base, and its reply lines. What is not
-/// needed any more is let go before the texts are made. An `Err` is want of memory.
+/// The texts of an outcome at numbers of terms: the canonical text of its dataset, with the tag of
+/// the base, and its reply lines. What is not needed any more is let go before the texts are made.
+/// An `Err` is want of memory.
 pub fn texts_of_outcome<W: Runs>(
     way: &W,
     alloc: Global,
@@ -131,7 +137,8 @@ pub fn texts_of_outcome<W: Runs>(
     let tag = base.tag();
     let answer = way.named(alloc, base, block, dataset)?;
     let text = way.text(alloc, &answer, tag)?;
-    // Only writing is left. To let each term go would take as long, and the process's end lets all go at once.
+    // Only writing is left. To let each term go would take as long, and the process's end lets all
+    // go at once.
     forget(answer);
     Ok(Texts {
         dataset: text,
@@ -160,9 +167,11 @@ fn texts_of<W: Runs>(
     Ok(texts)
 }
 
-/// Reads a base and a block, runs the block in this way, and writes the canonical text of the new dataset and one line a request. The base
-/// is read before the block, and all texts are made before a writer is touched; then the dataset and the replies are written in this order,
-/// each flushed, also where it is empty. A fault is the first that comes: of the base, of the block, want of memory, or of a writer.
+/// Reads a base and a block, runs the block in this way, and writes the canonical text of the new
+/// dataset and one line a request. The base is read before the block, and all texts are made before
+/// a writer is touched; then the dataset and the replies are written in this order, each flushed,
+/// also where it is empty. A fault is the first that comes: of the base, of the block, want of
+/// memory, or of a writer.
 pub fn run_by<W: Runs, B: Read, K: Read, D: Write, A: Write>(
     way: &W,
     alloc: Global,

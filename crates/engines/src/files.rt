@@ -60,7 +60,8 @@ impl<R: Files> Read for InFile<'_, R> {
     }
 }
 
-/// A file that is made at the first write or flush. Contracts see its path, and the file once it is made.
+/// A file that is made at the first write or flush. Contracts see its path, and the file once it is
+/// made.
 #[derive(Drop)]
 pub struct OutFile<'a, R: Files> {
     files: &'a R,

@@ -69,10 +69,11 @@ impl Runs for OneByOne {
     }
 }
 
-/// Reads a base and a block, runs the block by one thread, one request after another, and writes the canonical text of the new dataset and
-/// one line a request. The base is read before the block, and all texts are made before a writer is touched; then the dataset and the
-/// replies are written in this order, each flushed, also where it is empty. A fault is the first that comes: of the base, of the block,
-/// want of memory, or of a writer.
+/// Reads a base and a block, runs the block by one thread, one request after another, and writes
+/// the canonical text of the new dataset and one line a request. The base is read before the block,
+/// and all texts are made before a writer is touched; then the dataset and the replies are written
+/// in this order, each flushed, also where it is empty. A fault is the first that comes: of the
+/// base, of the block, want of memory, or of a writer.
 pub fn serial_engine<B: Read, K: Read, D: Write, A: Write>(
     alloc: Global,
     base: &mut Watched<B>,

@@ -75,7 +75,8 @@ pub fn read_base<R: Read>(alloc: Global, reader: &mut Watched<R>) -> Result<Data
     }
 }
 
-/// The dataset that a base spells, read by so many threads. `CannotRead` comes where a read failed, and only there.
+/// The dataset that a base spells, read by so many threads. `CannotRead` comes where a read failed,
+/// and only there.
 pub fn read_base_by<T: Threads + Sync, R: Read>(
     rt: &T,
     alloc: Global,
@@ -134,7 +135,8 @@ fn cut_by<T: Threads + Sync>(
     }
 }
 
-/// The requests of the block that a reader gives. `CannotRead` comes where a read failed, and only there.
+/// The requests of the block that a reader gives. `CannotRead` comes where a read failed, and only
+/// there.
 pub fn read_block<R: Read>(alloc: Global, reader: &mut Watched<R>) -> Result<Block, Fault>
     requires { reader.old.failures < 2 ^ 64 - 1 }
     ensures answer { IfSome (R.remaining reader.old.inner) (λ text. IsBlockAnswer text result) }
@@ -151,7 +153,8 @@ pub fn read_block<R: Read>(alloc: Global, reader: &mut Watched<R>) -> Result<Blo
     cut(alloc, bytes.as_slice())
 }
 
-/// The requests of the block that a reader gives, checked by so many threads. `CannotRead` comes where a read failed, and only there.
+/// The requests of the block that a reader gives, checked by so many threads. `CannotRead` comes
+/// where a read failed, and only there.
 pub fn read_block_by<T: Threads + Sync, R: Read>(
     rt: &T,
     alloc: Global,
@@ -185,8 +188,8 @@ fn judged(alloc: Global, bytes: &[u8]) -> Result<Items<Verdict>, Fault>
     }
 }
 
-/// The verdicts on the requests of the block that a reader gives: whether each is accepted, or why it is refused. `CannotRead` comes
-/// where a read failed, and only there.
+/// The verdicts on the requests of the block that a reader gives: whether each is accepted, or why
+/// it is refused. `CannotRead` comes where a read failed, and only there.
 pub fn read_verdicts<R: Read>(
     alloc: Global,
     reader: &mut Watched<R>,
@@ -204,7 +207,8 @@ pub fn read_verdicts<R: Read>(
     judged(alloc, bytes.as_slice())
 }
 
-/// The bytes of the journal that a reader gives. `CannotRead` comes where a read failed, and only there; any other fault is want of memory.
+/// The bytes of the journal that a reader gives. `CannotRead` comes where a read failed, and only
+/// there; any other fault is want of memory.
 pub fn read_journal_bytes<R: Read>(alloc: Global, reader: &mut Watched<R>) -> Result<Vec<u8>, Fault>
     requires { reader.old.failures < 2 ^ 64 - 1 }
     ensures bytes { IfOk result (λ bytes. IfSome (R.remaining reader.old.inner)

@@ -11,14 +11,16 @@ use command_line::{Fault, File};
 use devices::{Failed, Watched};
 use std::io::Write;
 
-/// The canonical text of the new dataset, in pieces that stand one behind another, and the reply lines.
+/// The canonical text of the new dataset, in pieces that stand one behind another, and the reply
+/// lines.
 #[derive(Drop)]
 pub struct Texts {
     pub dataset: Vec<Vec<u8>>,
     pub replies: String,
 }
 
-/// Writes a text and flushes it, also where it is empty. An `Err` comes where a write or the flush failed.
+/// Writes a text and flushes it, also where it is empty. An `Err` comes where a write or the flush
+/// failed.
 fn write_and_flush<W: Write>(writer: &mut Watched<W>, text: &[u8]) -> Result<(), Failed>
     requires { writer.old.failures < 2 ^ 64 - 1 }
     ensures ok { OnOk result (Grew (taken W.contents writer.old.inner writer.new.inner) text.now) }
@@ -34,7 +36,8 @@ fn write_and_flush<W: Write>(writer: &mut Watched<W>, text: &[u8]) -> Result<(),
     }
 }
 
-/// Writes a text of the answer and flushes it, also where it is empty. An `Err` comes where a write or the flush failed.
+/// Writes a text of the answer and flushes it, also where it is empty. An `Err` comes where a write
+/// or the flush failed.
 pub(crate) fn write_text<W: Write>(writer: &mut Watched<W>, text: &[u8]) -> Result<(), Fault>
     requires { writer.old.failures < 2 ^ 64 - 1 }
     ensures ok { OnOk result (Grew (taken W.contents writer.old.inner writer.new.inner) text.now) }
@@ -50,7 +53,8 @@ pub(crate) fn write_text<W: Write>(writer: &mut Watched<W>, text: &[u8]) -> Resu
     }
 }
 
-/// Writes the text of a journal and flushes it, also where it is empty. An `Err` comes where a write or the flush failed.
+/// Writes the text of a journal and flushes it, also where it is empty. An `Err` comes where a
+/// write or the flush failed.
 pub fn write_journal<W: Write>(writer: &mut Watched<W>, text: &[u8]) -> Result<(), Fault>
     requires { writer.old.failures < 2 ^ 64 - 1 }
     ensures ok { OnOk result (Grew (taken W.contents writer.old.inner writer.new.inner) text.now) }
@@ -67,7 +71,8 @@ pub fn write_journal<W: Write>(writer: &mut Watched<W>, text: &[u8]) -> Result<(
     }
 }
 
-/// Writes the pieces of a text, one after another, and lets each go that is written. An `Err` comes where a write failed.
+/// Writes the pieces of a text, one after another, and lets each go that is written. An `Err` comes
+/// where a write failed.
 fn write_pieces<Y: Runs, W: Write>(
     way: &Y,
     writer: &mut Watched<W>,
@@ -89,7 +94,8 @@ fn write_pieces<Y: Runs, W: Write>(
     Ok(())
 }
 
-/// The same, and flushes the writer, also where the text is empty. An `Err` comes where a write or the flush failed.
+/// The same, and flushes the writer, also where the text is empty. An `Err` comes where a write or
+/// the flush failed.
 fn write_pieces_and_flush<Y: Runs, W: Write>(
     way: &Y,
     writer: &mut Watched<W>,
@@ -109,8 +115,8 @@ fn write_pieces_and_flush<Y: Runs, W: Write>(
     writer.flush()
 }
 
-/// Writes the dataset's text, of which these are the pieces, and flushes it, also where it is empty. An `Err` comes where a write or the flush
-/// failed.
+/// Writes the dataset's text, of which these are the pieces, and flushes it, also where it is
+/// empty. An `Err` comes where a write or the flush failed.
 fn write_dataset<Y: Runs, W: Write>(
     way: &Y,
     writer: &mut Watched<W>,
@@ -132,7 +138,8 @@ fn write_dataset<Y: Runs, W: Write>(
     }
 }
 
-/// Writes the dataset, then the replies, each flushed, also where it is empty. An `Err` comes where a write or a flush failed.
+/// Writes the dataset, then the replies, each flushed, also where it is empty. An `Err` comes where
+/// a write or a flush failed.
 pub fn write_texts<Y: Runs, D: Write, A: Write>(
     way: &Y,
     texts: Texts,

@@ -89,10 +89,12 @@ fn texts_of_journal(
     }
 }
 
-/// Reads a base, a block and a journal, replays the journal, and writes the canonical text of the dataset that its committed requests end with and
-/// one line for each of them, also where they are not the whole block. The base is read before the block and the block before the journal, and
-/// all texts are made before a writer is touched; then the dataset and the replies are written in this order, each flushed, also where it is
-/// empty. A fault is the first that comes: of the base, of the block, of the journal, want of memory, or of a writer.
+/// Reads a base, a block and a journal, replays the journal, and writes the canonical text of the
+/// dataset that its committed requests end with and one line for each of them, also where they are
+/// not the whole block. The base is read before the block and the block before the journal, and all
+/// texts are made before a writer is touched; then the dataset and the replies are written in this
+/// order, each flushed, also where it is empty. A fault is the first that comes: of the base, of
+/// the block, of the journal, want of memory, or of a writer.
 pub fn replay_engine<B: Read, K: Read, J: Read, D: Write, A: Write>(
     alloc: Global,
     base: &mut Watched<B>,

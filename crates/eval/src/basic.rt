@@ -101,7 +101,8 @@ fn told_first<'n, F>(
     Ok((found, others))
 }
 
-// The solutions of triple patterns, joined in order, from the first of some notes, and the other notes.
+// The solutions of triple patterns, joined in order, from the first of some notes, and the other
+// notes.
 fn told_joined<'n, F>(
     query: &Query<'_, F>,
     patterns: &[TriplePattern<Id>],
@@ -124,8 +125,8 @@ fn told_joined<'n, F>(
     Ok((found, left))
 }
 
-/// The solutions of a basic graph pattern in a graph of each changed dataset that agrees with the notes. Each triple pattern is asked for
-/// by one scan, in order, and all at once.
+/// The solutions of a basic graph pattern in a graph of each changed dataset that agrees with the
+/// notes. Each triple pattern is asked for by one scan, in order, and all at once.
 pub fn solve_basic<S: Source, F>(
     query: &Query<'_, F>,
     patterns: &[TriplePattern<Id>],
@@ -146,8 +147,8 @@ pub fn solve_basic<S: Source, F>(
     Ok(found)
 }
 
-/// The solutions of a basic graph pattern that pass each filter, unless there are more than the limit. Its last join ends as soon as
-/// there are.
+/// The solutions of a basic graph pattern that pass each filter, unless there are more than the
+/// limit. Its last join ends as soon as there are.
 #[tactic(auto, using(crate::proofs::Few::few_of))]
 pub fn solve_basic_up_to<S: Source, F: Filters>(
     query: &Query<'_, F>,

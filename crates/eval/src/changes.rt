@@ -15,7 +15,8 @@ use reads::lists::{copied_names, names_union};
 use sets::is_member;
 use std::alloc::{AllocError, Global};
 
-/// The quads of a pattern after the changes, from those that were told before them. What doesn't match is left out, and so are doubles.
+/// The quads of a pattern after the changes, from those that were told before them. What doesn't
+/// match is left out, and so are doubles.
 pub fn quads_after(
     alloc: Global,
     changes: &Delta,
@@ -78,7 +79,8 @@ fn quads_replaced(
     Ok((present, absent))
 }
 
-/// The change that goes on with quads deleted and then others inserted, whose graphs come to be there.
+/// The change that goes on with quads deleted and then others inserted, whose graphs come to be
+/// there.
 pub fn replaced(
     alloc: Global,
     changes: &Delta,

@@ -1,8 +1,8 @@
-//! The solutions of a pattern, from what a source answers, through the changes that a request made so far. Stands on `reads` and
-//! `solution`.
+//! The solutions of a pattern, from what a source answers, through the changes that a request made
+//! so far. Stands on `reads` and `solution`.
 //!
-//! Each answer is noted as it came. The contract used above: whatever the source answers, `solve` gives the solutions of the pattern in
-//! each changed dataset that agrees with the notes.
+//! Each answer is noted as it came. The contract used above: whatever the source answers, `solve`
+//! gives the solutions of the pattern in each changed dataset that agrees with the notes.
 #![tactic(auto)]
 
 mod basic;

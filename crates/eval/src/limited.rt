@@ -42,8 +42,9 @@ fn kept_up_to<F: Filters>(
     Ok(kept.up_to(limit))
 }
 
-// What a group comes to that goes on with a pattern, where it passes each filter, unless there are more than the limit. A join ends as soon
-// as there are, and so does an OPTIONAL that no filters stand over.
+// What a group comes to that goes on with a pattern, where it passes each filter, unless there are
+// more than the limit. A join ends as soon as there are, and so does an OPTIONAL that no filters
+// stand over.
 #[tactic(auto, using(crate::proofs::Few::few_of))]
 fn combined_up_to<F: Filters>(
     query: &Query<'_, F>,
@@ -75,7 +76,8 @@ fn combined_up_to<F: Filters>(
     }
 }
 
-// The solutions of a pattern that pass each filter, unless there are more than the limit. All are made first.
+// The solutions of a pattern that pass each filter, unless there are more than the limit. All are
+// made first.
 fn solve_whole_up_to<S: Source, F: Filters>(
     query: &Query<'_, F>,
     plan: &Plan<Id>,
@@ -101,9 +103,10 @@ fn solve_whole_up_to<S: Source, F: Filters>(
     Ok(kept)
 }
 
-/// The solutions of a pattern that pass each filter, with this graph as the active one, in each changed dataset that agrees with the notes,
-/// unless there are more than the limit. The last join of the pattern ends as soon as there are, and so does its last OPTIONAL where no
-/// filters stand over it.
+/// The solutions of a pattern that pass each filter, with this graph as the active one, in each
+/// changed dataset that agrees with the notes, unless there are more than the limit. The last join
+/// of the pattern ends as soon as there are, and so does its last OPTIONAL where no filters stand
+/// over it.
 #[cycle(solve_up_to)]
 #[tactic(auto, using(asking::proofs::Notes::goes_on, asking::proofs::Notes::goes_short, asking::proofs::Notes::goes_as))]
 pub fn solve_up_to<S: Source, F: Filters>(
@@ -192,7 +195,8 @@ fn solve_parts_up_to<S: Source, F: Filters>(
     Ok(found)
 }
 
-// The same for a pattern in the graph of this name, or in each. A name is asked for first, and where it is absent nothing within.
+// The same for a pattern in the graph of this name, or in each. A name is asked for first, and
+// where it is absent nothing within.
 #[cycle(solve_up_to)]
 #[tactic(auto, using(asking::proofs::Notes::goes_on, asking::proofs::Notes::goes_short, asking::proofs::Notes::goes_as))]
 fn solve_in_up_to<S: Source, F: Filters>(

@@ -35,7 +35,8 @@ fn names_of(answer: &Answered) -> &[Id]
     }
 }
 
-/// Whether there is a graph of this name, in each changed dataset that agrees with the notes. It asks for the name and nothing else.
+/// Whether there is a graph of this name, in each changed dataset that agrees with the notes. It
+/// asks for the name and nothing else.
 pub fn is_graph<S: Source>(
     alloc: Global,
     name: Id,
@@ -54,7 +55,8 @@ pub fn is_graph<S: Source>(
     Ok(is_named_after(changes, name, was_there))
 }
 
-/// The names of the graphs, in each changed dataset that agrees with the notes. It asks for the names and nothing else.
+/// The names of the graphs, in each changed dataset that agrees with the notes. It asks for the
+/// names and nothing else.
 pub fn graphs<S: Source>(
     alloc: Global,
     changes: &Delta,

@@ -19,7 +19,8 @@ use quad_sets::QuadSet;
 use reads::{Answered, Note, Source, Stop};
 use std::alloc::{AllocError, Global};
 
-/// The quads of a pattern after the changes, from an answer that was told before them. An answer of another kind counts as no quads.
+/// The quads of a pattern after the changes, from an answer that was told before them. An answer of
+/// another kind counts as no quads.
 pub(crate) fn told_after(
     alloc: Global,
     changes: &Delta,
@@ -36,7 +37,8 @@ pub(crate) fn told_after(
     }
 }
 
-/// The quads of a pattern, in each changed dataset that agrees with the notes. It asks for the pattern's quads and nothing else.
+/// The quads of a pattern, in each changed dataset that agrees with the notes. It asks for the
+/// pattern's quads and nothing else.
 pub fn scan<S: Source>(
     alloc: Global,
     pattern: &QuadPattern<Id>,

@@ -41,7 +41,8 @@ fn combined<F: Filters>(
     }
 }
 
-/// The solutions of a pattern, with this graph as the active one, in each changed dataset that agrees with the notes.
+/// The solutions of a pattern, with this graph as the active one, in each changed dataset that
+/// agrees with the notes.
 #[cycle(solve)]
 #[tactic(auto, using(asking::proofs::Notes::goes_on, asking::proofs::Notes::goes_short, asking::proofs::Notes::goes_as))]
 pub fn solve<S: Source, F: Filters>(
@@ -126,8 +127,8 @@ fn solve_union<S: Source, F: Filters>(
     Ok(found)
 }
 
-/// The solutions of a pattern in the graph of this name, or in each. A name is asked for first, and where it is absent nothing within; for
-/// a variable all names are asked for.
+/// The solutions of a pattern in the graph of this name, or in each. A name is asked for first, and
+/// where it is absent nothing within; for a variable all names are asked for.
 #[cycle(solve)]
 #[tactic(auto, using(asking::proofs::Notes::goes_on, asking::proofs::Notes::goes_short, asking::proofs::Notes::goes_as))]
 pub(crate) fn solve_in<S: Source, F: Filters>(

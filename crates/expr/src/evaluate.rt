@@ -53,8 +53,9 @@ fn bound<'a>(dict: &'a Dict, id: Option<Id>) -> Outcome<'a>
     }
 }
 
-/// The value of an expression under a mapping (SPARQL 1.1 Query, 17.2 to 17.4), at numbers of terms. It takes memory only for STR of a
-/// computed integer, and where a computed integer is compared with a literal as a term.
+/// The value of an expression under a mapping (SPARQL 1.1 Query, 17.2 to 17.4), at numbers of
+/// terms. It takes memory only for STR of a computed integer, and where a computed integer is
+/// compared with a literal as a term.
 pub fn value<'a>(
     alloc: Global,
     dict: &'a Dict,

@@ -9,7 +9,8 @@ use solution::{Filters, Mapping};
 use std::alloc::{AllocError, Global};
 use std::marker::Model;
 
-/// Decides filters at numbers of terms, by the dictionary of the terms. Contracts see the list of the terms.
+/// Decides filters at numbers of terms, by the dictionary of the terms. Contracts see the list of
+/// the terms.
 #[derive(Drop)]
 pub struct Filtering<'a> {
     dict: &'a Dict,

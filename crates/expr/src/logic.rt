@@ -24,7 +24,8 @@ impl Reading<'_> {
     }
 }
 
-/// The effective boolean value of a value (SPARQL 1.1 Query, 17.2.2), and nothing where that is an error.
+/// The effective boolean value of a value (SPARQL 1.1 Query, 17.2.2), and nothing where that is an
+/// error.
 #[tactic(auto, using(crate::proofs::OutcomeLaws::effective_some, crate::proofs::OutcomeLaws::effective_none))]
 pub fn effective(value: &Outcome<'_>) -> Option<bool>
     ensures { result ≡ effective_of (seen value.entry.now) }

@@ -2,8 +2,8 @@
 
 use terms::Term;
 
-/// The value of an expression (SPARQL 1.1 Query, 17.2): an error, a term of the dictionary, a node that a request made, or a term that
-/// was computed.
+/// The value of an expression (SPARQL 1.1 Query, 17.2): an error, a term of the dictionary, a node
+/// that a request made, or a term that was computed.
 #[derive(Drop)]
 pub enum Outcome<'a> {
     Error,

@@ -211,7 +211,8 @@ fn is_same_integer(a: i64, b: i64) -> bool
     a.cmp(&b).is_eq()
 }
 
-/// Whether two terms are one (SPARQL 1.1 Query, 17.4.1.8). It takes memory only where a literal is compared with a computed integer.
+/// Whether two terms are one (SPARQL 1.1 Query, 17.4.1.8). It takes memory only where a literal is
+/// compared with a computed integer.
 pub fn is_same_term(alloc: Global, a: Parts<'_>, b: Parts<'_>) -> Result<bool, AllocError>
     ensures { IfOk result (λ so. so ≡ is_same_term (whole a.entry) (whole b.entry)) }
 {

@@ -1,4 +1,5 @@
--- The levels of operators, and what stands in parentheses: what is read is in the grammar, and what is in it is read.
+-- The levels of operators, and what stands in parentheses: what is read is in the grammar, and what
+-- is in it is read.
 use Rattle.std.proofs.Common.{ℕ, zero, suc}
 use Rattle.syntax_trees.specs.declared.expression.Level.{Level}
 use Rattle.syntax_trees.specs.declared.expression.Level.TheVariants as level

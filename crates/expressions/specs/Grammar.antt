@@ -1,6 +1,7 @@
--- The grammar of filter expressions, by its productions (SPARQL 1.1 Query, 19.8, productions 69 and 110 to 121, in this profile).
--- `ReadsX .. ts e rest`: the production reads e at the front of the tokens ts, and rest follows. `Inner` is an expression in parentheses, and n
--- is how deep parentheses may nest.
+-- The grammar of filter expressions, by its productions (SPARQL 1.1 Query, 19.8, productions 69 and
+-- 110 to 121, in this profile). `ReadsX .. ts e rest`: the production reads e at the front of the
+-- tokens ts, and rest follows. `Inner` is an expression in parentheses, and n is how deep
+-- parentheses may nest.
 use Rattle.std.specs.Prelude.{ℕ, zero, suc, ◌≡◌, ◌<◌, true, List, ◌∷◌, Some, codes}
 use Rattle.lexer.specs.declared.token.Token.{Token}
 use Rattle.lexer.specs.declared.token.Token.TheVariants as token

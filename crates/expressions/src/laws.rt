@@ -4,7 +4,8 @@ ghost use Rattle.productions.specs.Steps.{Takes};
 ghost use Rattle.expressions.specs.Grammar.{ReadsConstraint};
 ghost use Rattle.expressions.specs.Reading.{ConstraintsAreFound, ConstraintsAreRead};
 
-/// What is read as a constraint is one, each takes a token or more, and each is read, whatever follows it.
+/// What is read as a constraint is one, each takes a token or more, and each is read, whatever
+/// follows it.
 pub fn constraints_are_read()
     ensures found { ConstraintsAreFound }
     ensures takes { (n : ℕ) → Takes (ReadsConstraint n) }

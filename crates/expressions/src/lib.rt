@@ -1,7 +1,8 @@
 //! Filter expressions, and what may follow FILTER.
 //!
-//! Stands on `productions`, `syntax_trees`, `lexer`, `iris` and `sets`. Used above: `constraint_at` answers what the reading of this name
-//! gives, and `laws::constraints_are_read` says that it is the one that the grammar gives.
+//! Stands on `productions`, `syntax_trees`, `lexer`, `iris` and `sets`. Used above: `constraint_at`
+//! answers what the reading of this name gives, and `laws::constraints_are_read` says that it is
+//! the one that the grammar gives.
 #![tactic(auto)]
 
 mod build;

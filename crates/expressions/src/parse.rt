@@ -204,8 +204,9 @@ fn call_at<'t, 'a>(
     }
 }
 
-/// What may follow FILTER (SPARQL 1.1 Query, 19.8, production 69), an expression in parentheses or a call, at the front of the tokens, and
-/// what follows it. Its parentheses nest at most `depth` deep, the first included. `NoReading` where none is there.
+/// What may follow FILTER (SPARQL 1.1 Query, 19.8, production 69), an expression in parentheses or
+/// a call, at the front of the tokens, and what follows it. Its parentheses nest at most `depth`
+/// deep, the first included. `NoReading` where none is there.
 #[tactic(auto, unfolding(crate::specs::Reading::constraint_at))]
 pub fn constraint_at<'t, 'a>(
     alloc: Global,

@@ -1,4 +1,5 @@
--- What requests are refused for (SPARQL 1.1 Update, 19.8, notes 8 to 12, and the limits of this program).
+-- What requests are refused for (SPARQL 1.1 Update, 19.8, notes 8 to 12, and the limits of this
+-- program).
 use Rattle.std.specs.Prelude.{ℕ, ◌+◌, ◌^◌, ◌||◌, Bool, true, false, List, [], ◌∷◌, nat_lt, is_none}
 use Rattle.std.specs.List.{list_any}
 use Rattle.meaning.specs.declared.reply.Refusal.{Refusal}

@@ -19,7 +19,8 @@ is_among kinds refusal.BlankInDelete = kinds.blank_in_delete
 is_among kinds refusal.LabelReused = kinds.label_reused
 is_among kinds refusal.Limit = kinds.limit
 
--- what an operation is refused for after these declarations and labels, but for limits, which are of a whole request
+-- what an operation is refused for after these declarations and labels, but for limits, which are
+-- of a whole request
 pub record AreKindsAt (ds : Prefixes) (seen : Labels) (op : Operation) (kinds : Kinds) : Type 0 where
   pub syntax : kinds.syntax ≡ is_refused refusal.Syntax ds op
   pub prefix : kinds.prefix ≡ is_refused refusal.Prefix ds op

@@ -41,8 +41,8 @@ fn is_over(bytes: usize, operations: usize) -> bool
     bytes > MOST_BYTES || operations > MOST_OPERATIONS
 }
 
-/// A walk over the steps of a request: what it found so far, and what the steps that are left are judged by, the prefixes declared and the labels of
-/// INSERT DATA. After an error it is of no use.
+/// A walk over the steps of a request: what it found so far, and what the steps that are left are
+/// judged by, the prefixes declared and the labels of INSERT DATA. After an error it is of no use.
 #[derive(Drop)]
 pub struct Walk<'a> {
     /// The prefixes declared so far.
@@ -75,7 +75,8 @@ impl<'a> Walk<'a> {
         self.prefixes.declare(prefix, iri)
     }
 
-    /// The next step, an operation: finds its faults. An error comes only where a growth was refused, or where INSERT DATA has 2^32 labels.
+    /// The next step, an operation: finds its faults. An error comes only where a growth was
+    /// refused, or where INSERT DATA has 2^32 labels.
     pub fn see(&mut self, nodes: &OperationNodes<'_, 'a>) -> Result<(), AllocError>
         ensures kinds { OnOk result ((rest : List Step) → kinds_with self.new rest
             ≡ kinds_with self.old (step.Do nodes.now ∷ rest)) }
@@ -120,8 +121,9 @@ fn take<'a>(alloc: Global, walk: &mut Walk<'a>, next: &Step<'a>) -> Result<(), A
     }
 }
 
-/// The kinds of fault that a request is refused for (SPARQL 1.1 Update, 19.8, notes 8 to 12, and the limits of this program), found in one
-/// walk. An error comes only where a growth was refused, or where INSERT DATA has 2^32 labels.
+/// The kinds of fault that a request is refused for (SPARQL 1.1 Update, 19.8, notes 8 to 12, and
+/// the limits of this program), found in one walk. An error comes only where a growth was refused,
+/// or where INSERT DATA has 2^32 labels.
 pub fn kinds_in(alloc: Global, syntax: &Syntax<'_>) -> Result<Kinds, AllocError>
     ensures { IfOk result (AreKindsIn syntax.now) }
 {

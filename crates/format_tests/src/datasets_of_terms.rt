@@ -80,7 +80,8 @@ fn add(dataset: &mut DataSet, labels: [u32; 3], graph: Option<Term>) -> Result<(
     })
 }
 
-/// Puts in a quad in a graph, the triple of this turned round in the default graph, and an empty graph.
+/// Puts in a quad in a graph, the triple of this turned round in the default graph, and an empty
+/// graph.
 fn fill(dataset: &mut DataSet) -> Result<(), AllocError> {
     add(dataset, [6, 5, 4], Some(made(8)))?;
     add(dataset, [4, 5, 6], None)?;
@@ -174,7 +175,8 @@ fn literal(alloc: Global, datatype: &str, tag: Option<&str>) -> Result<Option<Li
     Ok(Literal::new(alloc, lexical, datatype, tag)?)
 }
 
-/// Whether a copy of the literal of a line end with this datatype and this tag has them, if there is one.
+/// Whether a copy of the literal of a line end with this datatype and this tag has them, if there
+/// is one.
 fn has_parts(alloc: Global, datatype: &str, tag: Option<&str>) -> Result<Option<bool>, Fail> {
     let Some(literal) = literal(alloc, datatype, tag)? else {
         return Ok(None);

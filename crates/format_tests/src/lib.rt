@@ -1,5 +1,5 @@
-//! Worked examples of lists, IRIs, terms and datasets, of N-Quads texts and the datasets that they spell, of journals' texts, and of readers and
-//! writers that are slow or fail.
+//! Worked examples of lists, IRIs, terms and datasets, of N-Quads texts and the datasets that they
+//! spell, of journals' texts, and of readers and writers that are slow or fail.
 #![tactic(auto)]
 
 #[cfg(test)]

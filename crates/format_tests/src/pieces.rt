@@ -35,7 +35,8 @@ fn slow(text: &[u8]) -> Watched<Slow<'_>>
     })
 }
 
-/// Sixteen quads of two terms, each of them twice, and three quads more. Two threads read the first sixteen lines, and then go on in portions.
+/// Sixteen quads of two terms, each of them twice, and three quads more. Two threads read the first
+/// sixteen lines, and then go on in portions.
 const FEW_TERMS: &str = "\
     <x:a> <x:a> <x:a> .\n\
     <x:a> <x:a> <x:b> .\n\

@@ -1,5 +1,6 @@
--- The grammar of operations and requests, by its productions, on lists of tokens. (SPARQL 1.1 Update, 19.8: productions 29 to 52, in this
--- profile.) `ReadsX ts x rest`: the production reads x at the front of the tokens ts, and rest follows.
+-- The grammar of operations and requests, by its productions, on lists of tokens. (SPARQL 1.1
+-- Update, 19.8: productions 29 to 52, in this profile.) `ReadsX ts x rest`: the production reads x
+-- at the front of the tokens ts, and rest follows.
 use Rattle.std.specs.Prelude.{◌≡◌, ℕ, Bool, true, false, List, [], ◌∷◌, length, codes, Option, Some, None}
 use Rattle.lexer.specs.Cut.{Cuts}
 use Rattle.lexer.specs.declared.token.Token.{Token}
@@ -57,7 +58,8 @@ pub data ReadsWith : List Token → Option Name → List Token → Type 0 where
   with : {ts r rest : List Token} {n : Name} → ReadsKeyword (codes "WITH") ts r → ReadsName r n rest → ReadsWith ts (Some n) rest
   without : {rest : List Token} → ReadsWith rest None rest
 
--- Change = 'DELETE' Quads ['INSERT' Quads] | 'INSERT' Quads, with the templates of both: one that isn't there is empty
+-- Change = 'DELETE' Quads ['INSERT' Quads] | 'INSERT' Quads, with the templates of both: one that
+-- isn't there is empty
 pub data ReadsChange : List Token → List Block → List Block → List Token → Type 0 where
   delete : {ts r rest : List Token} {xs : List Block} → ReadsKeyword (codes "DELETE") ts r → ReadsQuads r xs rest → ReadsChange ts xs [] rest
   insert : {ts r rest : List Token} {ys : List Block} → ReadsKeyword (codes "INSERT") ts r → ReadsQuads r ys rest → ReadsChange ts [] ys rest

@@ -1,7 +1,8 @@
-//! The grammar of requests: prologues, operations on graphs and on quads, and their templates, data and groups (SPARQL 1.1 Update, 19.8).
+//! The grammar of requests: prologues, operations on graphs and on quads, and their templates, data
+//! and groups (SPARQL 1.1 Update, 19.8).
 //!
-//! Stands on `groups`, `triples`, `productions`, `lexer` and `syntax_trees`. Used above: `parse` gives the one reading of a text, or the text
-//! has none.
+//! Stands on `groups`, `triples`, `productions`, `lexer` and `syntax_trees`. Used above: `parse`
+//! gives the one reading of a text, or the text has none.
 #![tactic(auto)]
 
 mod graphs;

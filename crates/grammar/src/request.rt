@@ -113,7 +113,8 @@ fn read(alloc: Global, text: &str) -> Result<Items<Step<'_>>, Stop>
     steps_of(alloc, tokens.as_slice())
 }
 
-/// The reading of a request's text (SPARQL 1.1 Update, 19.8), which has one at most. `None` comes only where the text has none.
+/// The reading of a request's text (SPARQL 1.1 Update, 19.8), which has one at most. `None` comes
+/// only where the text has none.
 pub fn parse(alloc: Global, text: &str) -> Result<Option<Syntax<'_>>, AllocError>
     ensures { IfOk result (IsParsed text.now) }
 {

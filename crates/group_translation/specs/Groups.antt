@@ -88,7 +88,8 @@ module _ (ds : Prefixes) (vs : List (List ℕ)) where
   filters_of (part.Next p g) = filter_of p ++ filters_of g
 
   abbrev mutual
-    -- what stands before, and then this part: OPTIONAL has the filters of its group as condition, and filters come last
+    -- what stands before, and then this part: OPTIONAL has the filters of its group as condition,
+    -- and filters come last
     pub with_part : Plan Term → Part → Plan Term
     with_part before (part.Triples xs) = plan.Join before (plan.Basic (patterns_of ds vs xs))
     with_part before (part.Union gs) = plan.Join before (united (translated_groups gs))

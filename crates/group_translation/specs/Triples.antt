@@ -18,8 +18,8 @@ use Rattle.syntax_trees.specs.declared.tree.Block.{Block}
 use Rattle.names.specs.Names.{Prefixes, name_term, term_of}
 use Rattle.names.specs.Numbers.{Labels, number_of, label_number}
 
--- predicate-object lists and object lists, written out (SPARQL 1.1 Query, 4.2.1 and 4.2.2): what each triple gives, by its subject, verb
--- and object
+-- predicate-object lists and object lists, written out (SPARQL 1.1 Query, 4.2.1 and 4.2.2): what
+-- each triple gives, by its subject, verb and object
 abbrev pub of_property : {A : Type 0} → (Node → Node → Node → A) → Node → Property → List A
 of_property f subject p = map (f subject p.verb) p.objects
 
@@ -55,7 +55,8 @@ module _ (ds : Prefixes) (vs : List (List ℕ)) (ls : Labels) where
   slot_of node.Type = slot.Term (term_of ds node.Type)
   slot_of (node.Literal l) = slot.Term (term_of ds (node.Literal l))
 
-  -- the graph of a template's quads: that of their GRAPH block, else that of WITH, else the default graph
+  -- the graph of a template's quads: that of their GRAPH block, else that of WITH, else the default
+  -- graph
   abbrev pub graph_of : Option Name → Option Node → Option (Slot Term)
   graph_of with None = option_map (λ n. slot.Term (name_term ds n)) with
   graph_of with (Some n) = Some (slot_of n)

@@ -114,7 +114,8 @@ fn chained(
     Ok(Made::Chain(Box::new(alloc, first)?, steps))
 }
 
-/// The translation of an expression. Left operands lie as deep as a text is long: it goes down them by a loop.
+/// The translation of an expression. Left operands lie as deep as a text is long: it goes down them
+/// by a loop.
 #[tactic(auto, using(std::proofs::lemmas::List::map_push, crate::proofs::PlanLaws::stacked_push))]
 fn translated_tree<'a>(
     alloc: Global,
@@ -350,10 +351,11 @@ fn add_part<'a>(
     }
 }
 
-/// The pattern of a group graph pattern (SPARQL 1.1 Query, 18.2.2): its parts joined in order from the empty group on, where OPTIONAL has the
-/// filters of its group as condition, and then its own filters over all of it. A name whose prefix isn't declared, a literal with rdf:langString
-/// as its written datatype and a blank node stand for a term that no request may have: such a request is refused. An error comes only where a
-/// growth was refused.
+/// The pattern of a group graph pattern (SPARQL 1.1 Query, 18.2.2): its parts joined in order from
+/// the empty group on, where OPTIONAL has the filters of its group as condition, and then its own
+/// filters over all of it. A name whose prefix isn't declared, a literal with rdf:langString as its
+/// written datatype and a blank node stand for a term that no request may have: such a request is
+/// refused. An error comes only where a growth was refused.
 #[cycle(groups)]
 #[tactic(auto, using(crate::proofs::PlanLaws::folded))]
 pub fn translate<'a>(
@@ -389,8 +391,8 @@ fn block_pattern<'a>(
     }
 }
 
-/// The pattern of quads, as DELETE WHERE has them (SPARQL 1.1 Update, 3.1.3.3): their blocks, each in the graph of its GRAPH, joined in order. An
-/// error comes only where a growth was refused.
+/// The pattern of quads, as DELETE WHERE has them (SPARQL 1.1 Update, 3.1.3.3): their blocks, each
+/// in the graph of its GRAPH, joined in order. An error comes only where a growth was refused.
 #[tactic(auto, using(crate::proofs::PlanLaws::folded))]
 pub fn quads_pattern<'a>(
     alloc: Global,

@@ -81,7 +81,8 @@ pub(crate) fn patterns_of<'a>(
 
 // ---- templates
 
-/// What the quads of a block stand in: the scope of the operation, the graph of WITH and that of the block.
+/// What the quads of a block stand in: the scope of the operation, the graph of WITH and that of
+/// the block.
 #[derive(Clone, Copy)]
 struct Within<'s, 'a> {
     scope: &'s Scope<'s, 'a>,
@@ -248,8 +249,9 @@ fn likely_count(blocks: &[Block<'_>]) -> usize {
     )
 }
 
-/// The quads of a template (SPARQL 1.1 Update, 3.1.3), where WITH names a graph or nothing: a quad stands in the graph of its GRAPH, else in that
-/// of WITH, else in the default graph. An error comes only where a growth was refused.
+/// The quads of a template (SPARQL 1.1 Update, 3.1.3), where WITH names a graph or nothing: a quad
+/// stands in the graph of its GRAPH, else in that of WITH, else in the default graph. An error
+/// comes only where a growth was refused.
 pub fn template_of<'a>(
     alloc: Global,
     scope: &Scope<'_, 'a>,

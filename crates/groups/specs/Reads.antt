@@ -1,6 +1,8 @@
--- The grammar of groups, by its productions, on lists of tokens (SPARQL 1.1 Query, 19.8, productions 53 to 58 and 66 to 69, in this profile).
--- `ReadsX ts x rest`: the production reads x at the front of the tokens ts, and rest follows. A group is read as the list of its parts;
--- triples that are there are one part. `Inner` is a group inside, and n is how deep braces and parentheses nest in it at most.
+-- The grammar of groups, by its productions, on lists of tokens (SPARQL 1.1 Query, 19.8,
+-- productions 53 to 58 and 66 to 69, in this profile). `ReadsX ts x rest`: the production reads x
+-- at the front of the tokens ts, and rest follows. A group is read as the list of its parts;
+-- triples that are there are one part. `Inner` is a group inside, and n is how deep braces and
+-- parentheses nest in it at most.
 use Rattle.std.specs.Prelude.{ℕ, zero, suc, ◌≡◌, ◌&&◌, not, Bool, true, false, List, [], ◌∷◌, ◌++◌, map, codes}
 use Rattle.std.specs.List.{list_all}
 use Rattle.lexer.specs.declared.token.Token.{Token}
@@ -18,7 +20,8 @@ use Rattle.productions.specs.Many.{Many}
 use Rattle.expressions.specs.Grammar.{ReadsConstraint}
 use Rattle.triples.specs.Reads.{ReadsGraphName, ReadsTriples, ReadsMaybeDot}
 
--- no label of a blank node stands in the triples: their nodes, their properties, what is said of one subject, and all
+-- no label of a blank node stands in the triples: their nodes, their properties, what is said of
+-- one subject, and all
 abbrev pub is_label : Node → Bool
 is_label (node.Blank l) = true
 is_label x = false
@@ -45,7 +48,8 @@ pub data UnionLink : List Token → Bool → List Token → Type 0 where
   or_group : {w : List ℕ} {rest : List Token} → is_keyword w (codes "UNION") ≡ true → UnionLink (token.Word w ∷ rest) true rest
   no_union : {rest : List Token} → UnionLink rest false rest
 
--- Part = Group { 'UNION' Group } | 'OPTIONAL' Group | 'MINUS' Group | 'GRAPH' VarIri Group | 'FILTER' ( '(' Expr ')' | Call )
+-- Part = Group { 'UNION' Group } | 'OPTIONAL' Group | 'MINUS' Group | 'GRAPH' VarIri Group |
+-- 'FILTER' ( '(' Expr ')' | Call )
 pub data ReadsPart (n : ℕ) (Inner : Production (List Part)) : List Token → Part → List Token → Type 0 where
   union : {ts rest : List Token} {gs : List (List Part)} → Many Inner UnionLink ts gs rest → ReadsPart n Inner ts (Union (groups (map group gs))) rest
   optional : {w : List ℕ} {ts rest : List Token} {g : List Part} → is_keyword w (codes "OPTIONAL") ≡ true → Inner ts g rest → ReadsPart n Inner (token.Word w ∷ ts) (Optional (group g)) rest

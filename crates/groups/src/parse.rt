@@ -46,8 +46,9 @@ fn filter_at<'t, 'a>(
     Ok((filter_of(condition), rest))
 }
 
-/// The group at the front of the tokens (SPARQL 1.1 Query, 19.8, production 53), and what follows it. Braces and parentheses nest at most
-/// `depth` deep in it, its own included. `NoReading` comes only where no such group is there, and `Memory` only where a growth was refused.
+/// The group at the front of the tokens (SPARQL 1.1 Query, 19.8, production 53), and what follows
+/// it. Braces and parentheses nest at most `depth` deep in it, its own included. `NoReading` comes
+/// only where no such group is there, and `Memory` only where a growth was refused.
 #[cycle(groups)]
 #[tactic(auto, unfolding(crate::specs::Reading::group_at, crate::specs::Reading::braces_with))]
 pub fn group_at<'t, 'a>(
@@ -103,7 +104,8 @@ fn graph_at<'t, 'a>(
     graph_of(name, group_at(alloc, depth, rest))
 }
 
-/// `Group { 'UNION' Group } | 'OPTIONAL' Group | 'MINUS' Group | 'GRAPH' VarIri Group | 'FILTER' ( '(' Expr ')' | Call )`
+/// `Group { 'UNION' Group } | 'OPTIONAL' Group | 'MINUS' Group | 'GRAPH' VarIri Group | 'FILTER' (
+/// '(' Expr ')' | Call )`
 #[cycle(groups)]
 #[tactic(auto, unfolding(crate::specs::Reading::part_with))]
 fn part_at<'t, 'a>(

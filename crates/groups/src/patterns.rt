@@ -65,7 +65,8 @@ pub fn push_front<'t, 'a>(
     }
 }
 
-/// `Part ['.'] [Triples]`, of which the part was read: pushes it and the triples behind it, and gives what follows them.
+/// `Part ['.'] [Triples]`, of which the part was read: pushes it and the triples behind it, and
+/// gives what follows them.
 #[tactic(auto, unfolding(crate::specs::Reading::item_with))]
 pub fn push_item<'t, 'a>(
     alloc: Global,

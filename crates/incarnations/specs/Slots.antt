@@ -9,14 +9,16 @@ use Rattle.incarnations.specs.declared.state.Pass.{Pass}
 use Rattle.incarnations.specs.declared.state.Status.{Status}
 use Rattle.incarnations.specs.declared.state.Status.TheVariants.{Ready, Executing, Executed, Committed as HasCommitted}
 
--- A read as it was answered, with the lower requests whose deltas touched it, each by the incarnation of its last publication.
+-- A read as it was answered, with the lower requests whose deltas touched it, each by the
+-- incarnation of its last publication.
 pub record Noted : Type 0 where
   pub read : Read
   pub answer : Answer
   pub touching : List (ℕ × ℕ)
 
--- One request's part of the machine: its status, the reads of its incarnation, its last publication's delta, incarnation and reply, whether
--- that is an estimate, the clock when the delta last changed, the pass that stands, and the clock when the last finished pass began.
+-- One request's part of the machine: its status, the reads of its incarnation, its last
+-- publication's delta, incarnation and reply, whether that is an estimate, the clock when the delta
+-- last changed, the pass that stands, and the clock when the last finished pass began.
 pub record Slot : Type 0 where
   pub status : Status
   pub notes : List Noted

@@ -8,7 +8,8 @@ use Rattle.incarnations.specs.declared.state.Status.{Status}
 use Rattle.incarnations.specs.declared.state.Status.TheVariants.{Ready, Executing, Executed, Committed}
 use Rattle.incarnations.specs.Slots.{Slot}
 
--- when something is to be done for a request but to commit it, by its status, its pass and its stamp
+-- when something is to be done for a request but to commit it, by its status, its pass and its
+-- stamp
 abbrev pub due_of : Status → Option Pass → Option ℕ → Due
 due_of (Ready n) pass stamp = Now
 due_of (Executing n by) pass stamp = Never

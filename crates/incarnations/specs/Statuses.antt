@@ -45,7 +45,8 @@ execution_refusal (Some (Executed n)) incarnation worker = Some Stale
 execution_refusal (Some (HasCommitted n)) incarnation worker = Some Stale
 execution_refusal None incarnation worker = Some Stale
 
--- an event of this incarnation of a request that is executed and not committed: the refusal, if there is one
+-- an event of this incarnation of a request that is executed and not committed: the refusal, if
+-- there is one
 abbrev pub executed_refusal : Option Status → ℕ → Option Reply
 executed_refusal (Some (Executed n)) incarnation = if n == incarnation then None else Some Stale
 executed_refusal (Some (Executing n by)) incarnation = Some Stale

@@ -139,7 +139,8 @@ pub fn commit(slot: &mut Slot<'_>)
     }
 }
 
-/// A publication. It answers whether the delta is as before. After want of memory the slot is as before.
+/// A publication. It answers whether the delta is as before. After want of memory the slot is as
+/// before.
 pub fn publish(
     alloc: Global,
     slot: &mut Slot<'_>,

@@ -23,8 +23,9 @@ pub struct Pass {
     pub next: usize,
 }
 
-/// A read as it was answered, with the lower requests whose deltas touched it, each by the incarnation of its last publication. Those that
-/// were settled by then never change again, and are left out.
+/// A read as it was answered, with the lower requests whose deltas touched it, each by the
+/// incarnation of its last publication. Those that were settled by then never change again, and are
+/// left out.
 #[derive(Drop)]
 pub struct Noted<'a> {
     /// The read and its answer, which is kept while the request is executed, and later found again.
@@ -88,7 +89,8 @@ pub enum Reply {
     Aborted,
     Committed,
     Given,
-    /// The request is none of the block, or its status or incarnation is not the one that the event names.
+    /// The request is none of the block, or its status or incarnation is not the one that the event
+    /// names.
     Stale,
     /// Another worker executes the request.
     NotYours,

@@ -1,10 +1,12 @@
-//! Statuses of requests, the refusals of events that a status does not allow, and stamps that are not late.
+//! Statuses of requests, the refusals of events that a status does not allow, and stamps that are
+//! not late.
 ghost use Rattle.std.specs.Prelude.{◌≡◌, IfSome, IfNone};
 ghost use Rattle.incarnations.specs.Statuses.{execution_refusal, executed_refusal, is_closed as closed, is_executed as executed, stands_after, IsPlain};
 
 use crate::state::{Reply, Status};
 
-/// The refusal of an event of this incarnation of a request that this worker executes, if there is one.
+/// The refusal of an event of this incarnation of a request that this worker executes, if there is
+/// one.
 pub fn refused_execution(status: Option<Status>, incarnation: u64, worker: u32) -> Option<Reply>
     ensures refusal { result ≡ execution_refusal status incarnation worker }
     ensures plain { IfSome result IsPlain }

@@ -1,4 +1,5 @@
-//! Hints of many requests, of one quad each or of many, found by each of the sixteen sets of bound places, beside a plain filter.
+//! Hints of many requests, of one quad each or of many, found by each of the sixteen sets of bound
+//! places, beside a plain filter.
 use crate::quads::{fits, pattern_of, quad_of};
 use datasets::{Id, Quad, QuadPattern};
 use quad_hints::Hints;
@@ -117,7 +118,8 @@ fn is_found(
     Ok(so)
 }
 
-// Requests, and the place of a quad in each: one of one quad, the first and the last of two that put many, and the last of all.
+// Requests, and the place of a quad in each: one of one quad, the first and the last of two that
+// put many, and the last of all.
 const SOUGHT: [(usize, usize); 5] = [(7, 0), (300, 511), (601, 0), (601, 699), (1299, 0)];
 
 // Whether the hints that are kept in these orders are found.

@@ -1,4 +1,5 @@
-//! Worked examples of quads in sorted orders, of sets of quads and of hints, beside plain filters. It has tests alone.
+//! Worked examples of quads in sorted orders, of sets of quads and of hints, beside plain filters.
+//! It has tests alone.
 #![tactic(auto)]
 
 #[cfg(test)]

@@ -46,7 +46,8 @@ pub fn filtered(
 struct Scans {
     // whether each found what a filter does, the quad among it
     are_right: bool,
-    // whether each looked at no more entries than its answer has, and twice nine: 500 has nine binary digits
+    // whether each looked at no more entries than its answer has, and twice nine: 500 has nine
+    // binary digits
     are_short: bool,
 }
 

@@ -312,7 +312,8 @@ fn is_set_copied(alloc: Global, set: &QuadSet, quads: &[Quad<Id>]) -> Result<boo
     is_set_of(alloc, &again.as_slice(), quads)
 }
 
-// Whether what a set of 200 quads and another of 150 have together, and a copy of it, are what plain vectors say.
+// Whether what a set of 200 quads and another of 150 have together, and a copy of it, are what
+// plain vectors say.
 fn is_joined(
     alloc: Global,
     first: &QuadSlice<'_>,
@@ -375,7 +376,8 @@ fn is_list_changed(
     is_set_of(alloc, &changed.as_slice(), &set_of(left))
 }
 
-// Whether what sets have together, one without another, and a list of quads that changes are what plain vectors say.
+// Whether what sets have together, one without another, and a list of quads that changes are what
+// plain vectors say.
 fn are_joined_and_parted(alloc: Global, are_made: bool) -> Result<bool, AllocError> {
     let first = set_twice(alloc, (0, 200, are_made))?;
     let second = set_twice(alloc, (150, 300, false))?;
@@ -441,7 +443,8 @@ fn changed_pieces<T: Threads + Sync>(
     QuadSet::changed_in_pieces(rt, alloc, &long, &gone, &more, threads)
 }
 
-// Whether the pieces that so many threads make are what plain vectors say, one behind another, and one for each thread.
+// Whether the pieces that so many threads make are what plain vectors say, one behind another, and
+// one for each thread.
 fn is_changed_in_pieces<T: Threads + Sync>(
     rt: &T,
     alloc: Global,

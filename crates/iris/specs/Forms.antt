@@ -1,5 +1,6 @@
--- Forms that N-Quads and requests share: language tags, blank node labels and the short escapes of strings (RDF 1.1 N-Quads, productions 144s,
--- 141s and 153s; a label narrowed to letters, digits and `_`).
+-- Forms that N-Quads and requests share: language tags, blank node labels and the short escapes of
+-- strings (RDF 1.1 N-Quads, productions 144s, 141s and 153s; a label narrowed to letters, digits
+-- and `_`).
 use Rattle.std.specs.Prelude.{ℕ, ◌==◌, ◌&&◌, ◌||◌, nat_le, nat_lt, Bool, true, false, List, [], ◌∷◌, length, Option, Some, None, if◌then◌else◌}
 use Rattle.std.specs.List.{list_all}
 use Rattle.iris.specs.Iri.{is_letter, is_digit}

@@ -31,7 +31,8 @@ pub(crate) fn is_scheme_byte(b: u8) -> bool
     b.is_ascii_alphanumeric() || matches!(b, b'+' | b'-' | b'.')
 }
 
-/// Whether an IRI may hold this byte after its scheme (RDF 1.1 N-Quads, production 8, without its escapes).
+/// Whether an IRI may hold this byte after its scheme (RDF 1.1 N-Quads, production 8, without its
+/// escapes).
 pub fn is_iri_byte(b: u8) -> bool
     ensures { result ≡ is_iri_byte b }
 {
@@ -95,7 +96,8 @@ impl Iri {
         Ok(Iri { text })
     }
 
-    /// The same IRI again, in the same memory. An `Err` comes only where more copies would be held at once than can be counted.
+    /// The same IRI again, in the same memory. An `Err` comes only where more copies would be held
+    /// at once than can be counted.
     pub fn copied(&self, _alloc: Global) -> Result<Iri, AllocError>
         ensures { IfOk result (λ copy. copy ≡ self.now) }
     {

@@ -1,7 +1,7 @@
 //! IRIs, and runs of bytes at the front of a text.
 //!
-//! Both text formats are read with these: a text is the list of its UTF-8 bytes. Stands on std alone. Used above: an `Iri` is its bytes,
-//! and those are an IRI.
+//! Both text formats are read with these: a text is the list of its UTF-8 bytes. Stands on std
+//! alone. Used above: an `Iri` is its bytes, and those are an IRI.
 #![tactic(auto)]
 
 mod iri;

@@ -1,4 +1,5 @@
--- The text of a journal: a first line, and then a line an entry. The words of a line stand with single spaces between, and LF ends it.
+-- The text of a journal: a first line, and then a line an entry. The words of a line stand with
+-- single spaces between, and LF ends it.
 use Rattle.std.specs.Prelude.{ℕ, List, [], ◌∷◌, ◌++◌, Option, Some, None, length, drop, codes}
 use Rattle.std.specs.List.{flat_map}
 use Rattle.std.specs.Fmt.{decimal}

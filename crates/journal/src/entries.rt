@@ -49,7 +49,8 @@ fn numbered_event_of(verb: &str, request: usize, incarnation: u64) -> Option<Eve
     None
 }
 
-/// The event of this request by its word, where a number comes next, and what follows the space behind it.
+/// The event of this request by its word, where a number comes next, and what follows the space
+/// behind it.
 fn numbered_event_at<'a>(
     alloc: Global,
     mark: &[u8],

@@ -11,7 +11,8 @@ pub enum JournalFault {
     /// A growth was refused.
     #[error("out of memory")]
     OutOfMemory,
-    /// The first entry, counted from 1, whose line is no entry's text, or 0 where the first line of the file is not a journal's.
+    /// The first entry, counted from 1, whose line is no entry's text, or 0 where the first line of
+    /// the file is not a journal's.
     #[error("bad entry {0}")]
     BadEntry(u64),
     /// The first entry, counted from 1, that is not lawful where it stands.

@@ -3,7 +3,8 @@
 use datasets::{GraphPlace, QuadPattern, Read};
 use terms::Term;
 
-/// One line of a journal: an entry with terms for the numbers of its read, and with a count for an answer.
+/// One line of a journal: an entry with terms for the numbers of its read, and with a count for an
+/// answer.
 #[derive(Drop)]
 pub struct Line {
     pub worker: u32,

@@ -57,7 +57,8 @@ fn made_of(text: &[u8]) -> Result<Term, Stop>
     })
 }
 
-/// The term of a blank node's label, which is a made node where the label has the mark of made nodes.
+/// The term of a blank node's label, which is a made node where the label has the mark of made
+/// nodes.
 fn unlabelled_blank(mark: &[u8], blank: Blank) -> Result<Term, Stop>
     ensures read { Gives (λ x. x) result (unlabelled mark.now (term.Blank blank)) }
     ensures unmarked { IfOk result (λ t. has_mark mark.now t ≡ false) }

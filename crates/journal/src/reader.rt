@@ -156,8 +156,9 @@ fn read_bytes(alloc: Global, bytes: &[u8], tag: u32) -> Result<Vec<Line>, Journa
     read_lines(alloc, tag, mark.as_slice(), text)
 }
 
-/// The lines that these bytes are the text of, with the base's tag in the labels of made nodes. `BadEntry` tells of the first entry whose
-/// line is no line's text, counted from 1, or 0 where the first line is another; `OutOfMemory` may come at any bytes, and `Illegal` never.
+/// The lines that these bytes are the text of, with the base's tag in the labels of made nodes.
+/// `BadEntry` tells of the first entry whose line is no line's text, counted from 1, or 0 where the
+/// first line is another; `OutOfMemory` may come at any bytes, and `Illegal` never.
 pub fn read_journal(alloc: Global, bytes: &[u8], tag: u32) -> Result<Vec<Line>, JournalFault>
     ensures lines { IfOk result (λ v. IsJournal tag bytes.now v.items) }
     ensures bad { (n : ℕ) → IsErrOf result (JournalFault.BadEntry n) → IsFirstBad tag bytes.now n }

@@ -195,7 +195,8 @@ pub fn push_body(alloc: Global, text: &mut Vec<u8>, line: &Line, tag: u32) -> Re
     push_reply(text, line.reply)
 }
 
-/// The text of a journal with these lines, and with the base's tag in the labels of made nodes. An `Err` comes only where memory runs out.
+/// The text of a journal with these lines, and with the base's tag in the labels of made nodes. An
+/// `Err` comes only where memory runs out.
 pub fn write_lines(alloc: Global, lines: &[Line], tag: u32) -> Result<Vec<u8>, AllocError>
     ensures { IfOk result (λ text. text.items ≡ journal_text tag lines.now) }
 {

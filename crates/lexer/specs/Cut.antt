@@ -21,7 +21,8 @@ abbrev pub AtLineEnd : List ℕ → Type 0
 AtLineEnd [] = Unit {0}
 AtLineEnd (b ∷ bs) = is_inner b ≡ false
 
--- the text is this token and a rest, no token is barred here, and none with which the text begins takes more
+-- the text is this token and a rest, no token is barred here, and none with which the text begins
+-- takes more
 pub record IsLongest (text front rest : List ℕ) (t : Token) : Type 0 where
   pub cut : text ≡ front ++ rest
   pub is : IsToken front rest t

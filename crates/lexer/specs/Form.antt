@@ -50,7 +50,8 @@ continues_integer (b ∷ bs) = is_letter b || is_digit b || (b == 95) || ((b == 
 abbrev pub EndsInteger : List ℕ → Type 0
 EndsInteger rest = continues_integer rest ≡ false
 
--- three quotes in a row, and `<`, bytes that an IRI may hold and `>` round what is no IRI: no token begins here
+-- three quotes in a row, and `<`, bytes that an IRI may hold and `>` round what is no IRI: no token
+-- begins here
 pub data IsBarred : List ℕ → Type 0 where
   quotes : {q : ℕ} {rest : List ℕ} → is_quote q ≡ true → IsBarred (q ∷ q ∷ q ∷ rest)
   no_iri : (i rest : List ℕ) → list_all is_iri_byte i ≡ true → is_iri i ≡ false → IsBarred (60 ∷ (i ++ 62 ∷ rest))

@@ -1,5 +1,6 @@
--- The forms of prefixed names, variables and words. (SPARQL 1.1 Query, 19.8, productions 140 and 141 of prefixed names and 166 of
--- variables, in this profile: ASCII letters, digits, `_`, and in names `-`.)
+-- The forms of prefixed names, variables and words. (SPARQL 1.1 Query, 19.8, productions 140 and
+-- 141 of prefixed names and 166 of variables, in this profile: ASCII letters, digits, `_`, and in
+-- names `-`.)
 use Rattle.std.specs.Prelude.{ℕ, ◌≡◌, ◌==◌, ◌||◌, Bool, true, List, [], ◌∷◌}
 use Rattle.std.specs.List.{list_all}
 use Rattle.iris.specs.Iri.{is_letter, is_digit}

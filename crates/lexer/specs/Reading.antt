@@ -141,7 +141,8 @@ sign_at b bs = longer_sign (pair_at b bs) (option_map (λ s. (s, bs)) (one_of b)
 
 -- ---- all
 
--- an IRI or a sign, whose `<` was read: the bytes after it that an IRI may hold, and what follows those
+-- an IRI or a sign, whose `<` was read: the bytes after it that an IRI may hold, and what follows
+-- those
 abbrev pub bracketed : List ℕ → List ℕ → List ℕ → Option (Token × List ℕ)
 bracketed iri [] text = sign_at 60 text
 bracketed iri (c ∷ rest) text =

@@ -45,8 +45,9 @@ fn tokens_of(alloc: Global, text: &[u8]) -> Result<Vec<Token<'_>>, Stop>
     Ok(tokens)
 }
 
-/// The tokens of a text, white space and comments left out; each is the longest that begins there (SPARQL 1.1 Query, 19.4 and 19.8).
-/// `NoReading` comes only where the text can't be cut into tokens, `Memory` only where a growth was refused.
+/// The tokens of a text, white space and comments left out; each is the longest that begins there
+/// (SPARQL 1.1 Query, 19.4 and 19.8). `NoReading` comes only where the text can't be cut into
+/// tokens, `Memory` only where a growth was refused.
 pub fn tokens(alloc: Global, text: &str) -> Result<Vec<Token<'_>>, Stop>
     ensures { IsCut text.now result }
 {

@@ -15,7 +15,8 @@ pub fn one_cut()
     runs_are_longest();
 }
 
-/// The parts of a text's tokens have their forms: IRIs are IRIs, local parts are local parts, strings are UTF-8, tags are in lower case.
+/// The parts of a text's tokens have their forms: IRIs are IRIs, local parts are local parts,
+/// strings are UTF-8, tags are in lower case.
 pub fn tokens_have_parts()
     ensures { (text : List ℕ) (ts : List Token) → Cuts text ts → All HasParts ts }
 {}

@@ -1,6 +1,7 @@
 //! The tokens of a request, as slices of its text.
 //!
-//! Stands on `iris`. Used above: `tokens` gives the one list of tokens that the text is cut into, or there is none.
+//! Stands on `iris`. Used above: `tokens` gives the one list of tokens that the text is cut into,
+//! or there is none.
 #![tactic(auto)]
 
 mod cut;

@@ -46,7 +46,8 @@ impl Form for LabelForm {
     ghost has = { λ bytes. is_label bytes ≡ true };
 }
 
-/// The digits of an integer (SPARQL 1.1 Query, 19.8, production 146), of which there is one or more.
+/// The digits of an integer (SPARQL 1.1 Query, 19.8, production 146), of which there is one or
+/// more.
 pub struct DigitsForm;
 
 impl Form for DigitsForm {
@@ -124,7 +125,8 @@ pub type Label<'a> = FormedPiece<'a, LabelForm>;
 /// The digits of an integer.
 pub type Digits<'a> = FormedPiece<'a, DigitsForm>;
 
-/// A language tag, without its `@` (SPARQL 1.1 Query, 19.8, production 145). Contracts see its bytes in lower case, and they are a tag.
+/// A language tag, without its `@` (SPARQL 1.1 Query, 19.8, production 145). Contracts see its
+/// bytes in lower case, and they are a tag.
 #[derive(Drop)]
 pub struct Tag<'a> {
     written: &'a str,
@@ -169,8 +171,8 @@ impl<'a> Tag<'a> {
     }
 }
 
-/// A string, without its quotes (SPARQL 1.1 Query, 19.8, productions 156 and 157). Contracts see the bytes that it spells, with its escapes
-/// undone.
+/// A string, without its quotes (SPARQL 1.1 Query, 19.8, productions 156 and 157). Contracts see
+/// the bytes that it spells, with its escapes undone.
 #[derive(Drop)]
 pub struct Quoted<'a> {
     between: &'a str,

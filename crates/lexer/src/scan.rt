@@ -78,7 +78,8 @@ fn begins_with_colon(text: &[u8]) -> bool
     matches!(text, [b':', ..])
 }
 
-/// So many bytes at a text's end, before which no run of name bytes is a prefix. No run without a colon is looked through twice.
+/// So many bytes at a text's end, before which no run of name bytes is a prefix. No run without a
+/// colon is looked through twice.
 pub fn edge_at(text: &[u8], edge: usize) -> usize
     requires { NoneAhead text.now edge }
     ensures { NoneAhead text.now result }

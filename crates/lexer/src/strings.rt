@@ -77,7 +77,8 @@ pub fn string_at(quote: u8, text: &[u8]) -> Option<(Token<'_>, &[u8])>
     Some((Token::Text(Quoted::new(written)), rest))
 }
 
-/// What an escape stands for, by the byte after its backslash; a quote and a backslash stand for themselves.
+/// What an escape stands for, by the byte after its backslash; a quote and a backslash stand for
+/// themselves.
 fn spelled(escape: &str) -> &str
     requires { length escape.now ≡ 1 }
     ensures { result.now ≡ unescaped_after true escape.entry.now }

@@ -120,8 +120,8 @@ fn told_of<'a>(
     }
 }
 
-/// The pass that has run the request, whose reads are those of incarnation 0, and published the run as that of each of these incarnations, if it
-/// was told so.
+/// The pass that has run the request, whose reads are those of incarnation 0, and published the run
+/// as that of each of these incarnations, if it was told so.
 pub fn published_as<'a>(
     alloc: Global,
     shared: &SharedBlock<'a>,

@@ -131,7 +131,8 @@ fn push_request(text: &mut String, place: usize) -> Result<(), AllocError> {
     text.push_str(" }\n----\n")
 }
 
-// Sixteen quads are put in, taken out, put in and so on, one a request. The last request is refused.
+// Sixteen quads are put in, taken out, put in and so on, one a request. The last request is
+// refused.
 fn rounds(alloc: Global) -> Result<String, AllocError> {
     let mut text = String::new(alloc);
     for place in 0..208 {

@@ -31,7 +31,8 @@ pub struct Walk {
 }
 
 pub const WALKS: [Walk; 5] = [
-    // The second request runs before the first has published, and is checked after it. At last it waits for the first one's commit.
+    // The second request runs before the first has published, and is checked after it. At last it
+    // waits for the first one's commit.
     Walk {
         block: "INSERT DATA { <x:a> <x:p> <x:b> }\n----\nINSERT DATA { <x:a> <x:p> <x:b> , <x:c> }",
         lines: &[
@@ -175,7 +176,8 @@ pub const WALKS: [Walk; 5] = [
         committed: 2,
         quads: "+ <x:a> <x:p> <x:b>\n+ <x:a> <x:q> <x:c>\n",
     },
-    // The third request reads what the first has put in and the second has taken out since: its answer is the same, but it came from others.
+    // The third request reads what the first has put in and the second has taken out since: its
+    // answer is the same, but it came from others.
     Walk {
         block: "INSERT DATA { <x:a> <x:p> <x:b> }\n----\nDELETE DATA { <x:a> <x:p> <x:b> }\n----\nINSERT { ?x <x:q> <x:c> } WHERE { ?x <x:p> ?y }",
         lines: &[
@@ -205,7 +207,8 @@ pub const WALKS: [Walk; 5] = [
         committed: 0,
         quads: "",
     },
-    // A refused request reads nothing. Only who took it may publish it, and what is given up is not committed.
+    // A refused request reads nothing. Only who took it may publish it, and what is given up is not
+    // committed.
     Walk {
         block: "INSERT",
         lines: &[

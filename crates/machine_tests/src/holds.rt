@@ -248,7 +248,8 @@ fn is_published<R: Wait>(rt: &R, alloc: Global, topic: &Topic<'_>) -> Result<boo
     Ok(told.as_slice() == PUBLISHED.as_slice())
 }
 
-// Whether something can be done first, and what is told of the take of a request below a place, where one is taken at once.
+// Whether something can be done first, and what is told of the take of a request below a place,
+// where one is taken at once.
 fn first_told<R: Wait>(
     rt: &R,
     alloc: Global,

@@ -1,6 +1,7 @@
-//! Worked examples of what runs requests: requests over a base, blocks run one request after another, blocks run through a book event by
-//! event, in orders that workers side by side may take, journals of books replayed, blocks run through a shared book by one worker alone, and
-//! by a pool. It has tests alone.
+//! Worked examples of what runs requests: requests over a base, blocks run one request after
+//! another, blocks run through a book event by event, in orders that workers side by side may take,
+//! journals of books replayed, blocks run through a shared book by one worker alone, and by a pool.
+//! It has tests alone.
 #![tactic(auto)]
 
 #[cfg(test)]

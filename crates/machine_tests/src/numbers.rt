@@ -1,4 +1,5 @@
-//! Bases and blocks that are written as texts, at numbers of terms; and quads at numbers as texts again.
+//! Bases and blocks that are written as texts, at numbers of terms; and quads at numbers as texts
+//! again.
 ghost use Rattle.std.specs.Prelude.{◌≡◌, ◌<◌, Some, IfSome, slice_get};
 ghost use Rattle.update.specs.Asked.{IsShort};
 
@@ -155,7 +156,8 @@ fn by_one(alloc: Global, base: DataSet) -> Result<Numbered, Fail> {
     Ok(number(alloc, base, split(alloc, MOVED)?)?)
 }
 
-// A block at numbers, over a base that several threads put in order, by three threads where it has enough requests.
+// A block at numbers, over a base that several threads put in order, by three threads where it has
+// enough requests.
 fn by_threads<T: Threads + Sync>(
     rt: &T,
     alloc: Global,

@@ -20,7 +20,8 @@ enum Step {
     Published,
 }
 
-/// Each of these requests, by their places, is held when it has come to a step first, until all of those have come to another.
+/// Each of these requests, by their places, is held when it has come to a step first, until all of
+/// those have come to another.
 struct Hold {
     step: Step,
     places: &'static [usize],
@@ -285,7 +286,8 @@ fn workers_overlap(rt: HostRuntime) -> Result<(), Fail> {
 
 const EIGHT: &[usize] = &[0, 1, 2, 3, 4, 5, 6, 7];
 
-// Each of eight requests is held after its take until all are taken, and after its first read until all have read.
+// Each of eight requests is held after its take until all are taken, and after its first read until
+// all have read.
 const TOGETHER: Row = Row {
     base: "",
     block: "INSERT DATA { <x:a> <x:p> <x:0> }\n----\n\

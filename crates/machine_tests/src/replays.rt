@@ -1,4 +1,5 @@
-//! Journals of walked books: their lines, the books that these are replayed to, and checks whose reply is chosen.
+//! Journals of walked books: their lines, the books that these are replayed to, and checks whose
+//! reply is chosen.
 ghost use Rattle.reads.specs.Reads.{IsDataset};
 
 use crate::blocks::are_short;
@@ -22,7 +23,8 @@ fn has_text(alloc: Global, book: &Book<'_>, journal: &str) -> Result<bool, Alloc
     Ok(write_lines(alloc, lines.as_slice(), 1)?.as_slice() == journal.as_bytes())
 }
 
-// Whether lines are replayed to a book whose journal has this text, where the block has at most a thousand requests.
+// Whether lines are replayed to a book whose journal has this text, where the block has at most a
+// thousand requests.
 fn are_replayed<'a>(
     alloc: Global,
     numbered: &'a Numbered,
@@ -102,7 +104,8 @@ fn walks_replay(rt: HostRuntime) -> Result<(), Fail> {
     checked
 }
 
-/// A check of a request's first run behind some steps over an empty base, whether it is wanted to pass, and what it is told.
+/// A check of a request's first run behind some steps over an empty base, whether it is wanted to
+/// pass, and what it is told.
 struct Choice {
     block: &'static str,
     lines: &'static [(u32, Step, Told)],
@@ -111,7 +114,8 @@ struct Choice {
     told: Told,
 }
 
-/// The third request reads by a pattern what the first has put in and the second has taken out since.
+/// The third request reads by a pattern what the first has put in and the second has taken out
+/// since.
 const TWICE: &str =
     "INSERT DATA { <x:a> <x:p> <x:b> }\n----\nDELETE DATA { <x:a> <x:p> <x:b> }\n----\nINSERT { ?x <x:q> <x:c> } WHERE { ?x <x:p> ?y }";
 
@@ -119,8 +123,8 @@ const TWICE: &str =
 const ONCE: &str =
     "INSERT DATA { <x:a> <x:p> <x:b> }\n----\nINSERT { ?x <x:q> <x:c> } WHERE { ?x <x:p> ?y }";
 
-/// The fourth request reads by a pattern the 70 quads that the first has put in. Meanwhile the second has put in one more, which the third has
-/// taken out since.
+/// The fourth request reads by a pattern the 70 quads that the first has put in. Meanwhile the
+/// second has put in one more, which the third has taken out since.
 const LONG: &str =
     "INSERT DATA { <x:a> <x:p> 10,11,12,13,14,15,16,17,18,19,20,21,22,23,24,25,26,27,28,29,30,31,32,33,34,35,36,37,38,39,40,41,42,43,44,\
     45,46,47,48,49,50,51,52,53,54,55,56,57,58,59,60,61,62,63,64,65,66,67,68,69,70,71,72,73,74,75,76,77,78,79 }\n----\n\
@@ -175,7 +179,8 @@ const LONG_LONGER: [(u32, Step, Told); 7] = [
 ];
 
 const CHOICES: [Choice; 11] = [
-    // The answer is the same and the requests that it came from are others: both replies are lawful.
+    // The answer is the same and the requests that it came from are others: both replies are
+    // lawful.
     Choice {
         block: TWICE,
         lines: &CHANGED_TWICE,
@@ -220,7 +225,8 @@ const CHOICES: [Choice; 11] = [
         passed: false,
         told: Passed,
     },
-    // A long answer, which was forgotten and is found again: it is the same, the list is another, or it is another one.
+    // A long answer, which was forgotten and is found again: it is the same, the list is another,
+    // or it is another one.
     Choice {
         block: LONG,
         lines: &LONG_CHANGED,

@@ -310,7 +310,8 @@ fn over_a_base(rt: HostRuntime) -> Result<(), Fail> {
     Ok(())
 }
 
-// What the run of the only request is told where the source answers so many reads, and each of them wrongly; and how many reads it made.
+// What the run of the only request is told where the source answers so many reads, and each of them
+// wrongly; and how many reads it made.
 fn told_on_lies(alloc: Global, numbered: &Numbered, left: usize) -> Result<(Reply, usize), Stop> {
     let mut liar = Liar { alloc, left };
     let terms = numbered.base.terms();

@@ -70,7 +70,8 @@ impl<'a> Asking<'a> {
     }
 }
 
-// The book that answered the reads of a run of the request of a turn, and the run, if it came to its end.
+// The book that answered the reads of a run of the request of a turn, and the run, if it came to
+// its end.
 fn executed<'a>(
     alloc: Global,
     book: Book<'a>,

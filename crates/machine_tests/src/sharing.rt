@@ -116,7 +116,8 @@ pub fn are_told<'a>(
     true
 }
 
-// What follows when a worker has published its run of the first request: it commits it, takes the second and gives it up.
+// What follows when a worker has published its run of the first request: it commits it, takes the
+// second and gives it up.
 const AFTER: [(Step, Told); 5] = [
     (Step::Begin(0, 0), Told::Begun),
     (Step::Check(0, 0), Told::Passed),
@@ -125,7 +126,8 @@ const AFTER: [(Step, Told); 5] = [
     (Step::GiveUp(1, 0), Told::Given),
 ];
 
-// The calls that never wait, by one worker: the first request to its commit, and the second is taken and given up.
+// The calls that never wait, by one worker: the first request to its commit, and the second is
+// taken and given up.
 fn goes_through<'a>(
     alloc: Global,
     shared: &SharedBlock<'a>,
@@ -144,7 +146,8 @@ fn goes_through<'a>(
     }
 }
 
-// How many requests are committed as a first pass sees it, where a second one has committed the first request.
+// How many requests are committed as a first pass sees it, where a second one has committed the
+// first request.
 fn front_of_others<'a, R: Wait>(
     rt: &R,
     alloc: Global,
@@ -160,8 +163,8 @@ fn front_of_others<'a, R: Wait>(
     Ok(went.then_some(front))
 }
 
-// The calls that never wait, by one worker, of a request that asks nothing: it is given up once, a publication comes too late, and the next
-// incarnation is committed.
+// The calls that never wait, by one worker, of a request that asks nothing: it is given up once, a
+// publication comes too late, and the next incarnation is committed.
 fn goes_by_journal<'a>(
     alloc: Global,
     shared: &SharedBlock<'a>,

@@ -32,8 +32,8 @@ module _ {K : Type 0} (V : Vocabulary K) where
       if is_too_many (length found) then Err TooManySolutions
       else Ok (replaced d (instances V request place delete found) (instances V request place insert found))
 
-  -- the effect of the operation at a place of a request, both counted from 0. WHERE is evaluated once, in the graph of WITH or the
-  -- default graph.
+  -- the effect of the operation at a place of a request, both counted from 0. WHERE is evaluated
+  -- once, in the graph of WITH or the default graph.
   abbrev pub effect_of : (request place : ℕ) → Operation K → Dataset K → Result (Dataset K) Cause
   effect_of request place (operation.Modify m) d = modified request place m.delete m.insert (solutions V.order V.passes m.width m.pattern d m.active) d
   effect_of request place (operation.Graphs silent graphs) d = silently V.order silent d (graphs_after V.order graphs d)

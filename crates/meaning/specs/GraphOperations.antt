@@ -1,4 +1,5 @@
--- Operations on whole graphs (SPARQL 1.1 Update, 3.2). When they fail is this project's choice where the standard leaves one.
+-- Operations on whole graphs (SPARQL 1.1 Update, 3.2). When they fail is this project's choice
+-- where the standard leaves one.
 use Rattle.std.specs.Prelude.{Bool, not, List, [], ◌∷◌, Option, Some, None, Result, Ok, Err, filter, map, if◌then◌else◌}
 use Rattle.std.specs.declared.cmp.Ordering.{Ordering}
 use Rattle.sets.specs.Sets.{has, with, union, without}

@@ -1,5 +1,5 @@
--- Solution mappings (SPARQL 1.1 Query, 18.1.8 and 18.3). A mapping is a row: for each variable of the pattern, in byte order of its name,
--- its term or nothing.
+-- Solution mappings (SPARQL 1.1 Query, 18.1.8 and 18.3). A mapping is a row: for each variable of
+-- the pattern, in byte order of its name, its term or nothing.
 use Rattle.std.specs.Prelude.{ℕ, Bool, true, false, List, Option, Some, None, cond, map, zip, replicate, slice_set, slice_index_or}
 use Rattle.std.specs.List.{list_all, list_any}
 use Rattle.std.specs.declared.cmp.Ordering.{Ordering}

@@ -1,5 +1,5 @@
--- The operators of the algebra on sets of mappings (SPARQL 1.1 Query, 18.5), where a test stands for the filters: multiplicities are left
--- out.
+-- The operators of the algebra on sets of mappings (SPARQL 1.1 Query, 18.5), where a test stands
+-- for the filters: multiplicities are left out.
 use Rattle.std.specs.Prelude.{Bool, not, ◌&&◌, ◌||◌, List, filter, filter_map}
 use Rattle.std.specs.List.{list_all, flat_map}
 use Rattle.std.specs.declared.cmp.Ordering.{Ordering}

@@ -1,5 +1,5 @@
--- The answer to a request, and the run of a block (SPARQL 1.1 Update, section 3; that a failing operation undoes its whole request is
--- this project's choice where the standard says "should").
+-- The answer to a request, and the run of a block (SPARQL 1.1 Update, section 3; that a failing
+-- operation undoes its whole request is this project's choice where the standard says "should").
 use Rattle.std.specs.Prelude.{ℕ, ◌+◌, List, [], ◌∷◌, length, take, Result, Ok, Err}
 use Rattle.sets.specs.Sets.{without}
 use Rattle.datasets.specs.Dataset.{Dataset, quad_order}
@@ -40,7 +40,8 @@ module _ {K : Type 0} (V : Vocabulary K) where
   settled d (Ok e) = (e, Done (count_new d e) (count_new e d))
   settled d (Err failure) = (d, Failed failure.operation failure.cause)
 
-  -- the answer to the request at a place of the block, counted from 0; a refused request changes nothing
+  -- the answer to the request at a place of the block, counted from 0; a refused request changes
+  -- nothing
   abbrev pub answer_of : ℕ → Request K → Dataset K → Dataset K × Reply
   answer_of i (Ok operations) d = settled d (performed i 0 operations d)
   answer_of i (Err refusal) d = (d, Refused refusal)

@@ -1,4 +1,5 @@
--- The solutions of a pattern (SPARQL 1.1 Query, 18.3 and 18.6), as a set of mappings: multiplicities are left out.
+-- The solutions of a pattern (SPARQL 1.1 Query, 18.3 and 18.6), as a set of mappings:
+-- multiplicities are left out.
 use Rattle.std.specs.Prelude.{ℕ, Bool, List, [], ◌∷◌, Option, Some, cond, filter, filter_map, option_and_then}
 use Rattle.std.specs.List.{list_all, flat_map}
 use Rattle.std.specs.declared.cmp.Ordering.{Ordering}
@@ -28,7 +29,8 @@ module _ {K : Type 0} (R : K → K → Ordering) (width : ℕ) where
   joined_with found [] triples = found
   joined_with found (t ∷ ts) triples = joined_with (join R found (solutions_among t triples)) ts triples
 
-  -- the solutions of a basic graph pattern: those of its triple patterns, joined; of none, the empty mapping
+  -- the solutions of a basic graph pattern: those of its triple patterns, joined; of none, the
+  -- empty mapping
   abbrev pub basic_solutions : List (TriplePattern K) → List (Quad K) → List (Mapping K)
   basic_solutions ts triples = joined_with (empty_mapping width ∷ []) ts triples
 

@@ -41,7 +41,8 @@ module _ {K : Type 0} (V : Vocabulary K) where
   instance_of node mapping t =
       legal_quad (term_at node mapping t.subject) (term_at node mapping t.predicate) (term_at node mapping t.object) (graph_at node mapping t.graph)
 
-  -- the instances of a template over solutions of ranks from this one on: a label makes a new node for each solution
+  -- the instances of a template over solutions of ranks from this one on: a label makes a new node
+  -- for each solution
   abbrev pub instances_from : (request operation : ℕ) → List (QuadTemplate K) → (rank : ℕ) → List (Mapping K) → List (Quad K)
   instances_from request operation ts rank [] = []
   instances_from request operation ts rank (m ∷ ms) =

@@ -1,5 +1,6 @@
-//! What an update request means: replies, and in specs/ the solutions of patterns, the effect of operations, the
-//! answer to a request and the run of a block, for any kind of term. Stands on `algebra`, `datasets` and `sets`.
+//! What an update request means: replies, and in specs/ the solutions of patterns, the effect of
+//! operations, the answer to a request and the run of a block, for any kind of term. Stands on
+//! `algebra`, `datasets` and `sets`.
 #![tactic(auto)]
 
 mod reply;

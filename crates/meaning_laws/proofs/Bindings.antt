@@ -1,4 +1,5 @@
--- What mappings bind: parts of mappings, merges, and the mapping under which a place of a pattern is a term.
+-- What mappings bind: parts of mappings, merges, and the mapping under which a place of a pattern
+-- is a term.
 use Rattle.std.proofs.Common.{◌≡◌, ℕ, zero, suc, ◌<◌, Bool, true, false, ◌||◌, [], ◌∷◌, length, Option, Some, None, cond, nat_eq, slice_set, refl, sym, ap, ◌∙◌, subst, arith}
 use Rattle.std.specs.Option.{is_some}
 use Rattle.std.proofs.lemmas.Bool.{false≢true, and_parts, and_from, or_right, eqb-true, eqb-false, eq-eqb}
@@ -185,7 +186,8 @@ module _ {K : Type 0} {R : K → K → Ordering} (o : IsTotalOrder R) (exact : (
           let parts = cond_some (eq_by_cmp R x y) a b k in
           same_fit (place.Variable v) x a b parts.1 (λ u. taken y h u (nat_eq v u) refl) (h ∙ ap Some (sym (exact_by o exact x y parts.0)))
 
-  -- where the place is the term under a mapping that has a, something is found, and that mapping has it too
+  -- where the place is the term under a mapping that has a, something is found, and that mapping
+  -- has it too
   pub fitted_complete : (p : Place K) (x : K) (a m : Mapping K) → IsBelow (length a) p → IsPart a m → term_under m p ≡ Some x
       → (b : Mapping K) × (fitted R p x a ≡ Some b) × (length b ≡ length a) × IsPart b m
   fitted_complete (place.Term y) x a m below h e = (a, ap (λ r. cond r (Some a) None) (same x y (sym (same_Some _ _ e))), refl, h)

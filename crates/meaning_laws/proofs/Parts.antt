@@ -1,4 +1,5 @@
--- What is some member of a part is some member of the whole; which graph names a dataset's quads have.
+-- What is some member of a part is some member of the whole; which graph names a dataset's quads
+-- have.
 use Rattle.std.proofs.Common.{◌≡◌, Bool, true, false, ◌||◌, List, [], ◌∷◌, ◌++◌, Option, Some, None, Result, Ok, Err, refl, sym, ap, ◌∙◌}
 use Rattle.std.specs.Prelude.{filter, if◌then◌else◌}
 use Rattle.std.specs.List.{list_any, cons_option}

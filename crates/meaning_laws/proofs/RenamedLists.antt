@@ -1,4 +1,5 @@
--- A renaming carries tests, choices and what is gathered over lists along. k tells which elements are renamed.
+-- A renaming carries tests, choices and what is gathered over lists along. k tells which elements
+-- are renamed.
 use Rattle.std.proofs.Common.{◌≡◌, Bool, true, false, ◌&&◌, List, [], ◌∷◌, ◌++◌, Option, Some, None, map, refl, sym, ◌∙◌}
 use Rattle.std.specs.Prelude.{cond, filter, filter_map}
 use Rattle.std.specs.List.{list_all, cons_option, flat_map}

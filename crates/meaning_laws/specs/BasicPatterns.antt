@@ -1,5 +1,6 @@
--- Solutions of a basic graph pattern in the standard's words (SPARQL 1.1 Query, 18.3.1): what a solution makes of the pattern is a subgraph,
--- and the solution binds the variables of the pattern alone. Patterns have no blank nodes, so each solution is there once.
+-- Solutions of a basic graph pattern in the standard's words (SPARQL 1.1 Query, 18.3.1): what a
+-- solution makes of the pattern is a subgraph, and the solution binds the variables of the pattern
+-- alone. Patterns have no blank nodes, so each solution is there once.
 use Rattle.std.specs.Prelude.{◌≡◌, ◌↔◌, ℕ, ◌<◌, Bool, true, false, ◌||◌, nat_eq, List, length, Option, Some, is_some, All, Any, Contains}
 use Rattle.std.specs.List.{list_any}
 use Rattle.std.specs.List.Sorted.{IsStrictlySortedBy}
@@ -34,7 +35,8 @@ module _ {K : Type 0} where
     pub predicate : term_under mapping t.predicate ≡ Some triple.predicate
     pub object : term_under mapping t.object ≡ Some triple.object
 
-  -- a mapping with this many places binds just the variables of the pattern, and what it makes of each triple pattern is in the graph
+  -- a mapping with this many places binds just the variables of the pattern, and what it makes of
+  -- each triple pattern is in the graph
   pub record IsSolution (width : ℕ) (ts : List (TriplePattern K)) (triples : List (Quad K)) (mapping : Mapping K) : Type 0 where
     pub row : length mapping ≡ width
     pub binds : (v : ℕ) → is_some (term_for mapping v) ≡ list_any (stands_in v) ts
@@ -46,7 +48,8 @@ pub record AreSolutions {K : Type 0} (R : K → K → Ordering) (width : ℕ) (t
   pub once : IsStrictlySortedBy (mapping_cmp R) found
   pub members : (mapping : Mapping K) → Contains found mapping ↔ IsSolution width ts triples mapping
 
--- where all variables are below the width, the joined solutions of the triple patterns are the solutions of the basic graph pattern
+-- where all variables are below the width, the joined solutions of the triple patterns are the
+-- solutions of the basic graph pattern
 abbrev pub JoinsAreSolutions : Type 0 → Type 0
 JoinsAreSolutions K =
     (V : Vocabulary K) (width : ℕ) (ts : List (TriplePattern K)) (triples : List (Quad K)) → IsExactOrder V

@@ -166,8 +166,8 @@ module _ {A : Type 0} (known : A → Bool) where
   request_known (Ok operations) = list_all operation_known operations
   request_known (Err refusal) = true
 
--- the renaming keeps the order and the kinds of the known terms and what passes a filter, and takes made nodes, which are known, to made
--- nodes
+-- the renaming keeps the order and the kinds of the known terms and what passes a filter, and takes
+-- made nodes, which are known, to made nodes
 pub record IsRenaming {A B : Type 0} (V : Vocabulary A) (W : Vocabulary B) (f : A → B) (known : A → Bool) : Type 0 where
   pub order : (x y : A) → known x ≡ true → known y ≡ true → W.order (f x) (f y) ≡ V.order x y
   pub iris : (x : A) → known x ≡ true → W.is_iri (f x) ≡ V.is_iri x
@@ -177,7 +177,8 @@ pub record IsRenaming {A B : Type 0} (V : Vocabulary A) (W : Vocabulary B) (f : 
   pub passes : (e : Expression A) (m : Mapping A) → expression_known known e ≡ true → mapping_known known m ≡ true
       → W.passes (renamed_expression f e) (renamed_mapping f m) ≡ V.passes e m
 
--- the run of a renamed block on a renamed dataset is the renamed run, with the same replies, and its terms are known
+-- the run of a renamed block on a renamed dataset is the renamed run, with the same replies, and
+-- its terms are known
 pub record IsRenamedRun {A B : Type 0} (V : Vocabulary A) (W : Vocabulary B) (f : A → B) (known : A → Bool) (requests : List (Request A)) (d : Dataset A) : Type 0 where
   pub dataset : renamed f (run V requests d).0 ≡ (run W (map (renamed_request f) requests) (renamed f d)).0
   pub replies : (run V requests d).1 ≡ (run W (map (renamed_request f) requests) (renamed f d)).1

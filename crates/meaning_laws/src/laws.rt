@@ -19,13 +19,15 @@ pub fn goes_on_by_one<K>()
     ensures { GoesOnByOne K }
 {}
 
-/// The joined solutions of triple patterns are the solutions of their basic graph pattern (SPARQL 1.1 Query, 18.3.1), each once: the mappings
-/// that bind just the variables of the pattern and under which it is a part of the graph.
+/// The joined solutions of triple patterns are the solutions of their basic graph pattern (SPARQL
+/// 1.1 Query, 18.3.1), each once: the mappings that bind just the variables of the pattern and
+/// under which it is a part of the graph.
 pub fn joins_are_solutions<K>()
     ensures { JoinsAreSolutions K }
 {}
 
-/// The set of a list's members rises strictly and has just the values that the list has; and it is the one list that does.
+/// The set of a list's members rises strictly and has just the values that the list has; and it is
+/// the one list that does.
 pub fn sets_are_members<A>()
     ensures members { SetsHaveMembers A }
     ensures one { MembersMakeSets A }

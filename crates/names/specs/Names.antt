@@ -1,5 +1,5 @@
--- What names and literals mean (SPARQL 1.1 Query, 4.1.1: a prefixed name is the IRI of its prefix and its local part, one after the other;
--- 4.1.2: literals; 4.2.4: `a` is rdf:type).
+-- What names and literals mean (SPARQL 1.1 Query, 4.1.1: a prefixed name is the IRI of its prefix
+-- and its local part, one after the other; 4.1.2: literals; 4.2.4: `a` is rdf:type).
 use Rattle.std.specs.Prelude.{ℕ, Bool, true, false, List, ◌++◌, Option, Some, None, bytes_eq, codes, unwrap_or, if◌then◌else◌}
 use Rattle.std.specs.Option.{option_map}
 use Rattle.std.specs.BTreeMap.{insert_entry, is_at}
@@ -51,7 +51,8 @@ abbrev pub truth : Bool → List ℕ
 truth true = codes "true"
 truth false = codes "false"
 
--- the literal that is written so: a string alone is an xsd:string, digits are an xsd:integer, a boolean an xsd:boolean
+-- the literal that is written so: a string alone is an xsd:string, digits are an xsd:integer, a
+-- boolean an xsd:boolean
 abbrev pub literal_of : Prefixes → Literal → Option LiteralValue
 literal_of ds (literal.Plain text) = literal_from text xsd_string None
 literal_of ds (literal.Tagged text tag) = literal_from text lang_string (Some tag)

@@ -20,7 +20,8 @@ variable_of (node.Literal l) = None
 abbrev pub variables_of : List Node → List (List ℕ)
 variables_of ns = set_of text_cmp (filter_map variable_of ns)
 
--- the number of a variable: its place among the variables of WHERE; one that isn't there has the number after these, and is never bound
+-- the number of a variable: its place among the variables of WHERE; one that isn't there has the
+-- number after these, and is never bound
 abbrev pub number_of : List (List ℕ) → List ℕ → ℕ
 number_of [] v = 0
 number_of (w ∷ ws) v = if is_at (text_cmp v) w then 0 else suc (number_of ws v)

@@ -1,7 +1,8 @@
-//! What the names of a request mean: declared prefixes, the terms that nodes stand for, and the numbers of variables and blank node labels.
+//! What the names of a request mean: declared prefixes, the terms that nodes stand for, and the
+//! numbers of variables and blank node labels.
 //!
-//! Stands on `syntax_trees` and `terms`. Used above: `Prefixes` gives the term of a node, `Variables` and `Labels` numbers. All are looked up in
-//! sorted orders.
+//! Stands on `syntax_trees` and `terms`. Used above: `Prefixes` gives the term of a node,
+//! `Variables` and `Labels` numbers. All are looked up in sorted orders.
 #![tactic(auto)]
 
 mod key;

@@ -60,7 +60,8 @@ fn variable_names<'a>(alloc: Global, nodes: &[Node<'a>]) -> Result<Vec<Key<'a>>,
 }
 
 impl<'a> Variables<'a> {
-    /// Those among nodes. An error comes only where a growth was refused, or where they are 2^32 or more.
+    /// Those among nodes. An error comes only where a growth was refused, or where they are 2^32 or
+    /// more.
     #[tactic(auto, using(crate::proofs::NumberLaws::sorted))]
     pub fn of(alloc: Global, nodes: &[Node<'a>]) -> Result<Variables<'a>, AllocError>
         ensures { IfOk result (λ variables. variables ≡ variables_of nodes.now) }
@@ -118,7 +119,8 @@ impl<'a> Labels<'a> {
         self.map.contains_key(&Key::new(label.as_bytes()))
     }
 
-    /// The next number for a label, if it has none. An error comes only where a growth was refused, or where there are 2^32 labels.
+    /// The next number for a label, if it has none. An error comes only where a growth was refused,
+    /// or where there are 2^32 labels.
     pub fn add(&mut self, label: &Label<'a>) -> Result<(), AllocError>
         ensures { OnOk result (self.new ≡ with_label label.now self.old) }
     {
@@ -133,7 +135,8 @@ impl<'a> Labels<'a> {
         Ok(())
     }
 
-    /// Numbers for the labels among nodes, in their order. An error comes only where a growth was refused, or where there are 2^32 labels.
+    /// Numbers for the labels among nodes, in their order. An error comes only where a growth was
+    /// refused, or where there are 2^32 labels.
     pub fn add_nodes(&mut self, nodes: &[Node<'a>]) -> Result<(), AllocError>
         ensures { OnOk result (self.new ≡ with_labels (labels_of nodes.now) self.old) }
     {

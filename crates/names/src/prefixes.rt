@@ -22,8 +22,9 @@ use syntax_trees::{Literal as Written, Name, Node};
 use terms::vocabulary::{RDF_LANG_STRING, RDF_TYPE, XSD_BOOLEAN, XSD_INTEGER, XSD_STRING};
 use terms::{Literal, Term};
 
-/// The declared prefixes with their IRIs. Contracts see a list in the order of the prefixes. Beside them it keeps IRIs that were made, whole
-/// ones and those of names, so that a name that stands often is one text in memory.
+/// The declared prefixes with their IRIs. Contracts see a list in the order of the prefixes. Beside
+/// them it keeps IRIs that were made, whole ones and those of names, so that a name that stands
+/// often is one text in memory.
 #[derive(Drop)]
 pub struct Prefixes<'a> {
     map: BTreeMap<Key<'a>, IriText<'a>>,
@@ -118,7 +119,8 @@ impl<'a> Prefixes<'a> {
         }
     }
 
-    /// One prefix more, which takes the place of an earlier one of the same name. An error comes only where a growth was refused.
+    /// One prefix more, which takes the place of an earlier one of the same name. An error comes
+    /// only where a growth was refused.
     pub fn declare(&mut self, prefix: &Piece<'a>, iri: &IriText<'a>) -> Result<(), AllocError>
         ensures { OnOk result (self.new ≡ declare prefix.now iri.now self.old) }
     {
@@ -222,8 +224,8 @@ impl<'a> Prefixes<'a> {
         }
     }
 
-    /// Makes and keeps the IRIs that stand in these nodes, so that terms made of them share each IRI. The declared prefixes stay as they are.
-    /// An error comes only where a growth was refused.
+    /// Makes and keeps the IRIs that stand in these nodes, so that terms made of them share each
+    /// IRI. The declared prefixes stay as they are. An error comes only where a growth was refused.
     pub fn keep(&mut self, alloc: Global, nodes: &[Node<'a>]) -> Result<(), AllocError>
         ensures { self.new ≡ self.old }
     {

@@ -8,7 +8,8 @@ use std::alloc::{AllocError, Global};
 use std::collections::BTreeMap;
 use std::marker::Model;
 
-/// IRIs by their texts, so that each is made once. Which they are is no one's business: contracts see nothing of it.
+/// IRIs by their texts, so that each is made once. Which they are is no one's business: contracts
+/// see nothing of it.
 #[derive(Drop)]
 pub(crate) struct WholeIris<'a> {
     made: BTreeMap<Key<'a>, Iri>,

@@ -1,4 +1,5 @@
--- The nodes that stand in an operation, in the order of its text. A variable of BOUND counts as a node.
+-- The nodes that stand in an operation, in the order of its text. A variable of BOUND counts as a
+-- node.
 use Rattle.std.specs.Prelude.{List, [], ◌∷◌, ◌++◌, Option, Some, None}
 use Rattle.std.specs.List.{flat_map}
 use Rattle.std.specs.Option.{option_to_list}

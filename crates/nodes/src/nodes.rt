@@ -138,7 +138,8 @@ fn put_two<'e, 'a>(
     put(pending, left)
 }
 
-/// Adds the nodes of an expression that has no operands, and puts those of any other one onto the stack.
+/// Adds the nodes of an expression that has no operands, and puts those of any other one onto the
+/// stack.
 #[tactic(auto, using(crate::proofs::TreeLaws::pending_push, crate::proofs::TreeLaws::weight_push))]
 fn add_next<'e, 'a>(
     found: &mut Vec<Node<'a>>,
@@ -160,7 +161,8 @@ fn add_next<'e, 'a>(
     }
 }
 
-/// Adds the nodes of an expression. Left operands lie as deep as a text is long: what is still to come stands on a stack.
+/// Adds the nodes of an expression. Left operands lie as deep as a text is long: what is still to
+/// come stands on a stack.
 #[tactic(auto, using(crate::proofs::TreeLaws::pending_push, crate::proofs::TreeLaws::weight_push))]
 fn add_expression<'a>(
     alloc: Global,

@@ -11,7 +11,8 @@ use std::alloc::{AllocError, Global};
 use std::marker::Model;
 use syntax_trees::{Block, Group, Name, Node, Operation, Place};
 
-/// Where among the nodes of an operation those of what it deletes begin and end, and where those of its WHERE begin, which are the last ones.
+/// Where among the nodes of an operation those of what it deletes begin and end, and where those of
+/// its WHERE begin, which are the last ones.
 #[derive(Clone, Copy, Drop)]
 struct Places {
     delete_start: usize,
@@ -229,15 +230,16 @@ impl<'e, 'a> OperationNodes<'e, 'a> {
         self.operation
     }
 
-    /// Its nodes, in the order of its text (SPARQL 1.1 Update, 19.8, production 30): names of graphs, WITH, templates and WHERE.
+    /// Its nodes, in the order of its text (SPARQL 1.1 Update, 19.8, production 30): names of
+    /// graphs, WITH, templates and WHERE.
     pub fn all(&self) -> &[Node<'a>]
         ensures { result.now ≡ nodes_of_operation self.now }
     {
         self.nodes.as_slice()
     }
 
-    /// The nodes of what it deletes (SPARQL 1.1 Update, 19.8, productions 39, 40 and 42): of the quads of DELETE DATA and of DELETE WHERE, and of
-    /// the template of DELETE.
+    /// The nodes of what it deletes (SPARQL 1.1 Update, 19.8, productions 39, 40 and 42): of the
+    /// quads of DELETE DATA and of DELETE WHERE, and of the template of DELETE.
     pub fn of_delete(&self) -> &[Node<'a>]
         ensures { result.now ≡ nodes_of_blocks (deleted_of self.now) }
     {
@@ -245,8 +247,8 @@ impl<'e, 'a> OperationNodes<'e, 'a> {
         front.split_at(self.places.delete_start).1
     }
 
-    /// The nodes of its WHERE (SPARQL 1.1 Update, 19.8, productions 40 and 41). DELETE WHERE has its quads there, and operations on graphs and on
-    /// data have none.
+    /// The nodes of its WHERE (SPARQL 1.1 Update, 19.8, productions 40 and 41). DELETE WHERE has
+    /// its quads there, and operations on graphs and on data have none.
     pub fn of_where(&self) -> &[Node<'a>]
         ensures { result.now ≡ nodes_of_where self.now }
     {

@@ -1,5 +1,5 @@
--- What is answered for a text that may be longer than a limit: of a longer one only those lines count that lie with their end in the
--- first bytes up to the limit.
+-- What is answered for a text that may be longer than a limit: of a longer one only those lines
+-- count that lie with their end in the first bytes up to the limit.
 use Rattle.std.specs.Prelude.{ℕ, ◌<◌, ◌≤◌, ◌-◌, ◌==◌, ◌&&◌, nat_le, Bool, true, false, List, [], ◌∷◌, length, take, slice_index, Result, Ok, Err, if◌then◌else◌}
 use Rattle.datasets.specs.Dataset.{Dataset}
 use Rattle.terms.specs.declared.term.Term.{Term}
@@ -23,7 +23,8 @@ but_last [] = []
 but_last (line ∷ []) = []
 but_last (line ∷ next ∷ later) = line ∷ but_last (next ∷ later)
 
--- the lines that lie with their end in the first n bytes: all but the last of the front, which has no end there
+-- the lines that lie with their end in the first n bytes: all but the last of the front, which has
+-- no end there
 abbrev pub ended_lines : ℕ → List ℕ → List (List ℕ)
 ended_lines n text = but_last (lines (front_within n text))
 

@@ -24,7 +24,8 @@ pub record IsReadText (text : List ℕ) (read : ReadText) : Type 0 where
 abbrev pub EndsWithLine : List ℕ → Type 0
 EndsWithLine text = (front : List ℕ) × (text ≡ front ++ 10 ∷ [])
 
--- what a text says that was read in pieces, each but the last ending with an LF, and how many of its lines have an end
+-- what a text says that was read in pieces, each but the last ending with an LF, and how many of
+-- its lines have an end
 abbrev pub AreRead : List ℕ → ReadPieces → Type 0
 AreRead text (Only read) = IsReadText text read
 AreRead text (Behind' p first last) = (front rest : List ℕ) × ArePieces text front rest × AreRead front first × IsReadText rest last
@@ -66,7 +67,8 @@ if_behind front (Some pieces) = Some (all_behind front pieces)
 abbrev pub as_one : ReadLines → Option ReadText
 as_one lines = if_behind lines.front lines.behind
 
--- of the bytes that a reader had left before, some came: first whole lines, which were read, and then others
+-- of the bytes that a reader had left before, some came: first whole lines, which were read, and
+-- then others
 pub record IsPartlyRead (before now : Option (List ℕ)) (read : PartlyRead) : Type 0 where
   pub front : List ℕ
   pub taken : Consumes before now (front ++ read.rest.items)
@@ -95,8 +97,8 @@ StopsFurther before text (fault.BadLine n) = StopsBehind before text (fault.BadL
 StopsFurther before text fault.TooLong = ⊥
 StopsFurther before text fault.Device = Unit {0}
 
--- the same of a text that is longer than a limit, of which those lines count that lie with their end within it: it may be too long, and each says
--- what a line may say
+-- the same of a text that is longer than a limit, of which those lines count that lie with their
+-- end within it: it may be too long, and each says what a line may say
 abbrev pub StopsWithin : ℕ → ℕ → List ℕ → BaseFault → Type 0
 StopsWithin before limit text fault.OutOfMemory = Unit {0}
 StopsWithin before limit text (fault.BadLine n) = (m : ℕ) × (n ≡ before + m) × IsFirstBadOf (ended_lines limit text) m

@@ -71,7 +71,8 @@ pub(crate) fn check_lines(alloc: Global, bytes: &[u8]) -> Result<(), BaseFault>
     Ok(())
 }
 
-/// The answer to a text of which these are the first bytes, all of them if they are within the limit.
+/// The answer to a text of which these are the first bytes, all of them if they are within the
+/// limit.
 fn answer(alloc: Global, bytes: &[u8], limit: usize) -> Result<DataSet, BaseFault>
     requires { 0 < limit }
     ensures answer { (text : List ℕ) → IsFront limit text bytes.now → IsAnswer limit text result }
@@ -104,8 +105,9 @@ fn read_within<R: Read>(
     answer(alloc, bytes.as_slice(), limit)
 }
 
-/// The dataset that the bytes of a reader spell, of which there may be 2^30. `OutOfMemory` and `Device` may come at any text, `Device` only
-/// where a read failed; `BadLine` and `TooLong` say what is wrong with the text.
+/// The dataset that the bytes of a reader spell, of which there may be 2^30. `OutOfMemory` and
+/// `Device` may come at any text, `Device` only where a read failed; `BadLine` and `TooLong` say
+/// what is wrong with the text.
 pub fn read<R: Read>(alloc: Global, reader: &mut Watched<R>) -> Result<DataSet, BaseFault>
     requires { reader.old.failures < 2 ^ 64 - 1 }
     ensures answer { IfSome (R.remaining reader.old.inner) (λ text. IsAnswer (2 ^ 30) text result) }

@@ -88,7 +88,8 @@ fn end_of_lf(bytes: &[u8], from: usize) -> Option<usize>
     None
 }
 
-/// A text in two pieces, for all of so many threads but one and for that, where an LF comes late enough. The first piece ends with it.
+/// A text in two pieces, for all of so many threads but one and for that, where an LF comes late
+/// enough. The first piece ends with it.
 fn parted(bytes: &[u8], threads: usize) -> Option<(&[u8], &[u8])>
     ensures { IfSome result (λ r. ArePieces bytes.now r.0.now r.1.now) }
 {
@@ -96,7 +97,8 @@ fn parted(bytes: &[u8], threads: usize) -> Option<(&[u8], &[u8])>
     Some(bytes.split_at(end))
 }
 
-/// A text in two pieces, for all of so many threads but one and for that, which puts the lines before it together first and gets as much less.
+/// A text in two pieces, for all of so many threads but one and for that, which puts the lines
+/// before it together first and gets as much less.
 fn parted_beside(bytes: &[u8], threads: usize) -> Option<(&[u8], &[u8])>
     ensures { IfSome result (λ r. ArePieces bytes.now r.0.now r.1.now) }
 {
@@ -115,7 +117,8 @@ fn more_first(one: DataSet, other: DataSet) -> (DataSet, DataSet)
     }
 }
 
-/// Two pieces as one text, by so many threads. The terms of the one that has fewer are looked for among those of the other.
+/// Two pieces as one text, by so many threads. The terms of the one that has fewer are looked for
+/// among those of the other.
 fn united<T: Threads + Sync>(
     rt: &T,
     first: ReadText,
@@ -154,8 +157,8 @@ fn and_then<T: Threads + Sync>(
     }
 }
 
-/// The lines that were read, and the text of these pieces behind them. Each piece is put behind those lines in turn, so that its quads are moved
-/// once.
+/// The lines that were read, and the text of these pieces behind them. Each piece is put behind
+/// those lines in turn, so that its quads are moved once.
 pub(crate) fn and_pieces<T: Threads + Sync>(
     rt: &T,
     front: Option<ReadText>,
@@ -207,8 +210,9 @@ fn read_whole(alloc: Global, bytes: &[u8]) -> Result<ReadPieces, BaseFault>
     Ok(ReadPieces::Only(read_piece(alloc, bytes)?))
 }
 
-/// What a text says, read in pieces by so many threads, where they can be had. An error tells no more than that a piece was not read: a line is
-/// bad, or memory ran out. The thread that calls makes all others: of those that new ones make, two often share a processor at first.
+/// What a text says, read in pieces by so many threads, where they can be had. An error tells no
+/// more than that a piece was not read: a line is bad, or memory ran out. The thread that calls
+/// makes all others: of those that new ones make, two often share a processor at first.
 pub(crate) fn read_pieces<T: Threads + Sync>(
     rt: &T,
     alloc: Global,
@@ -251,8 +255,8 @@ fn with_last(
     Ok(ReadPieces::Behind(before, last?))
 }
 
-/// Reads a text as `read_pieces` does, by at least two threads, of which one puts other lines together first, and then reads less of the text than
-/// each of the others.
+/// Reads a text as `read_pieces` does, by at least two threads, of which one puts other lines
+/// together first, and then reads less of the text than each of the others.
 pub(crate) fn read_beside<T: Threads + Sync>(
     rt: &T,
     alloc: Global,

@@ -19,7 +19,8 @@ use std::thread::{Threads, join_mut, spawn};
 use terms::DataSet;
 use terms::laws::{lists_grow_as_datasets, lists_unite};
 
-/// How often a portion is as long as the first one, where several threads read. Each that follows is twice as long as the one before.
+/// How often a portion is as long as the first one, where several threads read. Each that follows
+/// is twice as long as the one before.
 const FIRST_SHARE: usize = 8;
 
 /// In how many pieces each of several threads reads a portion, where terms are few.
@@ -102,8 +103,10 @@ fn say_few_terms(lines: &ReadLines) -> bool {
     }
 }
 
-/// How many bytes come behind these lines and so many bytes: twice as many, as long as several threads may be done with those before they came. The
-/// terms that they read of a portion are put among those of the lines before it by one thread: where they are not few, all that is left comes at once.
+/// How many bytes come behind these lines and so many bytes: twice as many, as long as several
+/// threads may be done with those before they came. The terms that they read of a portion are put
+/// among those of the lines before it by one thread: where they are not few, all that is left comes
+/// at once.
 fn portion_behind(lines: &ReadLines, bytes: usize, threads: usize, portion: usize) -> usize
     requires { portion < 2 ^ 32 }
     ensures { result < 2 ^ 32 }
@@ -117,8 +120,9 @@ fn portion_behind(lines: &ReadLines, bytes: usize, threads: usize, portion: usiz
     }
 }
 
-/// In how many pieces a text behind these lines is read by so many threads. Each piece has a table of its terms: where they are few, it is read in more
-/// pieces than there are threads, so that a processor that is done with one goes on with another.
+/// In how many pieces a text behind these lines is read by so many threads. Each piece has a table
+/// of its terms: where they are few, it is read in more pieces than there are threads, so that a
+/// processor that is done with one goes on with another.
 fn pieces_behind(lines: &ReadLines, threads: usize) -> usize
     ensures { 1 < threads → 1 < result }
 {
@@ -213,7 +217,8 @@ fn read_behind<T: Threads + Sync>(
     if let Ok(pieces) = read {
         return Ok((front?, pieces));
     }
-    // The first bad line of a piece may not be that of the text, and one table may have room where several have not.
+    // The first bad line of a piece may not be that of the text, and one table may have room where
+    // several have not.
     match read_alone(alloc, text, before) {
         Ok(pieces) => Ok((front?, pieces)),
         Err(fault) => {
@@ -516,8 +521,9 @@ fn read_within_by<T: Threads + Sync, R: Read>(
     ended(rt, alloc, read, limit, threads)
 }
 
-/// The same as `read`, in portions of some more than so many bytes, so that a longer text is not held whole, unless several threads read many
-/// terms. The lines of each portion are read by so many threads where they can be had.
+/// The same as `read`, in portions of some more than so many bytes, so that a longer text is not
+/// held whole, unless several threads read many terms. The lines of each portion are read by so
+/// many threads where they can be had.
 pub fn read_by<T: Threads + Sync, R: Read>(
     rt: &T,
     alloc: Global,

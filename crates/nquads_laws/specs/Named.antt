@@ -1,5 +1,5 @@
--- A dataset with each made node as the blank node of its printed label (RDF 1.1 Concepts, section 3.4: a label is no part of what a blank
--- node is).
+-- A dataset with each made node as the blank node of its printed label (RDF 1.1 Concepts, section
+-- 3.4: a label is no part of what a blank node is).
 use Rattle.std.specs.Prelude.{ℕ, map}
 use Rattle.std.specs.Option.{option_map}
 use Rattle.sets.specs.Sets.{set_of}

@@ -1,4 +1,5 @@
-//! Laws of reading and writing: what is written spells the dataset again. Each function has one law, and calls those that it stands on.
+//! Laws of reading and writing: what is written spells the dataset again. Each function has one
+//! law, and calls those that it stands on.
 #![tactic(auto)]
 
 ghost use Rattle.std.specs.Prelude.{◌≡◌, ◌∷◌, ◌++◌, All, List, ℕ, true, false, Some, IsUtf8};
@@ -18,8 +19,9 @@ use iris::laws::runs_are_longest;
 use nquads::laws::one_dataset;
 use nquads_lines::laws::{first_line_is_ended, objects_are_read};
 
-/// The canonical text of a well-formed dataset spells it with each made node as the blank node of its label, whatever the tag. Where no
-/// blank label begins with the tag's mark, no two terms of the dataset become one.
+/// The canonical text of a well-formed dataset spells it with each made node as the blank node of
+/// its label, whatever the tag. Where no blank label begins with the tag's mark, no two terms of
+/// the dataset become one.
 pub fn spells_again()
     ensures spelled { (d : Dataset Term) (tag : ℕ) → IsWellFormed d
         → Spells (canonical d tag) (named d tag) }
@@ -32,7 +34,8 @@ pub fn spells_again()
     one_dataset();
 }
 
-/// The text of a term, with a space behind it, is read as the term, where a made node is the blank node of its label.
+/// The text of a term, with a space behind it, is read as the term, where a made node is the blank
+/// node of its label.
 pub fn terms_are_read()
     ensures { (tag : ℕ) (t : Term) (rest : List ℕ) → IsTerm t
         → object_at (term_text tag t ++ 32 ∷ rest) ≡ Some (named_term tag t, 32 ∷ rest) }
@@ -62,8 +65,9 @@ pub fn read_and_written_again()
     one_dataset();
 }
 
-/// Two well-formed datasets have one text only if they are the same by the labels of their made nodes, whatever the tags; and with one tag
-/// whose mark begins no blank label of either, only if they are the same.
+/// Two well-formed datasets have one text only if they are the same by the labels of their made
+/// nodes, whatever the tags; and with one tag whose mark begins no blank label of either, only if
+/// they are the same.
 pub fn texts_differ()
     ensures labels { (d e : Dataset Term) (tag other : ℕ) → IsWellFormed d → IsWellFormed e
         → canonical d tag ≡ canonical e other → named d tag ≡ named e other }

@@ -1,4 +1,5 @@
--- What is read between quotes is what stands there, with its escapes undone, and what stands there is read.
+-- What is read between quotes is what stands there, with its escapes undone, and what stands there
+-- is read.
 use Rattle.std.specs.Prelude.{ℕ, ◌+◌, ◌-◌, ◌*◌, Bool, ◌&&◌, nat_lt, length, take, drop}
 use Rattle.std.proofs.Common.{zero, suc, ◌≡◌, true, false, cond, eqb, List, [], ◌∷◌, ◌++◌, Option, Some, None, refl, sym, ap, ◌∙◌, subst, arith, append_assoc, length-append, length-drop}
 use Rattle.std.specs.Char.{encode_utf8, IsScalar, digit_value, is_ascii_hexdigit}

@@ -1,5 +1,5 @@
--- Strings and IRIs with their escapes undone (RDF 1.1 N-Quads, productions 8 to 10 and 153s). `XAt text x rest`: x stands at the front, and
--- rest follows.
+-- Strings and IRIs with their escapes undone (RDF 1.1 N-Quads, productions 8 to 10 and 153s). `XAt
+-- text x rest`: x stands at the front, and rest follows.
 use Rattle.std.specs.Prelude.{ℕ, ◌≡◌, ◌==◌, ◌||◌, ◌+◌, ◌*◌, not, Bool, true, List, [], ◌∷◌, ◌++◌, length, Some}
 use Rattle.std.specs.List.{list_all}
 use Rattle.std.specs.Char.{encode_utf8, IsScalar, digit_value, is_ascii_hexdigit}

@@ -1,5 +1,5 @@
--- The terms of a statement (RDF 1.1 N-Quads, productions 3 to 7, with the labels and IRIs of this profile). `XAt text x rest`: x stands at the
--- front of the text, and rest follows.
+-- The terms of a statement (RDF 1.1 N-Quads, productions 3 to 7, with the labels and IRIs of this
+-- profile). `XAt text x rest`: x stands at the front of the text, and rest follows.
 use Rattle.std.specs.Prelude.{ℕ, ◌≡◌, ◌≢◌, ◌==◌, ◌||◌, Bool, true, List, ◌∷◌, ◌++◌, map, Option, Some, None}
 use Rattle.std.specs.Char.{to_ascii_lowercase}
 use Rattle.iris.specs.Iri.{is_letter, is_digit}
@@ -25,7 +25,8 @@ literal l d t = term.Literal (record { lexical = l; datatype = d; tag = t })
 abbrev pub begins_suffix : ℕ → Bool
 begins_suffix b = (b == 64) || (b == 94)
 
--- a string alone, with a datatype, or with a language tag, which is put in lower case. rdf:langString isn't written.
+-- a string alone, with a datatype, or with a language tag, which is put in lower case.
+-- rdf:langString isn't written.
 pub data LiteralAt : List ℕ → Term → List ℕ → Type 0 where
   simple : {text l rest : List ℕ} → StringAt text l rest → Stops begins_suffix rest → LiteralAt (34 ∷ text) (literal l xsd_string None) rest
   typed : {text l after d rest : List ℕ} → StringAt text l (94 ∷ 94 ∷ after) → IriAt after d rest → d ≢ lang_string → LiteralAt (34 ∷ text) (literal l d None) rest

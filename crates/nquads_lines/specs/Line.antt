@@ -1,4 +1,5 @@
--- What one line says (RDF 1.1 N-Quads, productions 1 and 2; that a comment `#@graph <iri>` declares a graph is this project's).
+-- What one line says (RDF 1.1 N-Quads, productions 1 and 2; that a comment `#@graph <iri>` declares
+-- a graph is this project's).
 use Rattle.std.specs.Prelude.{ℕ, ◌≡◌, ◌==◌, ◌||◌, Bool, true, List, [], ◌∷◌, ◌++◌, Option, Some, None, IsUtf8, codes, false, nat_eq}
 use Rattle.std.specs.List.{list_all, starts_with}
 use Rattle.terms.specs.declared.term.Term.{Term}

@@ -216,8 +216,8 @@ pub fn object_cow_at(alloc: Global, text: &str) -> Result<(TermCow<'_>, &str), S
     subject_at(alloc, text)
 }
 
-/// The object at the front of a text, and what follows it (RDF 1.1 N-Quads, production 5). `Bad` where none stands there, `Memory` where
-/// memory runs out.
+/// The object at the front of a text, and what follows it (RDF 1.1 N-Quads, production 5). `Bad`
+/// where none stands there, `Memory` where memory runs out.
 pub fn object_at(alloc: Global, text: &str) -> Result<(Term, &str), Stop>
     ensures { Gives (λ x. (x.0, x.1.now)) result (object_at text.now) }
 {

@@ -115,8 +115,8 @@ fn after_mark(line: &str) -> Option<&str>
     Some(rest)
 }
 
-/// What a line says (RDF 1.1 N-Quads, productions 1 and 2, and graph lines). `Bad` where it says nothing that a line may say, `Memory` where
-/// memory runs out.
+/// What a line says (RDF 1.1 N-Quads, productions 1 and 2, and graph lines). `Bad` where it says
+/// nothing that a line may say, `Memory` where memory runs out.
 #[tactic(auto, unfolding(crate::specs::Reading::line_of))]
 pub fn line_of(alloc: Global, line: &[u8]) -> Result<Line<'_>, Stop>
     ensures { Gives (λ x. x) result (line_of line.now) }

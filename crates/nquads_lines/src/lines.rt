@@ -43,7 +43,8 @@ fn after_end(rest: &[u8]) -> Option<&[u8]>
     }
 }
 
-/// The first line of a text, and the text after its end (RDF 1.1 N-Quads, production 7). Where the text ends with the line, none comes after.
+/// The first line of a text, and the text after its end (RDF 1.1 N-Quads, production 7). Where the
+/// text ends with the line, none comes after.
 #[tactic(auto, using(crate::proofs::Ends::lines_first))]
 pub fn first_line(text: &[u8]) -> (&[u8], Option<&[u8]>)
     ensures cut { lines text.now ≡ result.0.now ∷ later_lines result.1 }

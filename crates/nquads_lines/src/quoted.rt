@@ -1,4 +1,5 @@
-//! What stands between quotes and between angle brackets, with its escapes undone (RDF 1.1 N-Quads, productions 8 and 9).
+//! What stands between quotes and between angle brackets, with its escapes undone (RDF 1.1 N-Quads,
+//! productions 8 and 9).
 ghost use Rattle.std.specs.Prelude.{◌≡◌, ◌+◌, ◌≤◌, length, true, IfOk, IfSome, string_bytes};
 ghost use Rattle.std.specs.List.{list_all, prefix_len};
 ghost use Rattle.iris.specs.Iri.{is_iri_byte};

@@ -14,7 +14,8 @@ pub record StandFor (terms table : List Term) (placed : List (Quad ℕ)) (quads 
   pub each : map (quad_at table) placed ≡ map (renamed_quad (term_of terms)) quads
   pub within : list_all (is_quad_within table) placed ≡ true
 
--- places that stood for quads stand for these too, by another table and list of places, whatever dictionary they stood for
+-- places that stood for quads stand for these too, by another table and list of places, whatever
+-- dictionary they stood for
 abbrev pub StandsForMore : List Term → List (Quad ℕ) → List Term → List (Quad ℕ) → List (Quad Id) → Type 0
 StandsForMore table placed after more quads = (terms : List Term) (done : List (Quad Id)) → GoesOn terms table → list_all (quad_known (is_known terms)) quads ≡ true
     → StandFor terms table placed done → StandFor terms after more (done ++ quads)

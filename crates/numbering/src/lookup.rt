@@ -17,8 +17,9 @@ const REACH: usize = 16;
 /// What stands in a slot that has no term.
 const EMPTY: u32 = u32::MAX;
 
-/// A dictionary, and slots that lead to its terms by their hashes. Contracts see the dictionary alone: the term that a slot leads to is compared,
-/// so nothing has to be known of the slots. One that they do not lead to is searched for.
+/// A dictionary, and slots that lead to its terms by their hashes. Contracts see the dictionary
+/// alone: the term that a slot leads to is compared, so nothing has to be known of the slots. One
+/// that they do not lead to is searched for.
 #[derive(Drop)]
 pub(crate) struct Numbers<'a> {
     dict: &'a Dict,
@@ -59,7 +60,8 @@ fn put_slot(slots: &mut [u32], hash: usize, place: u32) {
     }
 }
 
-/// Slots that lead to the terms that will be asked for, each of which is given with its number. An error comes only where memory runs out.
+/// Slots that lead to the terms that will be asked for, each of which is given with its number. An
+/// error comes only where memory runs out.
 pub(crate) fn slots_for(
     alloc: Global,
     asked: &[Term],

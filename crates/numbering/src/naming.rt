@@ -22,8 +22,8 @@ use std::alloc::{AllocError, Global};
 use terms::laws::terms_keep_places;
 use terms::{DataSet, Term, TermTable};
 
-/// The place of a number's term in a table that goes on from a dictionary's terms, so that a known number is its term's place. A made node is
-/// put in.
+/// The place of a number's term in a table that goes on from a dictionary's terms, so that a known
+/// number is its term's place. A made node is put in.
 fn place_of(table: &mut TermTable, id: Id) -> Result<u32, AllocError>
     requires { is_known table.old id ≡ true }
     ensures term { IfOk result (λ place. term_at table.new place ≡ term_of table.old id) }
@@ -213,8 +213,8 @@ fn place_names(alloc: Global, table: &mut TermTable, names: &[Id]) -> Result<Vec
     Ok(list)
 }
 
-/// The dataset of terms that a dataset of numbers stands for: each term once, taken out of the dictionary, and no term made again for a quad.
-/// An error comes only where memory runs out.
+/// The dataset of terms that a dataset of numbers stands for: each term once, taken out of the
+/// dictionary, and no term made again for a quad. An error comes only where memory runs out.
 pub fn named(alloc: Global, terms: Dict, view: CompactView) -> Result<DataSet, AllocError>
     requires known { dataset_known (is_known terms) view ≡ true }
     requires dataset { IsDataset term_order (renamed (term_of terms) view) }

@@ -59,8 +59,9 @@ struct Based {
 }
 
 impl Based {
-    /// The base of a dataset and the terms of a block's accepted requests. The base's terms have their numbers from the sort that makes the
-    /// dictionary, into which they go, and the base is kept in the orders that the block can use.
+    /// The base of a dataset and the terms of a block's accepted requests. The base's terms have
+    /// their numbers from the sort that makes the dictionary, into which they go, and the base is
+    /// kept in the orders that the block can use.
     fn new<H: Hands>(
         hands: &H,
         alloc: Global,
@@ -101,8 +102,8 @@ impl Based {
     }
 }
 
-/// A base and a block at numbers, by the dictionary of the terms of the base and of the block's accepted requests. An error comes only where
-/// memory runs out.
+/// A base and a block at numbers, by the dictionary of the terms of the base and of the block's
+/// accepted requests. An error comes only where memory runs out.
 pub fn number(alloc: Global, dataset: DataSet, block: Block) -> Result<Numbered, AllocError>
     ensures { IfOk result (λ n. IsNumbered dataset block n.base n.block.items) }
 {
@@ -113,7 +114,8 @@ pub fn number(alloc: Global, dataset: DataSet, block: Block) -> Result<Numbered,
     based.with(numbered)
 }
 
-/// The same, put in order by several threads, and the requests numbered by so many, where there are enough of them.
+/// The same, put in order by several threads, and the requests numbered by so many, where there are
+/// enough of them.
 pub fn number_by<T: Threads + Sync>(
     rt: &T,
     alloc: Global,

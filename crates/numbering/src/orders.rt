@@ -1,11 +1,12 @@
-//! Which orders of a base the reads of a block can use. What a request finds doesn't depend on it: where an order is missing, it is only
-//! slower to find.
+//! Which orders of a base the reads of a block can use. What a request finds doesn't depend on it:
+//! where an order is missing, it is only slower to find.
 use algebra::{GraphOperation, Link, Operation, Place, Plan, TriplePattern};
 use quad_lists::Arrangement;
 use rules::Block;
 use std::alloc::{AllocError, Global};
 
-/// Orders beside SPOG. A scan of a request is of one graph, or of all quads, so none begins with the object and the subject.
+/// Orders beside SPOG. A scan of a request is of one graph, or of all quads, so none begins with
+/// the object and the subject.
 #[derive(Drop)]
 struct Wanted {
     pogs: bool,
@@ -21,7 +22,8 @@ fn is_term<T>(place: &Place<T>) -> bool {
     }
 }
 
-// The order in which a triple pattern is looked for in a graph: a scan for it binds its terms and the graph.
+// The order in which a triple pattern is looked for in a graph: a scan for it binds its terms and
+// the graph.
 fn want_pattern<T>(wanted: &mut Wanted, pattern: &TriplePattern<T>) {
     let s = is_term(&pattern.subject);
     let p = is_term(&pattern.predicate);
@@ -94,7 +96,8 @@ fn push_if(
     Ok(())
 }
 
-/// The orders, beside SPOG, that begin with the bound places of a scan of one of the block's requests.
+/// The orders, beside SPOG, that begin with the bound places of a scan of one of the block's
+/// requests.
 pub(crate) fn orders_for(alloc: Global, block: &Block) -> Result<Vec<Arrangement>, AllocError> {
     let mut wanted = Wanted {
         pogs: false,

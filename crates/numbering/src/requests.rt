@@ -193,7 +193,8 @@ fn number_request(
     }
 }
 
-/// The numbers of requests whose terms the dictionary holds. A request is let go as soon as it has its numbers.
+/// The numbers of requests whose terms the dictionary holds. A request is let go as soon as it has
+/// its numbers.
 pub(crate) fn number_requests(
     alloc: Global,
     numbers: &Numbers<'_>,

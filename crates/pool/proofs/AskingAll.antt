@@ -95,7 +95,8 @@ popped_first xs ys o x e is = e ∙ ap (λ z. option_to_list z ++ ys) is
 
 -- ---- going along the replies
 
--- some of the reads were noted with their answers; the others are left, with the replies that are left of those that were made in turn
+-- some of the reads were noted with their answers; the others are left, with the replies that are
+-- left of those that were made in turn
 pub record Along {E : Type 0} (a : Asker) (made : Result Bool E) (old : Viewed) (reads left : List Read) (replies : List Reply) (notes notes' : List Note) : Type 0 where
   pub mid : Viewed
   pub went : Went Asks (record a { pass = old }) reads left notes notes' (record a { pass = mid })

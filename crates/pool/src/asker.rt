@@ -16,8 +16,9 @@ use std::collections::VecDeque;
 use std::marker::Model;
 use std::sync::Wait;
 
-/// What answers the reads of one incarnation of a request: a shared book, by a pass, which it keeps until the run ends. To a contract it is
-/// its pass, with the place of the request and the incarnation.
+/// What answers the reads of one incarnation of a request: a shared book, by a pass, which it keeps
+/// until the run ends. To a contract it is its pass, with the place of the request and the
+/// incarnation.
 #[derive(Drop)]
 pub struct Asking<'w, 's, 'a, R: Wait, G: Gate> {
     workers: &'w Workers<'s, 'a, R, G>,
@@ -67,7 +68,8 @@ impl<'w, 's, 'a, R: Wait, G: Gate> Asking<'w, 's, 'a, R, G> {
         self.pass
     }
 
-    // Shows the gate what reads were replied that were made in turn, and notes them with their answers, as far as they were answered.
+    // Shows the gate what reads were replied that were made in turn, and notes them with their
+    // answers, as far as they were answered.
     fn note_replies(
         &self,
         reads: &[Read<Id>],

@@ -73,8 +73,9 @@ impl<'s, 'a, R: Threads + Wait + Sync, G: Gate + Sync> Crew<'s, 'a, R, G> {
         Ok((first, second))
     }
 
-    /// All do tasks until all requests are committed, each on a thread of its own where one can be had. The thread that calls makes all others: of
-    /// those that new ones make, two often share a processor at first. An error comes only where a growth was refused.
+    /// All do tasks until all requests are committed, each on a thread of its own where one can be
+    /// had. The thread that calls makes all others: of those that new ones make, two often share a
+    /// processor at first. An error comes only where a growth was refused.
     pub fn work(self) -> Result<Vec<Pass<'a>>, AllocError>
         requires shared { IsSync R.row × IsSync G.row }
         requires begin { MayBegin self.workers self.passes.items }

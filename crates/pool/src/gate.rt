@@ -4,8 +4,8 @@ use block_machine::Entry;
 
 /// Sees each answered event of the workers of a pool.
 pub trait Gate {
-    /// Is called after each answered event of a worker, reads too, on the worker's thread and while it doesn't hold the book. The entry of a
-    /// publication has no finished run.
+    /// Is called after each answered event of a worker, reads too, on the worker's thread and while
+    /// it doesn't hold the book. The entry of a publication has no finished run.
     fn after(&self, worker: u32, entry: &Entry);
 }
 

@@ -1,8 +1,9 @@
 //! How many notes the runs have that were published.
 //!
-//! A worker that begins a pass of checks of a run that another has published takes from here how many checks it makes before it commits, and
-//! that it need not try to commit what nobody has published. What it is told changes which events it makes and nothing else, so no contract
-//! speaks of it.
+//! A worker that begins a pass of checks of a run that another has published takes from here how
+//! many checks it makes before it commits, and that it need not try to commit what nobody has
+//! published. What it is told changes which events it makes and nothing else, so no contract speaks
+//! of it.
 
 use std::alloc::{AllocError, Global};
 use std::sync::atomic::{AtomicUsize, Ordering};

@@ -1,7 +1,7 @@
 //! Workers on threads of their own, which run a block together.
 //!
-//! Stands on `shared`, `scheduler` and `update`. Used above: `run_block` answers the dataset and the replies of running the requests one after
-//! another, whatever the workers did.
+//! Stands on `shared`, `scheduler` and `update`. Used above: `run_block` answers the dataset and
+//! the replies of running the requests one after another, whatever the workers did.
 #![tactic(auto)]
 
 mod asker;

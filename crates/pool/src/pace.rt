@@ -1,9 +1,11 @@
 //! How far ahead of the committed requests others are begun.
 //!
-//! Where each request reads what the one before it writes, what runs ahead runs in vain, and takes the lock and the processors from the one
-//! that gets on. So each run that comes to nothing halves how far ahead one may be, and each commit lets it grow by a little: by less where
-//! runs ahead came to nothing before enough requests were committed beside them. Where as many requests are run as may be ahead, a worker more
-//! would find nothing to do: it waits, and leaves the book to the others. That changes when a request is begun and nothing else.
+//! Where each request reads what the one before it writes, what runs ahead runs in vain, and takes
+//! the lock and the processors from the one that gets on. So each run that comes to nothing halves
+//! how far ahead one may be, and each commit lets it grow by a little: by less where runs ahead
+//! came to nothing before enough requests were committed beside them. Where as many requests are
+//! run as may be ahead, a worker more would find nothing to do: it waits, and leaves the book to
+//! the others. That changes when a request is begun and nothing else.
 
 use crate::patience::Patience;
 use std::sync::Wait;
@@ -15,7 +17,8 @@ const PARTS: usize = 64;
 /// How far ahead a request may be at first, and at most, in parts: as far as there may be workers.
 const FARTHEST: usize = 64 * PARTS;
 
-/// How far ahead a request may be at least, in parts: the first that is not committed is always begun.
+/// How far ahead a request may be at least, in parts: the first that is not committed is always
+/// begun.
 const NEAREST: usize = PARTS;
 
 /// By how many parts a commit lets it grow at most.
@@ -34,7 +37,8 @@ pub(crate) struct Pace {
     ahead: AtomicUsize,
     // By how many parts a commit lets it grow.
     growth: AtomicUsize,
-    // How many requests were committed, since a run last came to nothing, while others could run ahead.
+    // How many requests were committed, since a run last came to nothing, while others could run
+    // ahead.
     beside: AtomicUsize,
     // How many commits were told: no more than there are, and in the end as many.
     committed: AtomicUsize,
@@ -64,7 +68,8 @@ impl Pace {
         committed.saturating_add(self.most())
     }
 
-    /// The same once the request at a place is published: where all before it are committed, it will be too.
+    /// The same once the request at a place is published: where all before it are committed, it
+    /// will be too.
     pub(crate) fn until_behind(&self, place: usize) -> usize {
         let committed = self.committed.load(Ordering::SeqCst);
         let first = if place == committed {

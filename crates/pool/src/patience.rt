@@ -11,8 +11,8 @@ const SHORTEST_SLEEP: u64 = 50;
 /// How long it sleeps at most: twice as long each time until then.
 const LONGEST_SLEEP: u64 = 800;
 
-/// A worker waits for some cycles first, then for other threads of its processor, and then it sleeps, so that those that get on have the
-/// processors: two may be one core.
+/// A worker waits for some cycles first, then for other threads of its processor, and then it
+/// sleeps, so that those that get on have the processors: two may be one core.
 #[derive(Drop)]
 pub(crate) struct Patience {
     backoff: Backoff,

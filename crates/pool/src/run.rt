@@ -46,9 +46,10 @@ fn opened<'a>(
     Ok((shared, passes))
 }
 
-/// Runs a block on a base to its end, by this many workers, from 1 to 64, each on a thread of its own where one can be had; the calling thread
-/// is one of them. Where it returns, all requests are committed in the book. The gate sees each answered event. An error comes only where a
-/// growth was refused.
+/// Runs a block on a base to its end, by this many workers, from 1 to 64, each on a thread of its
+/// own where one can be had; the calling thread is one of them. Where it returns, all requests are
+/// committed in the book. The gate sees each answered event. An error comes only where a growth was
+/// refused.
 pub fn run_book<'a, R: Threads + Wait + Sync, G: Gate + Sync>(
     rt: &R,
     alloc: Global,
@@ -88,8 +89,9 @@ pub fn run_book<'a, R: Threads + Wait + Sync, G: Gate + Sync>(
     Ok(shared.close(rt, passes))
 }
 
-/// Runs a block on a base by this many workers, from 1 to 64, each on a thread of its own where one can be had: the dataset and the replies of
-/// running the requests one after another. The gate sees each answered event. An error comes only where a growth was refused.
+/// Runs a block on a base by this many workers, from 1 to 64, each on a thread of its own where one
+/// can be had: the dataset and the replies of running the requests one after another. The gate sees
+/// each answered event. An error comes only where a growth was refused.
 #[tactic(auto, using(crate::proofs::Passes::whole_run))]
 pub fn run_block<R: Threads + Wait + Sync, G: Gate + Sync>(
     rt: &R,

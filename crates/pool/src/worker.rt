@@ -34,7 +34,8 @@ pub struct Turn {
     pub incarnation: u64,
 }
 
-/// A shared book, what it is about, and what sees the events of its workers. To a contract it is what the workers are there for.
+/// A shared book, what it is about, and what sees the events of its workers. To a contract it is
+/// what the workers are there for.
 #[derive(Drop)]
 pub struct Workers<'s, 'a, R: Wait, G: Gate> {
     pub(crate) rt: &'s R,
@@ -147,7 +148,8 @@ impl<'s, 'a, R: Wait, G: Gate> Workers<'s, 'a, R, G> {
         }
     }
 
-    // Below which place a worker commits while it holds the book once: from a place on those whose runs are published.
+    // Below which place a worker commits while it holds the book once: from a place on those whose
+    // runs are published.
     fn until(&self, place: usize) -> usize {
         let most = self.block.len().min(place.saturating_add(MOST_COMMITS));
         for next in place.saturating_add(1)..most {
@@ -158,8 +160,8 @@ impl<'s, 'a, R: Wait, G: Gate> Workers<'s, 'a, R, G> {
         most
     }
 
-    // Publishes the finished run of a request and settles it, and finds what can be done next, in one hold of the book. It answers whether it was
-    // published, and that.
+    // Publishes the finished run of a request and settles it, and finds what can be done next, in
+    // one hold of the book. It answers whether it was published, and that.
     fn published(
         &self,
         pass: &mut Pass<'a>,
@@ -193,8 +195,9 @@ impl<'s, 'a, R: Wait, G: Gate> Workers<'s, 'a, R, G> {
         Ok((is_published, next))
     }
 
-    // Publishes a finished run and settles it while the book is held once, and leaves the request where the publication is refused. It answers
-    // whether it was published, and what can be done next.
+    // Publishes a finished run and settles it while the book is held once, and leaves the request
+    // where the publication is refused. It answers whether it was published, and what can be done
+    // next.
     fn publish(
         &self,
         pass: &mut Pass<'a>,
@@ -212,8 +215,9 @@ impl<'s, 'a, R: Wait, G: Gate> Workers<'s, 'a, R, G> {
         Ok((is_published, next))
     }
 
-    // Settles a published run of so many notes while the book is held once: its checks, as long as they pass, and the commits of the request
-    // and of those behind it, as long as each can be committed. It answers whether its pass of checks was begun.
+    // Settles a published run of so many notes while the book is held once: its checks, as long as
+    // they pass, and the commits of the request and of those behind it, as long as each can be
+    // committed. It answers whether its pass of checks was begun.
     fn settle(&self, pass: &mut Pass<'a>, turn: Turn, notes: usize) -> Result<bool, AllocError>
         requires { IsPassFor self.now pass.old }
         ensures { IsPassFor self.now pass.new }
@@ -236,7 +240,8 @@ impl<'s, 'a, R: Wait, G: Gate> Workers<'s, 'a, R, G> {
         Ok(is_begun)
     }
 
-    // Runs an incarnation that was taken, publishes its run and settles it. It answers whether one was published, and what can be done next.
+    // Runs an incarnation that was taken, publishes its run and settles it. It answers whether one
+    // was published, and what can be done next.
     fn run_taken(
         &self,
         pass: Pass<'a>,
@@ -263,7 +268,8 @@ impl<'s, 'a, R: Wait, G: Gate> Workers<'s, 'a, R, G> {
         Ok((pass, is_published, next))
     }
 
-    // Runs the request at a place, which was taken with this reply. It answers whether a run was published, and what can be done next.
+    // Runs the request at a place, which was taken with this reply. It answers whether a run was
+    // published, and what can be done next.
     fn run_next(
         &self,
         pass: Pass<'a>,
@@ -333,7 +339,8 @@ impl<'s, 'a, R: Wait, G: Gate> Workers<'s, 'a, R, G> {
         Ok((pass, got_on))
     }
 
-    // Does what can be done next: a request that was taken with it is run. It answers whether the block got on by it, and what can be done then.
+    // Does what can be done next: a request that was taken with it is run. It answers whether the
+    // block got on by it, and what can be done then.
     fn follow(&self, pass: Pass<'a>, next: Next) -> Result<(Pass<'a>, bool, Next), AllocError>
         requires pass { IsPassFor self.now pass }
         requires size { length self.now.subject.block < 2 ^ 32 }
@@ -350,7 +357,8 @@ impl<'s, 'a, R: Wait, G: Gate> Workers<'s, 'a, R, G> {
         }
     }
 
-    // Looks for the next task, if there is one, and does it. A request that is too far ahead is not taken. It answers as `follow` does.
+    // Looks for the next task, if there is one, and does it. A request that is too far ahead is not
+    // taken. It answers as `follow` does.
     fn advance(&self, pass: Pass<'a>) -> Result<(Pass<'a>, bool, Next), AllocError>
         requires pass { IsPassFor self.now pass }
         requires size { length self.now.subject.block < 2 ^ 32 }
@@ -365,7 +373,8 @@ impl<'s, 'a, R: Wait, G: Gate> Workers<'s, 'a, R, G> {
         self.follow(pass, next)
     }
 
-    // Runs the request that was taken last, or looks for the next task. It answers as `follow` does.
+    // Runs the request that was taken last, or looks for the next task. It answers as `follow`
+    // does.
     fn go_on(
         &self,
         pass: Pass<'a>,
@@ -415,7 +424,8 @@ impl<'s, 'a, R: Wait, G: Gate> Workers<'s, 'a, R, G> {
         unreachable!()
     }
 
-    /// Does tasks until all requests are committed. An error comes only where a growth was refused, to this worker or another; then all stop.
+    /// Does tasks until all requests are committed. An error comes only where a growth was refused,
+    /// to this worker or another; then all stop.
     pub fn work_or_stop(&self, pass: Pass<'a>) -> Result<Pass<'a>, AllocError>
         requires pass { IsPassFor self.now pass }
         requires size { length self.now.subject.block < 2 ^ 32 }

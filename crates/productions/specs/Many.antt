@@ -1,6 +1,6 @@
--- Items one after another with links between them, as `Object { ',' Object }`. `Item ts x rest` says that
--- x stands at the front of the tokens ts, and rest follows; `Link ts true rest` leads to a next item, and
--- `Link ts false rest` ends the list.
+-- Items one after another with links between them, as `Object { ',' Object }`. `Item ts x rest`
+-- says that x stands at the front of the tokens ts, and rest follows; `Link ts true rest` leads to
+-- a next item, and `Link ts false rest` ends the list.
 use Rattle.std.specs.Prelude.{ℕ, zero, suc, Bool, true, false, List, [], ◌∷◌, length, Option, Some, None, if◌then◌else◌}
 use Rattle.iris.specs.Bracketed.{◌>>=◌}
 use Rattle.lexer.specs.declared.token.Token.{Token}

@@ -1,5 +1,5 @@
--- Names and literals (SPARQL 1.1 Query, 19.8, productions 129, 130, 134 and 136). `ReadsX ts x rest`: the production reads x at the front of
--- the tokens ts, and rest follows.
+-- Names and literals (SPARQL 1.1 Query, 19.8, productions 129, 130, 134 and 136). `ReadsX ts x
+-- rest`: the production reads x at the front of the tokens ts, and rest follows.
 use Rattle.std.specs.Prelude.{ℕ, ◌≡◌, true, false, List, ◌∷◌, codes}
 use Rattle.lexer.specs.declared.token.Token.{Token}
 use Rattle.lexer.specs.declared.token.Token.TheVariants as token
@@ -21,8 +21,8 @@ NoSuffix (token.Tag t ∷ ts) = ⊥
 NoSuffix (token.Sign signs.Carets ∷ ts) = ⊥
 NoSuffix ts = Unit {0}
 
--- Literal = string [ tag | '^^' Iri ] | integer | 'true' | 'false'. A string takes the tag or the datatype that follows it: no other
--- production begins with one.
+-- Literal = string [ tag | '^^' Iri ] | integer | 'true' | 'false'. A string takes the tag or the
+-- datatype that follows it: no other production begins with one.
 pub data ReadsLiteral : List Token → Literal → List Token → Type 0 where
   plain : {s : List ℕ} {rest : List Token} → NoSuffix rest → ReadsLiteral (token.Text s ∷ rest) (literal.Plain s) rest
   tagged : {s t : List ℕ} {rest : List Token} → ReadsLiteral (token.Text s ∷ token.Tag t ∷ rest) (literal.Tagged s t) rest

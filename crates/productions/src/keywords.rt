@@ -12,7 +12,8 @@ pub fn is_keyword(word: &Piece<'_>, keyword: &[u8]) -> bool
     word.as_bytes().eq_ignore_ascii_case(keyword)
 }
 
-/// What follows a keyword at the front of the tokens, in any case. `None` where they begin with anything else.
+/// What follows a keyword at the front of the tokens, in any case. `None` where they begin with
+/// anything else.
 pub fn after_keyword<'t, 'a>(keyword: &[u8], tokens: &'t [Token<'a>]) -> Option<&'t [Token<'a>]>
     ensures { MatchOption result (keyword_at keyword.now tokens.now ≡ None)
         (λ rest. keyword_at keyword.now tokens.now ≡ Some rest.now) }

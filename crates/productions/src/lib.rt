@@ -1,8 +1,9 @@
-//! What the productions of the grammar are made of: signs, keywords, variables, names and literals at the front of the tokens, and the
-//! repetition of an item.
+//! What the productions of the grammar are made of: signs, keywords, variables, names and literals
+//! at the front of the tokens, and the repetition of an item.
 //!
-//! Stands on `syntax_trees`, `lexer`, `iris` and `sets`. Each function here answers what the reading of the same name in `specs/` gives, and
-//! the proofs of the crates above may cite what `proofs/` says of it.
+//! Stands on `syntax_trees`, `lexer`, `iris` and `sets`. Each function here answers what the
+//! reading of the same name in `specs/` gives, and the proofs of the crates above may cite what
+//! `proofs/` says of it.
 #![tactic(auto)]
 
 mod keywords;

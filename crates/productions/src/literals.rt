@@ -38,8 +38,8 @@ fn text_at<'t, 'a>(
     }
 }
 
-/// The literal at the front of the tokens (SPARQL 1.1 Query, 19.8, productions 129, 130 and 134), and what follows it. `NoReading` where no
-/// literal is there.
+/// The literal at the front of the tokens (SPARQL 1.1 Query, 19.8, productions 129, 130 and 134),
+/// and what follows it. `NoReading` where no literal is there.
 pub fn literal_at<'t, 'a>(tokens: &'t [Token<'a>]) -> Result<(Literal<'a>, &'t [Token<'a>]), Stop>
     ensures { Gives (λ x. (x.0, x.1.now)) result (literal_at tokens.now) }
 {

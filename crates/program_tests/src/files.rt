@@ -52,7 +52,8 @@ fn files_that_are_not_there(rt: HostRuntime) {
     assert!(rt; file.flush().is_err());
 }
 
-/// What is told of files of these paths for the base, the block and the dataset: a fault, or nothing.
+/// What is told of files of these paths for the base, the block and the dataset: a fault, or
+/// nothing.
 fn told_of<R: Files + AllocGlobal>(rt: &R, paths: (&str, &str, &str)) -> io::Result<String> {
     let mut base = Watched::new(InFile::new(rt, paths.0));
     let mut block = Watched::new(InFile::new(rt, paths.1));

@@ -1,4 +1,5 @@
-//! Blocks with operations on whole graphs, blocks whose requests meet, a request with a million solutions, and large answers.
+//! Blocks with operations on whole graphs, blocks whose requests meet, a request with a million
+//! solutions, and large answers.
 use crate::tests::{Row, answer_to, check_rows, serial_answer_to};
 use std::alloc::Global;
 use std::io;

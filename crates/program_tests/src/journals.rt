@@ -1,4 +1,5 @@
-//! Journals through the engines of `run` and `replay`: those of runs, those that are written by hand and spoilt, and devices that fail.
+//! Journals through the engines of `run` and `replay`: those of runs, those that are written by
+//! hand and spoilt, and devices that fail.
 ghost use Rattle.std.specs.Prelude.{◌<◌, ◌≤◌};
 
 use crate::journals_by_hand::{CASES, Case, Edit, TWO, Told};
@@ -227,7 +228,8 @@ fn foreign_first_lines(rt: HostRuntime) {
     }
 }
 
-/// Whether a beginning of a journal of two empty requests is replayed where it ends with a line, and else ends with a bad entry.
+/// Whether a beginning of a journal of two empty requests is replayed where it ends with a line,
+/// and else ends with a bad entry.
 fn is_cut_well(alloc: Global, front: &[u8]) -> bool {
     let answer = replayed(alloc, b"", b"----\n", front, MANY);
     if front.ends_with(b"\n") {
@@ -256,7 +258,8 @@ fn long(alloc: Global, front: &str, back: &str) -> Result<Vec<u8>, AllocError> {
     Ok(text)
 }
 
-/// The front and the back of journals with a long line, and what they are replayed to over an empty base.
+/// The front and the back of journals with a long line, and what they are replayed to over an empty
+/// base.
 const LONG: [(&str, &str, Told); 4] = [
     ("", "\n", Told::BadEntry(0)),
     ("sparql-block journal 1\n", "\n", Told::BadEntry(1)),

@@ -11,7 +11,8 @@ pub(crate) enum Told {
     Illegal(u64),
 }
 
-/// Which lines are taken out, from one place up to another, counted from 0; the lines that stand instead; and what the journal is replayed to.
+/// Which lines are taken out, from one place up to another, counted from 0; the lines that stand
+/// instead; and what the journal is replayed to.
 pub(crate) type Edit = (usize, usize, &'static [&'static str], Told);
 
 /// A base and a block, the lines of a journal, and edits of it.
@@ -180,7 +181,8 @@ const BASE: &str = "<x:a> <x:p> <x:b> .\n";
 
 const UNCHANGED: Told = Answer(BASE, "");
 
-/// The second request runs before the first, is aborted and runs again. The third waits for it and gives up.
+/// The second request runs before the first, is aborted and runs again. The third waits for it and
+/// gives up.
 const READS: [&str; 25] = [
     "01 take 0001 > taken 0",
     "01 read 0001 0 scan - <x:p> - default > answer 1",

@@ -1,5 +1,6 @@
-//! Worked examples through the whole engines, over memory and files: a base and a block in, the dataset, the replies and the fault out; and a
-//! block in, its verdicts and the fault out; journals of runs, and journals that are replayed; and command lines with the jobs that they ask for.
+//! Worked examples through the whole engines, over memory and files: a base and a block in, the
+//! dataset, the replies and the fault out; and a block in, its verdicts and the fault out; journals
+//! of runs, and journals that are replayed; and command lines with the jobs that they ask for.
 #![tactic(auto)]
 
 #[cfg(test)]

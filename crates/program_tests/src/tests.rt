@@ -129,7 +129,8 @@ pub(crate) const ROWS: [Row; 25] = [
         "<http://e/a> <http://e/p> <http://e/b> .\n<http://e/b> <http://e/p> <http://e/a> .\n",
         "0 ok +0 -0\n",
     ),
-    // A request of two operations reads what its first has made; deleting what is not there succeeds.
+    // A request of two operations reads what its first has made; deleting what is not there
+    // succeeds.
     (
         "",
         "PREFIX ex: <http://e/> INSERT DATA { ex:a ex:p ex:b , ex:c } ; DELETE { $s ?p ?o } WHERE { ?s ?p $o } ; DELETE DATA { ex:a ex:p ex:b }",

@@ -1,4 +1,5 @@
-//! Command lines and the jobs that they ask for, and the lines that are told of replies, verdicts and faults.
+//! Command lines and the jobs that they ask for, and the lines that are told of replies, verdicts
+//! and faults.
 use command_line::{
     Fault, File, Job, LineFault, Message, read_job, replies_text, told, verdicts_text,
 };

@@ -123,7 +123,8 @@ pub(crate) const ROWS: [Row; 21] = [
         "<http://e/b> <http://e/p> <http://e/a> <http://e/g> .\n<http://e/c> <http://e/p> <http://e/d> <http://e/h> .\n<http://e/c> <http://e/p> <http://e/d> <http://e/k> .\n",
         "0 ok +2 -1\n",
     ),
-    // Labels are numbered by first appearance, also of quads that are left out, and are one node in all blocks of an operation.
+    // Labels are numbered by first appearance, also of quads that are left out, and are one node in
+    // all blocks of an operation.
     (
         "",
         "PREFIX ex: <http://e/> INSERT DATA { _:x ex:p _:y GRAPH ex:g { _:y ex:p _:x } } ; INSERT { ?none ex:p _:a . _:b ex:q 1 } WHERE { }",

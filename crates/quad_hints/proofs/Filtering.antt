@@ -1,4 +1,5 @@
--- What a filter lets through: every quad that was put, and so each pattern that one of them matches.
+-- What a filter lets through: every quad that was put, and so each pattern that one of them
+-- matches.
 use Rattle.std.specs.Prelude.{Bool, true, false, ◌&&◌, Option, Some, None, slice_set}
 use Rattle.std.proofs.Common.{◌≡◌, ◌<◌, ℕ, zero, suc, List, [], ◌∷◌, refl, sym, ap, ◌∙◌, length, get_or, arith}
 use Rattle.std.proofs.lemmas.Bool.{false≢true, and_parts, and_from}

@@ -1,4 +1,5 @@
--- Filters: slots of the terms that a place has had. Many terms share a slot, so a filter may let through what the place never had.
+-- Filters: slots of the terms that a place has had. Many terms share a slot, so a filter may let
+-- through what the place never had.
 use Rattle.std.specs.Prelude.{ℕ, ◌%◌, Bool, false, true, List, Option, Some, None, ◌&&◌}
 use Rattle.std.proofs.Common.{get_or}
 use Rattle.std.specs.Option.{is_none}

@@ -18,7 +18,8 @@ use quad_lists::Arrangement;
 use quad_sets::QuadSlice;
 use std::alloc::{AllocError, Global};
 
-/// Hints one after another, in little memory where all are of known terms and all numbers are below 2^32.
+/// Hints one after another, in little memory where all are of known terms and all numbers are below
+/// 2^32.
 #[derive(Drop)]
 pub enum HintList {
     Narrow(Vec<KnownHint>),
@@ -110,8 +111,8 @@ impl HintList {
         }
     }
 
-    /// Adds the requests of the hints whose quad the pattern matches, which are found by binary search, as far as the order begins with
-    /// bound places.
+    /// Adds the requests of the hints whose quad the pattern matches, which are found by binary
+    /// search, as far as the order begins with bound places.
     pub fn add_requests(
         &self,
         found: &mut Vec<usize>,

@@ -18,8 +18,8 @@ use std::marker::Model;
 /// How many hints are in no order at most, where there is memory to sort them.
 const MOST_IN_TAIL: usize = 512;
 
-/// Hints: quads, each with a request. Contracts see them as a list. Those of a pattern whose order is kept are found by binary search, but
-/// for the last few.
+/// Hints: quads, each with a request. Contracts see them as a list. Those of a pattern whose order
+/// is kept are found by binary search, but for the last few.
 #[derive(Drop)]
 pub struct Hints {
     ordered: OrderedHints,
@@ -46,7 +46,8 @@ impl Hints {
         }
     }
 
-    /// A hint of the request for each of these quads. What was there stays, also where memory runs out, and nothing else comes.
+    /// A hint of the request for each of these quads. What was there stays, also where memory runs
+    /// out, and nothing else comes.
     pub fn put_all(
         &mut self,
         alloc: Global,
@@ -83,7 +84,8 @@ impl Hints {
         Ok(())
     }
 
-    /// The requests of hints whose quad the pattern matches, in any order and with repeats: none of them is missing.
+    /// The requests of hints whose quad the pattern matches, in any order and with repeats: none of
+    /// them is missing.
     pub fn requests(
         &self,
         alloc: Global,

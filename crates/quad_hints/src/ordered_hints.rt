@@ -15,7 +15,8 @@ use quad_lists::{Arrangement, order_for};
 use std::alloc::{AllocError, Global};
 use std::marker::Model;
 
-/// Hints in SPOG and in some of the other orders, so that those of a pattern are found by binary search. Contracts see their list.
+/// Hints in SPOG and in some of the other orders, so that those of a pattern are found by binary
+/// search. Contracts see their list.
 #[derive(Drop)]
 pub struct OrderedHints {
     orders: OrderSet,
@@ -111,7 +112,8 @@ impl OrderedHints {
         }
     }
 
-    /// Adds the requests of hints whose quad the pattern matches, in any order and with repeats: none of them is missing.
+    /// Adds the requests of hints whose quad the pattern matches, in any order and with repeats:
+    /// none of them is missing.
     pub fn add_requests(
         &self,
         found: &mut Vec<usize>,

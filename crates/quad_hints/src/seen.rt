@@ -13,8 +13,8 @@ use std::marker::Model;
 /// How many slots a filter has.
 const SLOTS: usize = 262_144;
 
-/// A filter of terms: it lets through each that was put, and few others. Contracts see its slots, each of which says whether a term of it was put.
-/// There are none before the first term.
+/// A filter of terms: it lets through each that was put, and few others. Contracts see its slots,
+/// each of which says whether a term of it was put. There are none before the first term.
 #[derive(Drop)]
 pub struct SeenTerms {
     slots: Vec<bool>,

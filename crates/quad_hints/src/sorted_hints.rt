@@ -41,14 +41,16 @@ impl SortedHints {
             ≡ list_any p (all_entries self.old.runs.items)) }
     {
         let run = Run::new(self.arrangement, hints)?;
-        // What is to be joined with a long run is joined before, so that the long one is copied once.
+        // What is to be joined with a long run is joined before, so that the long one is copied
+        // once.
         self.join_last(alloc, run.len());
         self.runs.push(run)?;
         self.join_last(alloc, 0);
         Ok(())
     }
 
-    // Joins runs of like lengths, as far as there is memory, as if the last had so many hints at least.
+    // Joins runs of like lengths, as far as there is memory, as if the last had so many hints at
+    // least.
     fn join_last(&mut self, alloc: Global, least: usize)
         ensures { (p : Hint → Bool) → list_any p (all_entries self.new.runs.items)
             ≡ list_any p (all_entries self.old.runs.items) }
@@ -60,7 +62,8 @@ impl SortedHints {
         }
     }
 
-    // Joins the last two runs if the last, or what is to come, is not much the shorter, and there is memory. Whether it did.
+    // Joins the last two runs if the last, or what is to come, is not much the shorter, and there
+    // is memory. Whether it did.
     fn join_two(&mut self, alloc: Global, least: usize) -> bool
         ensures { (p : Hint → Bool) → list_any p (all_entries self.new.runs.items)
             ≡ list_any p (all_entries self.old.runs.items) }

@@ -114,7 +114,8 @@ past_back Less e = absurd (false≢true (sym e))
 past_back Equal e = refl
 past_back Greater e = refl
 
--- the places found are in order: an entry at the second and before the first would be both less and greater
+-- the places found are in order: an entry at the second and before the first would be both less and
+-- greater
 less_than_all : (r : Ordering) → is_before false r ≡ true → is_before true r ≡ false → ⊥
 less_than_all Less e f = false≢true (sym f)
 less_than_all Equal e f = false≢true e
@@ -140,7 +141,8 @@ not_equal_past Less e = refl
 not_equal_past Equal e = absurd (false≢true (sym e))
 not_equal_past Greater e = refl
 
--- what two searches found, the first for the first place that isn't less, the second for the first that is greater
+-- what two searches found, the first for the first place that isn't less, the second for the first
+-- that is greater
 pub record Between {E : Type 0} (answer : E → Ordering) (xs : List E) (low high : ℕ) : Type 0 where
   pub within : high ≤ length xs
   pub low_within : low ≤ length xs

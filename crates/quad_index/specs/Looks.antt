@@ -1,4 +1,5 @@
--- Looks: how many entries of sorted orders were read. A binary search reads no more entries than their number has binary digits.
+-- Looks: how many entries of sorted orders were read. A binary search reads no more entries than
+-- their number has binary digits.
 use Rattle.std.specs.Prelude.{ℕ, ◌+◌, ◌-◌, ◌*◌, ◌^◌, ◌<◌, ◌≤◌}
 
 -- a number of no more than so many binary digits
@@ -9,7 +10,8 @@ HasDigits n digits = n < 2 ^ digits
 abbrev pub IsSearch : (before after n : ℕ) → Type 0
 IsSearch before after n = (digits : ℕ) → HasDigits n digits → after ≤ before + digits
 
--- a search in n entries that ended before its time, and left so few before and after its place that each can be searched in the looks that were left
+-- a search in n entries that ended before its time, and left so few before and after its place that
+-- each can be searched in the looks that were left
 abbrev pub IsNarrowed : (before after n front back : ℕ) → Type 0
 IsNarrowed before after n front back = (digits : ℕ) → HasDigits n digits → (after ≤ before + digits) × HasDigits front (before + digits - after) × HasDigits back (before + digits - after)
 

@@ -19,8 +19,9 @@ use std::alloc::{AllocError, Global};
 use std::marker::Model;
 use std::thread::Threads;
 
-/// A set of quads. Contracts see its list, and the orders in which it is kept: SPOG, and those that it was made with. In an order that
-/// begins with the bound places of a pattern, its quads are found by binary search.
+/// A set of quads. Contracts see its list, and the orders in which it is kept: SPOG, and those that
+/// it was made with. In an order that begins with the bound places of a pattern, its quads are
+/// found by binary search.
 #[derive(Drop)]
 pub struct Index {
     spog: Order,
@@ -75,7 +76,8 @@ fn orders_of_by<T: Threads + Sync>(
 }
 
 impl Index {
-    /// This set of quads, in SPOG and in these orders. An error comes only where memory runs out, as it does for 2^62 quads.
+    /// This set of quads, in SPOG and in these orders. An error comes only where memory runs out,
+    /// as it does for 2^62 quads.
     pub fn new(
         alloc: Global,
         quads: &[Quad<Id>],
@@ -90,8 +92,8 @@ impl Index {
         Ok(Index { spog, others })
     }
 
-    /// The set of these quads, in any order and with doubles, in SPOG and in these orders. An error comes only where memory runs out, as it does
-    /// for 2^62 quads.
+    /// The set of these quads, in any order and with doubles, in SPOG and in these orders. An error
+    /// comes only where memory runs out, as it does for 2^62 quads.
     pub fn of_quads(
         alloc: Global,
         quads: QuadList,
@@ -181,8 +183,9 @@ impl Index {
         None
     }
 
-    /// The quads that match, by subject, predicate, object and graph. They are looked for in the order that begins with the bound places, if
-    /// it is kept, and then for no more looks than twice as many as their number in the index has binary digits, and one for each that is
+    /// The quads that match, by subject, predicate, object and graph. They are looked for in the
+    /// order that begins with the bound places, if it is kept, and then for no more looks than
+    /// twice as many as their number in the index has binary digits, and one for each that is
     /// found; else in SPOG. Sorting what was found is no look.
     pub fn scan_counted(
         &self,

@@ -45,7 +45,8 @@ impl Model for Order {
     ghost invariant = { λ o. IsOrder o.arrangement (quads_in o.entries) };
 }
 
-// Where entries may be that begin as a target does: from `low` to `high`. Those from `middle` to `after` do.
+// Where entries may be that begin as a target does: from `low` to `high`. Those from `middle` to
+// `after` do.
 #[derive(Clone, Copy)]
 struct Around {
     low: usize,
@@ -121,7 +122,8 @@ impl Order {
         Order::of_set(alloc, set_of(quads).as_slice())
     }
 
-    /// The set of these quads, in any order and with doubles, in SPOG. 2^62 quads and more are out of memory.
+    /// The set of these quads, in any order and with doubles, in SPOG. 2^62 quads and more are out
+    /// of memory.
     pub fn of_quads(alloc: Global, quads: QuadList) -> Result<Order, AllocError>
         ensures { IfOk result (λ order. order ≡ record
             { arrangement = Arrangement.Spog; quads = the_set_of (quad_order id_order) quads }) }
@@ -291,7 +293,8 @@ impl Order {
         }
     }
 
-    // Where the entries that begin as the target does may be. Looks at the middle of what is left, until it finds one, or nothing is left.
+    // Where the entries that begin as the target does may be. Looks at the middle of what is left,
+    // until it finds one, or nothing is left.
     fn around(&self, depth: Depth, target: &Key, looks: &mut Looks) -> Around
         requires room { looks.old < 2 ^ 63 }
         ensures ordered { (result.low ≤ result.middle) × (result.middle ≤ result.after)
@@ -338,8 +341,8 @@ impl Order {
         }
     }
 
-    // The first place whose entry isn't before the target: not less by so many places, or, with `past`, greater. All before `from` are before
-    // it, and none from `to` on.
+    // The first place whose entry isn't before the target: not less by so many places, or, with
+    // `past`, greater. All before `from` are before it, and none from `to` on.
     fn place_of(
         &self,
         depth: Depth,
@@ -413,7 +416,8 @@ impl Order {
         self.look_at_part(first, past, looks)
     }
 
-    /// The quads that match, in this order: those that begin as the pattern does, as far as its places are bound.
+    /// The quads that match, in this order: those that begin as the pattern does, as far as its
+    /// places are bound.
     pub fn matching(
         &self,
         alloc: Global,

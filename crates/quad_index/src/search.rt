@@ -13,7 +13,8 @@ ghost use Rattle.quad_lists.specs.Known.{quad_of};
 use datasets::{Id, Quad, QuadPattern};
 use quad_lists::{Arrangement, Depth, Key, KnownQuad, is_before};
 
-/// What has a quad, by which it is sorted and looked for: a quad itself, or one with more beside it.
+/// What has a quad, by which it is sorted and looked for: a quad itself, or one with more beside
+/// it.
 pub trait Entry {
     ghost quad: { Self → Spoken Number };
 
@@ -38,7 +39,8 @@ impl Entry for KnownQuad {
     }
 }
 
-// The first place whose entry isn't before the target: not less by so many places, or, with `past`, greater.
+// The first place whose entry isn't before the target: not less by so many places, or, with `past`,
+// greater.
 fn place_of<E: Entry>(
     entries: &[E],
     arrangement: Arrangement,
@@ -92,8 +94,8 @@ fn part_of<'a, E: Entry>(
     between(entries, first, past)
 }
 
-/// Of entries that are sorted in an order, a part that has all whose quad the pattern matches: those that begin as the pattern does, as
-/// far as its places are bound.
+/// Of entries that are sorted in an order, a part that has all whose quad the pattern matches:
+/// those that begin as the pattern does, as far as its places are bound.
 pub fn part_for<'a, E: Entry>(
     entries: &'a [E],
     arrangement: Arrangement,

@@ -5,7 +5,8 @@ ghost use Rattle.quad_lists.specs.Keys.{order_at, key_order, key_of as the_key_o
 use datasets::{GraphPlace, Id, Quad, QuadPattern};
 use std::cmp::Ordering;
 
-/// The places of a quad, in the sequence of an order. In the place of the graph, none is the default graph.
+/// The places of a quad, in the sequence of an order. In the place of the graph, none is the
+/// default graph.
 #[derive(Clone, Copy, PartialEq, Eq, PartialOrd, Ord, Debug)]
 pub struct Key {
     pub first: Option<Id>,
@@ -214,7 +215,8 @@ impl Depth {
     }
 }
 
-/// Whether a key with this answer stands before the place that is sought: the first that isn't less, or, with `past`, that is greater.
+/// Whether a key with this answer stands before the place that is sought: the first that isn't
+/// less, or, with `past`, that is greater.
 pub fn is_before(past: bool, answer: Ordering) -> bool
     ensures { result ≡ the_is_before past answer }
 {

@@ -1,9 +1,11 @@
-//! Lists of quads in little memory where all are of known terms, lent and widened one at a time; the six orders of a quad's places, in
-//! which they may stand, and what a pattern matches. Stands on `datasets`, `sets` and `radix`.
+//! Lists of quads in little memory where all are of known terms, lent and widened one at a time;
+//! the six orders of a quad's places, in which they may stand, and what a pattern matches. Stands
+//! on `datasets`, `sets` and `radix`.
 //!
-//! The contracts used above: a `QuadList` is the list of its quads, however they are kept, and a `Part` that lends some of them tells what
-//! their list would; a `KnownQuad` is a quad, and stands to another in an order as the quads do; `order_for` is the order that begins with
-//! the bound places of a pattern.
+//! The contracts used above: a `QuadList` is the list of its quads, however they are kept, and a
+//! `Part` that lends some of them tells what their list would; a `KnownQuad` is a quad, and stands
+//! to another in an order as the quads do; `order_for` is the order that begins with the bound
+//! places of a pattern.
 #![tactic(auto)]
 
 mod key;

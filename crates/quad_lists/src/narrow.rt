@@ -42,13 +42,15 @@ fn set_from(
     ensures { IfOk result (λ set. set.items ≡ the_set_of known_order known.now) }
 {
     match arrangement {
-        // Those with one predicate stand by object, graph and subject, so that by subject they are in order.
+        // Those with one predicate stand by object, graph and subject, so that by subject they are
+        // in order.
         Arrangement::Pogs => set_by_numbers(alloc, known, 1, |quad, _| quad.subject),
         _ => Ok(set_of(Vec::from_slice(alloc, known)?)),
     }
 }
 
-/// The set of these quads. It takes the least time where they stand in its order, or are of one predicate in this one.
+/// The set of these quads. It takes the least time where they stand in its order, or are of one
+/// predicate in this one.
 pub(crate) fn narrow_set(
     alloc: Global,
     known: &[KnownQuad],

@@ -1,4 +1,5 @@
-//! Quads that are lent: some or all of a list's, or entries of an order, all of which were looked at.
+//! Quads that are lent: some or all of a list's, or entries of an order, all of which were looked
+//! at.
 ghost use Rattle.std.specs.Prelude.{◌≡◌, ◌<◌, ◌↔◌, IsTrue, IfOk, filter, length};
 ghost use Rattle.std.proofs.Common.{get_or};
 ghost use Rattle.std.specs.List.Sorted.{IsStrictlySortedBy};
@@ -126,7 +127,8 @@ impl Part<'_> {
         }
     }
 
-    /// The set of its quads. It takes the least time where they stand in this order, or in that of the set.
+    /// The set of its quads. It takes the least time where they stand in this order, or in that of
+    /// the set.
     pub fn set(&self, alloc: Global, arrangement: Arrangement) -> Result<QuadList, AllocError>
         ensures { IfOk result (λ set. set
             ≡ the_set_of (quad_order id_order) (quads_of_part self.now)) }

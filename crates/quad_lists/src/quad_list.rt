@@ -16,7 +16,8 @@ use sets::set_of;
 use std::alloc::{AllocError, Global};
 use std::marker::Model;
 
-/// Quads one after another, in little memory where all are of known terms. Contracts see their list.
+/// Quads one after another, in little memory where all are of known terms. Contracts see their
+/// list.
 #[derive(Drop)]
 pub struct QuadList {
     entries: Entries,
@@ -167,7 +168,8 @@ impl QuadList {
         self.lent().is_same(&other.lent())
     }
 
-    /// Whether its quads are a set: each is below the next, by subject, predicate, object and graph.
+    /// Whether its quads are a set: each is below the next, by subject, predicate, object and
+    /// graph.
     pub fn is_set(&self) -> bool
         ensures { IsTrue result ↔ IsStrictlySortedBy (quad_order id_order) self.now }
     {

@@ -177,7 +177,8 @@ module _ {A : Type 0} {R : A → A → Ordering} (o : IsTotalOrder R) where
   none_below x [] e = tt
   none_below x (g ∷ gs) e = absurd (let h : length (g ∷ gs) ≡ length gs + 1 = omega arith in omega arith)
 
-  -- where the first that goes is not below all that come, none that goes is below the first that comes
+  -- where the first that goes is not below all that come, none that goes is below the first that
+  -- comes
   none_lower : (g x : A) (gs xs : List A) → IsStrictlySortedBy R (g ∷ gs) → IsStrictlySortedBy R (x ∷ xs) → (AllByRecursion (λ y. R g y ≡ Less) (x ∷ xs) → ⊥) → AllByRecursion (λ y. R y x ≢ Less) (g ∷ gs)
   none_lower g x gs xs s t others =
       let first : R g x ≢ Less = λ h. others (h, below_all o g x xs h (sorted_head R x xs t)) in

@@ -26,7 +26,8 @@ module _ {A : Type 0} (R : A → A → Ordering) where
     pub less : AllByRecursion (λ x. R x v ≡ Less) below
     pub rest : AllByRecursion (λ x. R x v ≢ Less) others
 
-  -- of what goes and what comes, the value is the least, and comes if it is of what comes; these go and come after it
+  -- of what goes and what comes, the value is the least, and comes if it is of what comes; these go
+  -- and come after it
   abbrev pub IsFirstChange : List A → List A → A → Bool → List A → List A → Type 0
   IsFirstChange gone more v false gone' more' = (gone ≡ v ∷ gone') × (more ≡ more') × AllByRecursion (λ x. R v x ≡ Less) more
   IsFirstChange gone more v true gone' more' = (gone ≡ gone') × (more ≡ v ∷ more') × AllByRecursion (λ x. R x v ≢ Less) gone

@@ -7,7 +7,8 @@ use crate::near::is_member_near;
 use sets::Exact;
 use std::alloc::AllocError;
 
-/// The set of the members of a vector. Of members that come in a few sorted runs it takes time in their number.
+/// The set of the members of a vector. Of members that come in a few sorted runs it takes time in
+/// their number.
 pub fn merged<T: Exact + Drop>(mut members: Vec<T>) -> Result<Vec<T>, AllocError>
     ensures { IfOk result (λ set. set.items ≡ set_of T.cmp members.items) }
 {
@@ -16,7 +17,8 @@ pub fn merged<T: Exact + Drop>(mut members: Vec<T>) -> Result<Vec<T>, AllocError
     Ok(members)
 }
 
-// The members of a vector that are none of a set's, in their order. Where they rise, it goes along both lists.
+// The members of a vector that are none of a set's, in their order. Where they rise, it goes along
+// both lists.
 fn lacking<T: Exact + Copy + Drop>(mut members: Vec<T>, set: &[T]) -> Vec<T>
     requires { IsStrictlySortedBy T.cmp set.now }
     ensures { result.items ≡ without T.cmp members.items set.now }
@@ -48,7 +50,8 @@ fn outside<T: Exact + Copy + Drop>(members: Vec<T>, set: &[T]) -> Vec<T>
     lacking(members, set)
 }
 
-/// The set of the members of a vector that are none of a set's, and of more. It is fastest where both lists are sets.
+/// The set of the members of a vector that are none of a set's, and of more. It is fastest where
+/// both lists are sets.
 pub(crate) fn changed<T: Exact + Copy + Drop>(
     members: Vec<T>,
     gone: &[T],

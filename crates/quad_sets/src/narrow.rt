@@ -57,7 +57,8 @@ pub(crate) fn is_among_known(known: &[KnownQuad], quad: &Quad<Id>) -> bool
     }
 }
 
-/// Whether a set has the quad, and a place to begin with for a greater one. It is fast where the place before it is the quad's.
+/// Whether a set has the quad, and a place to begin with for a greater one. It is fast where the
+/// place before it is the quad's.
 pub(crate) fn is_near_known(known: &[KnownQuad], place: usize, quad: &Quad<Id>) -> (bool, usize)
     requires set { IsStrictlySortedBy (quad_order id_order) (map quad_of known.now) }
     requires place { place ≤ length known.now }
@@ -70,7 +71,8 @@ pub(crate) fn is_near_known(known: &[KnownQuad], place: usize, quad: &Quad<Id>) 
     }
 }
 
-/// The set of the quads of a set that are none of another's, and of more, where a run of members between changes is long.
+/// The set of the quads of a set that are none of another's, and of more, where a run of members
+/// between changes is long.
 pub(crate) fn known_changed_in_runs(
     alloc: Global,
     quads: &[KnownQuad],

@@ -1,4 +1,5 @@
-//! Search in a set for values most of which rise: near the place of the one before, and else by binary search.
+//! Search in a set for values most of which rise: near the place of the one before, and else by
+//! binary search.
 ghost use Rattle.std.specs.Prelude.{◌≡◌, ◌≤◌, ◌<◌, ◌-◌, length, slice_index_or, IsTrue, IfSome};
 ghost use Rattle.std.specs.List.Sorted.{IsStrictlySortedBy};
 ghost use Rattle.sets.specs.Sets.{has};
@@ -52,7 +53,8 @@ fn searched<T: Exact>(set: &[T], value: &T) -> (bool, usize)
     }
 }
 
-/// Whether a set has a value, and a place to begin with for a greater one. It is fast where the place before it is the value's.
+/// Whether a set has a value, and a place to begin with for a greater one. It is fast where the
+/// place before it is the value's.
 pub(crate) fn is_member_near<T: Exact>(set: &[T], place: usize, value: &T) -> (bool, usize)
     requires set { IsStrictlySortedBy T.cmp set.now }
     requires place { place ≤ length set.now }

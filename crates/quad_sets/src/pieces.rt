@@ -61,8 +61,8 @@ pub(crate) fn as_piece(alloc: Global, list: QuadList) -> Result<Vec<QuadList>, A
     Ok(pieces)
 }
 
-/// The same in pieces, one behind another, which so many threads make. The thread that calls makes all others: of those that new ones make, two
-/// often share a processor at first.
+/// The same in pieces, one behind another, which so many threads make. The thread that calls makes
+/// all others: of those that new ones make, two often share a processor at first.
 pub(crate) fn changed_in_pieces<T: Threads + Sync>(
     rt: &T,
     alloc: Global,

@@ -19,7 +19,8 @@ use std::alloc::{AllocError, Global};
 use std::marker::Model;
 use std::thread::Threads;
 
-/// A set of quads, a quarter as long where all are of known terms. Contracts see its list, by subject, predicate, object and graph.
+/// A set of quads, a quarter as long where all are of known terms. Contracts see its list, by
+/// subject, predicate, object and graph.
 #[derive(Drop)]
 pub struct QuadSet {
     entries: Entries,
@@ -158,8 +159,8 @@ impl QuadSet {
         QuadList::of_entries(self.entries)
     }
 
-    /// The set of the quads of a list that are none of a set's, and of more: as `changed`, in the list's own memory, where all are of known
-    /// terms.
+    /// The set of the quads of a list that are none of a set's, and of more: as `changed`, in the
+    /// list's own memory, where all are of known terms.
     pub fn of_changed(
         alloc: Global,
         list: QuadList,
@@ -185,7 +186,8 @@ impl QuadSet {
         }
     }
 
-    // The same as `changed`, if the set is of many quads and all are of known terms: what lies between changes is taken over as it lies.
+    // The same as `changed`, if the set is of many quads and all are of known terms: what lies
+    // between changes is taken over as it lies.
     fn changed_in_runs(
         alloc: Global,
         quads: &QuadSlice<'_>,
@@ -209,7 +211,8 @@ impl QuadSet {
         }
     }
 
-    /// The set of the quads that are none of a set's, and of more. It is fastest where both are of known terms.
+    /// The set of the quads that are none of a set's, and of more. It is fastest where both are of
+    /// known terms.
     pub fn changed(
         alloc: Global,
         quads: &QuadSlice<'_>,
@@ -226,7 +229,8 @@ impl QuadSet {
         QuadSet::of_changed(alloc, list, gone, more)
     }
 
-    /// The same set as that which is `changed`, as pieces that stand one behind another. Of many quads of known terms so many threads make one each.
+    /// The same set as that which is `changed`, as pieces that stand one behind another. Of many
+    /// quads of known terms so many threads make one each.
     pub fn changed_in_pieces<T: Threads + Sync>(
         rt: &T,
         alloc: Global,

@@ -158,7 +158,8 @@ impl<'a> QuadSlice<'a> {
         }
     }
 
-    /// Whether any of its quads matches. They are found by binary search, as far as the first places are bound.
+    /// Whether any of its quads matches. They are found by binary search, as far as the first
+    /// places are bound.
     pub fn has_match(&self, pattern: &QuadPattern<Id>) -> bool
         ensures { result ≡ list_any (the_matches id_order pattern.now) self.now }
     {
@@ -200,7 +201,8 @@ impl<'a> QuadSlice<'a> {
         }
     }
 
-    /// Its quads in these orders. An error comes only where memory runs out, as it does for 2^62 quads.
+    /// Its quads in these orders. An error comes only where memory runs out, as it does for 2^62
+    /// quads.
     pub fn in_orders(
         &self,
         alloc: Global,
@@ -216,7 +218,8 @@ impl<'a> QuadSlice<'a> {
         Ok(orders)
     }
 
-    /// Its quads that match. They are looked for in the order that begins with the bound places, if that is one of these, else in SPOG.
+    /// Its quads that match. They are looked for in the order that begins with the bound places, if
+    /// that is one of these, else in SPOG.
     pub fn scan(
         &self,
         alloc: Global,
@@ -278,7 +281,8 @@ impl<'a> QuadSlice<'a> {
         self.entries.is_same(&other.entries)
     }
 
-    // Whether it has the quad, and a place to begin with for a greater one. It is fast where the place before it is the quad's.
+    // Whether it has the quad, and a place to begin with for a greater one. It is fast where the
+    // place before it is the quad's.
     fn has_near(&self, place: usize, quad: &Quad<Id>) -> (bool, usize)
         requires { place ≤ length self.now }
         ensures value { result.0 ≡ has (quad_order id_order) self.now quad.now }

@@ -80,7 +80,8 @@ impl Answered {
         }
     }
 
-    /// The same answer again, for one owner more. It takes no memory, and fails only where there are too many owners.
+    /// The same answer again, for one owner more. It takes no memory, and fails only where there
+    /// are too many owners.
     pub fn copied(&self, _alloc: Global) -> Result<Self, AllocError>
         ensures { IfOk result (λ copy. copy ≡ self.now) }
     {

@@ -11,8 +11,8 @@ use quad_sets::QuadSet;
 use std::alloc::{AllocError, Global};
 use std::marker::Model;
 
-/// A dataset that is read through once, as that which a block leaves: a quarter as long as a `View`, where all its terms are known. Its quads may lie
-/// in pieces, one behind another, as several threads make them. Contracts see the dataset.
+/// A dataset that is read through once, as the one that a block leaves. Its quads lie in pieces,
+/// one behind another, as several threads make them. Contracts see the dataset.
 #[derive(Drop)]
 pub struct CompactView {
     quads: Vec<QuadList>,

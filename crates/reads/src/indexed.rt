@@ -18,7 +18,8 @@ use std::alloc::{AllocError, Global};
 use std::marker::Model;
 use std::thread::Threads;
 
-/// A dataset that stays as it is: a set of quads, found by binary search whatever a pattern binds, and a set of graph names.
+/// A dataset that stays as it is: a set of quads, found by binary search whatever a pattern binds,
+/// and a set of graph names.
 #[derive(Drop)]
 pub struct IndexedView {
     quads: Index,
@@ -36,7 +37,8 @@ impl Model for IndexedView {
 }
 
 impl IndexedView {
-    /// This dataset, its quads in these orders beside SPOG. An error comes only where memory runs out.
+    /// This dataset, its quads in these orders beside SPOG. An error comes only where memory runs
+    /// out.
     pub fn new(
         alloc: Global,
         dataset: View,
@@ -51,8 +53,8 @@ impl IndexedView {
         Ok(IndexedView { quads, named })
     }
 
-    /// The dataset of these quads and graph names, in any order and with doubles, its quads in these orders beside SPOG. An error comes only
-    /// where memory runs out.
+    /// The dataset of these quads and graph names, in any order and with doubles, its quads in
+    /// these orders beside SPOG. An error comes only where memory runs out.
     pub fn of_parts(
         alloc: Global,
         quads: QuadList,
@@ -102,8 +104,8 @@ impl IndexedView {
         self.named.names()
     }
 
-    /// The orders in which its quads are kept, beside SPOG. How long a read takes depends on them, and not what it says: no contract sees
-    /// them.
+    /// The orders in which its quads are kept, beside SPOG. How long a read takes depends on them,
+    /// and not what it says: no contract sees them.
     pub fn orders(&self, alloc: Global) -> Result<Vec<Arrangement>, AllocError> {
         self.quads.orders(alloc)
     }
@@ -146,7 +148,8 @@ impl IndexedView {
         Ok(View::from_sets(QuadSet::of_list(quads), Vec::new(alloc)))
     }
 
-    /// The part of the dataset that the read asks for: what it says of the part is what it says of the whole.
+    /// The part of the dataset that the read asks for: what it says of the part is what it says of
+    /// the whole.
     pub fn asked(&self, alloc: Global, read: &Read<Id>) -> Result<View, AllocError>
         ensures { IfOk result (λ part. says read.now part ≡ says read.now self.now) }
     {

@@ -1,7 +1,9 @@
-//! Datasets and reads at numbers of terms: what a read says of a dataset, reads with their answers, and what answers them. Stands on
-//! `datasets`, `change_laws`, `quad_lists`, `quad_index` and `quad_sets`.
+//! Datasets and reads at numbers of terms: what a read says of a dataset, reads with their answers,
+//! and what answers them. Stands on `datasets`, `change_laws`, `quad_lists`, `quad_index` and
+//! `quad_sets`.
 //!
-//! The contract used above: `View::answer` and `IndexedView::answer` are `says` of specs/Reads.antt.
+//! The contract used above: `View::answer` and `IndexedView::answer` are `says` of
+//! specs/Reads.antt.
 #![tactic(auto)]
 
 mod answered;

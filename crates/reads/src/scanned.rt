@@ -16,7 +16,8 @@ use quad_sets::QuadSet;
 use std::alloc::{AllocError, Global};
 use std::marker::Model;
 
-/// A read and what it says of a dataset. It is made where nobody waits for it. To a contract it is the dataset and the read.
+/// A read and what it says of a dataset. It is made where nobody waits for it. To a contract it is
+/// the dataset and the read.
 #[derive(Drop)]
 pub struct Scanned<'a> {
     dataset: &'a IndexedView,
@@ -68,7 +69,8 @@ impl<'a> Scanned<'a> {
         self.dataset.rises();
     }
 
-    /// What the read says of it, shared and not copied. It fails only where there are too many owners.
+    /// What the read says of it, shared and not copied. It fails only where there are too many
+    /// owners.
     pub fn answer(&self, alloc: Global) -> Result<Answered, AllocError>
         ensures { IfOk result (λ answer. answer ≡ says self.now.read self.now.dataset) }
     {
@@ -143,8 +145,8 @@ impl<'a> Scanned<'a> {
         Ok(View::from_sets(QuadSet::new(alloc), names))
     }
 
-    /// The part of the dataset that the read asks for: what it says of the part is what it says of the whole. An error comes only where
-    /// memory runs out.
+    /// The part of the dataset that the read asks for: what it says of the part is what it says of
+    /// the whole. An error comes only where memory runs out.
     pub fn part(&self, alloc: Global) -> Result<View, AllocError>
         ensures { IfOk result (λ part. says self.now.read part
             ≡ says self.now.read self.now.dataset) }

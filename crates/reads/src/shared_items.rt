@@ -65,7 +65,8 @@ impl<T: Drop> SharedItems<T> {
         })
     }
 
-    /// The same list again, for one owner more. It takes no memory, and fails only where there are too many owners.
+    /// The same list again, for one owner more. It takes no memory, and fails only where there are
+    /// too many owners.
     pub fn copied(&self) -> Result<Self, AllocError>
         ensures { IfOk result (λ list. list ≡ self.now) }
     {

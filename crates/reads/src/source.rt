@@ -34,23 +34,25 @@ impl<T: Drop> From<AllocFailed<T>> for Stop {
     }
 }
 
-/// What answers the reads of a run, or stops it. Nothing says that its answers agree with one another.
+/// What answers the reads of a run, or stops it. Nothing says that its answers agree with one
+/// another.
 pub trait Source {
     ghost use Rattle.std.specs.Prelude.{Result};
     ghost use Rattle.reads.specs.Reads.{Answer as Answering, Read as Reading};
     ghost use Rattle.reads.specs.declared.source.Stop.{Stop as Stopping};
     ghost use Rattle.reads.specs.Asking.{AsksAll};
 
-    /// What asking for a read may come to: the source before, the read, the answer or why it stops, and the source after.
+    /// What asking for a read may come to: the source before, the read, the answer or why it stops,
+    /// and the source after.
     ghost asks: { Self → Reading → Result Answering Stopping → Self → Type 0 };
 
     /// The answer to a read.
     fn ask(&mut self, read: &Read<Id>) -> Result<Answered, Stop>
         ensures { asks self.old read.now result self.new };
 
-    /// Asks for each of the reads in turn and notes it with its answer at the end, until it stops. The room for the notes is there before
-    /// anything is asked, so that no answer is lost. A source that answers many reads at less cost than one after another has a body of
-    /// its own.
+    /// Asks for each of the reads in turn and notes it with its answer at the end, until it stops.
+    /// The room for the notes is there before anything is asked, so that no answer is lost. A
+    /// source that answers many reads at less cost than one after another has a body of its own.
     fn ask_all(&mut self, reads: &[Read<Id>], notes: &mut Vec<Note>) -> Result<(), Stop>
         ensures { AsksAll asks self.old reads.now notes.old.items notes.new.items result self.new }
     {

@@ -15,8 +15,8 @@ use sets::{is_member, set_of};
 use std::alloc::{AllocError, Global};
 use std::marker::Model;
 
-/// A dataset, or what changes made of one: a set of quads, in little memory where all are of known terms, and a set of graph names. A quad's
-/// graph need not be named.
+/// A dataset, or what changes made of one: a set of quads, in little memory where all are of known
+/// terms, and a set of graph names. A quad's graph need not be named.
 #[derive(Drop)]
 pub struct View {
     quads: QuadSet,
@@ -48,7 +48,8 @@ impl View {
         }
     }
 
-    /// The sets of these quads and of these graph names, in any order and with repeats. It takes no memory.
+    /// The sets of these quads and of these graph names, in any order and with repeats. It takes no
+    /// memory.
     pub fn from_parts(quads: QuadList, names: Vec<Id>) -> View
         ensures quads { result.quads ≡ the_set_of (quad_order id_order) quads }
         ensures names { result.names ≡ the_set_of id_order names.items }
@@ -145,7 +146,8 @@ impl View {
         })
     }
 
-    /// The part of the dataset that the read asks for: what it says of the part is what it says of the whole.
+    /// The part of the dataset that the read asks for: what it says of the part is what it says of
+    /// the whole.
     pub fn asked(&self, alloc: Global, read: &Read<Id>) -> Result<View, AllocError>
         ensures { IfOk result (λ part. says read.now part ≡ says read.now self.now) }
     {

@@ -37,8 +37,8 @@ tells_pass reply = false
 abbrev pub with_entry : Run → Entry → Run
 with_entry run e = record run { history = run.history ++ e ∷ [] }
 
--- The event of the line was the next one, with this reply: the journal has its entry at its end. A lawful entry of the line, but for a
--- publication, has this reply.
+-- The event of the line was the next one, with this reply: the journal has its entry at its end. A
+-- lawful entry of the line, but for a publication, has this reply.
 pub record Follows (old : Run) (line : Line) (reply : Reply) (new : Run) : Type 0 where
   pub event : Event
   pub printed : line_event old.terms event ≡ line.event

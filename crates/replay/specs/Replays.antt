@@ -29,7 +29,8 @@ NoneIsLawful run line = (e : Entry) → IsEntryOf run.terms line e → IsLawful 
 abbrev pub IsUnlawful : Run → Line → Type 0
 IsUnlawful run line = tells_publication line.event line.reply ≡ false → NoneIsLawful run line
 
--- A replay stops at line n, counted from 1: some lawful history has the lines before it, and it goes on by no lawful entry of that line.
+-- A replay stops at line n, counted from 1: some lawful history has the lines before it, and it
+-- goes on by no lawful entry of that line.
 pub record StopsAt (terms : List Term) (base : View) (block : List (Request Id)) (lines : List Line) (n : ℕ) : Type 0 where
   pub history : List Entry
   pub line : Line

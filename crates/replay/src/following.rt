@@ -120,8 +120,8 @@ fn follow(alloc: Global, book: &mut Book<'_>, line: &Line) -> Result<Option<Repl
     Ok(Some(reply))
 }
 
-/// Plays a line into a book. It answers whether the book goes on by an entry of the line; else no lawful entry of the line was found, and
-/// the book is to be given up.
+/// Plays a line into a book. It answers whether the book goes on by an entry of the line; else no
+/// lawful entry of the line was found, and the book is to be given up.
 pub fn follow_line(alloc: Global, book: &mut Book<'_>, line: &Line) -> Result<bool, AllocError>
     requires size { length book.old.block < 2 ^ 32 }
     requires short { AreShort book.old.block }

@@ -1,7 +1,8 @@
-//! Journals of a book: its entries as lines, and lines played into a book. Stands on `journal`, `book` and `update`.
+//! Journals of a book: its entries as lines, and lines played into a book. Stands on `journal`,
+//! `book` and `update`.
 //!
-//! The contracts used above: `lines_of` gives the line of each entry; `replay` gives a book whose journal has the lines, or the first line
-//! of which no entry is lawful where it stands.
+//! The contracts used above: `lines_of` gives the line of each entry; `replay` gives a book whose
+//! journal has the lines, or the first line of which no entry is lawful where it stands.
 #![tactic(auto)]
 
 mod following;

@@ -9,7 +9,8 @@ use dict::Dict;
 use std::alloc::{AllocError, Global};
 use terms::Term;
 
-// The term of a number. One that the dictionary lacks stands for no term, and gives the made node of zeros.
+// The term of a number. One that the dictionary lacks stands for no term, and gives the made node
+// of zeros.
 fn name(alloc: Global, terms: &Dict, id: Id) -> Result<Term, AllocError>
     ensures { IfOk result (λ term. term ≡ term_of terms.now id) }
 {

@@ -37,8 +37,8 @@ impl<'n, 'a> Source for Answering<'n, 'a> {
     }
 }
 
-/// The finished run of the request at place `i` of the block, from what the request has noted, or nothing where a run asks for something
-/// else, or there is no such request.
+/// The finished run of the request at place `i` of the block, from what the request has noted, or
+/// nothing where a run asks for something else, or there is no such request.
 pub fn execute_again(
     alloc: Global,
     book: &Book<'_>,

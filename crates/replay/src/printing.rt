@@ -122,7 +122,8 @@ fn entry_lines(
     Ok(lines)
 }
 
-/// The lines of a book's journal, one an entry, in order. An error comes only where memory runs out.
+/// The lines of a book's journal, one an entry, in order. An error comes only where memory runs
+/// out.
 pub fn lines_of(alloc: Global, book: &Book<'_>) -> Result<Vec<Line>, AllocError>
     ensures { IfOk result (λ lines. lines.items ≡ map (the_line book.now.terms) book.now.history) }
 {

@@ -1,5 +1,6 @@
-//! Worked examples of requests: texts with their tokens, groups and trees, texts and blocks with their updates or refusals, values of filter
-//! expressions, and the numbers of terms. It has tests alone.
+//! Worked examples of requests: texts with their tokens, groups and trees, texts and blocks with
+//! their updates or refusals, values of filter expressions, and the numbers of terms. It has tests
+//! alone.
 #![tactic(auto)]
 
 #[cfg(test)]

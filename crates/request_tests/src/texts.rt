@@ -355,7 +355,8 @@ fn is_label(slot: &Slot<Term>, number: u32) -> bool {
 const NUMBERED: &str =
     "DELETE { ?b <a:p> ?a } INSERT { $a a ?c . _:y a _:x . _:x a _:y } WHERE { $b <a:p> ?a }";
 
-// Variables are numbered by their first place in the WHERE, then in the templates, and labels by theirs in the templates.
+// Variables are numbered by their first place in the WHERE, then in the templates, and labels by
+// theirs in the templates.
 fn is_numbered(modify: &Modify<Term>) -> bool {
     let delete = matches!(modify.delete.as_slice(), [quad]
         if is_variable(&quad.subject, 1) && is_variable(&quad.object, 0));

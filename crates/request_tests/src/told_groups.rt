@@ -1,4 +1,5 @@
-//! Groups as they are told in tables: parts in braces, triples in square brackets, and before other parts a letter for the kind.
+//! Groups as they are told in tables: parts in braces, triples in square brackets, and before other
+//! parts a letter for the kind.
 use groups::group_at;
 use lexer::{Stop, Token, tokens};
 use std::alloc::{AllocError, Global};

@@ -1,5 +1,5 @@
--- How a block is cut into requests: at each line that is exactly four dashes and an LF. n such lines give
--- n + 1 requests, and no bytes give none.
+-- How a block is cut into requests: at each line that is exactly four dashes and an LF. n such
+-- lines give n + 1 requests, and no bytes give none.
 use Rattle.std.specs.Borrow.{Bor}
 use Rattle.std.specs.Prelude.{ℕ, ◌≡◌, ◌==◌, ◌&&◌, ◌≤◌, ◌<◌, ◌^◌, Bool, false, List, [], ◌∷◌, ◌++◌, length, Option, Result, Ok, Err, IsUtf8, if◌then◌else◌}
 use Rattle.std.specs.List.{onto_first}
@@ -37,8 +37,8 @@ pub data AreEach {A : Type 0} (P : List ℕ → A → Type 0) : List (List ℕ) 
   none : AreEach P [] []
   more : {text : List ℕ} {texts : List (List ℕ)} {c : A} {cs : List A} → P text c → AreEach P texts cs → AreEach P (text ∷ texts) (c ∷ cs)
 
--- the answers of a block's requests; or the first of three faults that holds: more than 2^28 bytes, more than 4,096 requests, no UTF-8; or
--- memory ran out
+-- the answers of a block's requests; or the first of three faults that holds: more than 2^28 bytes,
+-- more than 4,096 requests, no UTF-8; or memory ran out
 abbrev pub IsSplitInto : {A : Type 0} → (List ℕ → A → Type 0) → List ℕ → Result (List A) BlockFault → Type 0
 IsSplitInto P bytes (Ok block) = (length bytes ≤ 2 ^ 28) × (length (requests bytes) ≤ 4096) × IsUtf8 bytes × AreEach P (requests bytes) block
 IsSplitInto P bytes (Err block_fault.OutOfMemory) = Unit {0}

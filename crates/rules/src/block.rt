@@ -59,7 +59,8 @@ impl Block {
         self.requests.into_vec()
     }
 
-    /// All terms of its accepted requests, in order, where they lie. An error comes only where a growth was refused.
+    /// All terms of its accepted requests, in order, where they lie. An error comes only where a
+    /// growth was refused.
     pub fn terms(&self, alloc: Global) -> Result<Vec<TermRef<'_>>, AllocError>
         ensures { IfOk result (λ terms. terms.items ≡ terms_of self.now) }
     {

@@ -1,7 +1,8 @@
 //! What requests are: updates, or why they are refused; and how a block is cut into requests.
 //!
-//! Stands on `grammar`, `nodes`, `faults`, `translation` and `meaning`. Used above: `split`, or by several threads `split_by`, gives the
-//! requests of a block, each the one request that its text is, and `verdicts` whether each is refused.
+//! Stands on `grammar`, `nodes`, `faults`, `translation` and `meaning`. Used above: `split`, or by
+//! several threads `split_by`, gives the requests of a block, each the one request that its text
+//! is, and `verdicts` whether each is refused.
 #![tactic(auto)]
 
 mod block;

@@ -58,7 +58,8 @@ fn first_fault(alloc: Global, syntax: &Syntax<'_>) -> Result<Option<Refusal>, Al
     Ok(first_of(kinds_in(alloc, syntax)?))
 }
 
-/// Finds the faults of the next step, an operation. While none was found in the request, its update is added.
+/// Finds the faults of the next step, an operation. While none was found in the request, its update
+/// is added.
 fn take_operation<'a>(
     alloc: Global,
     walk: &mut Walk<'a>,
@@ -82,8 +83,9 @@ fn take_operation<'a>(
     }
 }
 
-/// The request that a reading is (SPARQL 1.1 Update, 19.8, and the limits of this program): its refusal is the first of all kinds that holds
-/// anywhere in it. An error comes only where a growth was refused, or where a request has 2^32 variables or labels.
+/// The request that a reading is (SPARQL 1.1 Update, 19.8, and the limits of this program): its
+/// refusal is the first of all kinds that holds anywhere in it. An error comes only where a growth
+/// was refused, or where a request has 2^32 variables or labels.
 pub fn check(alloc: Global, syntax: Syntax<'_>) -> Result<Checked, AllocError>
     ensures { IfOk result (IsVerdict syntax.entry) }
 {

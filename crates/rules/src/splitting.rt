@@ -153,9 +153,10 @@ fn text_of(bytes: &[u8]) -> Result<&str, BlockFault>
     }
 }
 
-/// The requests of a block: of each its update, or why it is refused. The block is cut at each line that is exactly four dashes and an LF: n such lines give
-/// n + 1 requests, and no bytes give none. The fault is the first of `TooLong`, `TooManyRequests` and `BadUtf8` that holds;
-/// `OutOfMemory` comes only where a growth was refused, or where a request has 2^32 variables or labels.
+/// The requests of a block: of each its update, or why it is refused. The block is cut at each line
+/// that is exactly four dashes and an LF: n such lines give n + 1 requests, and no bytes give none.
+/// The fault is the first of `TooLong`, `TooManyRequests` and `BadUtf8` that holds; `OutOfMemory`
+/// comes only where a growth was refused, or where a request has 2^32 variables or labels.
 #[tactic(auto, using(crate::proofs::CutLaws::splits))]
 pub fn split(alloc: Global, bytes: &[u8]) -> Result<Block, BlockFault>
     ensures { IsSplit bytes.now result }

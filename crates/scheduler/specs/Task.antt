@@ -16,8 +16,8 @@ place_of (task.Take i) = i
 place_of (task.Begin i n) = i
 place_of (task.Check i n) = i
 
--- A task is lawful: the machine would commit the request; it is ready; it is executed, no pass stands, and no stamp that holds; it is
--- executed, and a pass stands.
+-- A task is lawful: the machine would commit the request; it is ready; it is executed, no pass
+-- stands, and no stamp that holds; it is executed, and a pass stands.
 abbrev pub IsLawful : State → Task → Type 0
 IsLawful s (task.Commit i) = can_commit s i ≡ true
 IsLawful s (task.Take i) = (n : ℕ) × (status_of s.slots i ≡ Some (Ready n))
@@ -25,7 +25,8 @@ IsLawful s (task.Begin i n) =
     (status_of s.slots i ≡ Some (Executed n)) × (is_some (slot_at s.slots i).pass ≡ false) × (is_stamped s.slots i (slot_at s.slots i).stamp ≡ false)
 IsLawful s (task.Check i n) = (status_of s.slots i ≡ Some (Executed n)) × (is_some (slot_at s.slots i).pass ≡ true)
 
--- the next task: a commit where one is lawful, else that of the least request that has a lawful one; none only where none is lawful
+-- the next task: a commit where one is lawful, else that of the least request that has a lawful
+-- one; none only where none is lawful
 pub record IsNext (s : State) (next : Option Task) : Type 0 where
   pub lawful : IfSome next (IsLawful s)
   pub commits : (i : ℕ) → can_commit s i ≡ true → next ≡ Some (task.Commit i)
@@ -49,7 +50,8 @@ task_for i x stamped None = None
 abbrev pub task_at : List Slot → ℕ → Option Task
 task_at slots i = task_for i (slot_at slots i) (is_stamped slots i (slot_at slots i).stamp) (status_of slots i)
 
--- it is what can be done for the least request from this one on for which anything can be, but to commit it
+-- it is what can be done for the least request from this one on for which anything can be, but to
+-- commit it
 pub record IsFirst (slots : List Slot) (front : ℕ) (found : Task) : Type 0 where
   pub place : ℕ
   pub above : front ≤ place

@@ -1,7 +1,7 @@
 //! What a worker can do next: a task of a book.
 //!
-//! Stands on `book`. Used above: `next` answers a commit where one is lawful, else what can be done for the least request for which anything
-//! can be, and nothing only where nothing can.
+//! Stands on `book`. Used above: `next` answers a commit where one is lawful, else what can be done
+//! for the least request for which anything can be, and nothing only where nothing can.
 #![tactic(auto)]
 
 mod schedule;

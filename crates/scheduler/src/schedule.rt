@@ -62,8 +62,9 @@ fn work_at(book: &Book<'_>, place: usize) -> Task
     }
 }
 
-/// What a worker can do next: a commit where one is lawful, else what can be done for the least request for which anything can be. None
-/// only where nothing can be done. It costs the logarithm of the number of requests.
+/// What a worker can do next: a commit where one is lawful, else what can be done for the least
+/// request for which anything can be. None only where nothing can be done. It costs the logarithm
+/// of the number of requests.
 pub fn next(book: &Book<'_>) -> Option<Task>
     ensures { IsNext (state_of book.now) result }
 {

@@ -1,6 +1,7 @@
 //! What a worker can do for a request.
 
-/// What a worker can do for a request. The numbers are those of the request, from 0, and of its incarnation.
+/// What a worker can do for a request. The numbers are those of the request, from 0, and of its
+/// incarnation.
 #[derive(Clone, Copy)]
 pub enum Task {
     /// Commit the request, which is the front.

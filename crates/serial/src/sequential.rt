@@ -56,8 +56,8 @@ fn answer(
     Ok(reply)
 }
 
-/// Runs a block on a base, one request after another: the dataset that they leave, which may be a base again, and their replies. An error
-/// comes only where a growth was refused.
+/// Runs a block on a base, one request after another: the dataset that they leave, which may be a
+/// base again, and their replies. An error comes only where a growth was refused.
 pub fn run(alloc: Global, base: &Base, block: &[Request<Id>]) -> Result<Outcome, AllocError>
     requires size { length block.now < 2 ^ 32 }
     requires short { AreShort block.now }

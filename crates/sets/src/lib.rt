@@ -1,6 +1,7 @@
 //! Lists as contracts see them, and finite sets as lists that rise strictly in an order.
 //!
-//! A set is one list, so two sets are equal exactly if their lists are: rank is place, count is length. Stands on std alone.
+//! A set is one list, so two sets are equal exactly if their lists are: rank is place, count is
+//! length. Stands on std alone.
 #![tactic(auto)]
 
 ghost use Rattle.std.specs.Prelude.{◌≡◌};

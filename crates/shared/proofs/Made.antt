@@ -14,7 +14,8 @@ use Rattle.blocklock.specs.Passes.{Takes, Watches}
 use Rattle.shared.specs.declared.kept.Subject.{Subject}
 use Rattle.shared.specs.Calls.{Viewed, owner, history_of, run_of, entry, Answers, Unmade, Made}
 
--- the earlier journal's entries of the worker are all of the later one's, so what lies between has none
+-- the earlier journal's entries of the worker are all of the later one's, so what lies between has
+-- none
 pub none_between : (w : ℕ) (before between : List Entry) → of_worker owner w (before ++ between) ≡ of_worker owner w before → of_worker owner w between ≡ []
 none_between w before between e =
     let first = of_worker owner w before in

@@ -1,4 +1,5 @@
--- A pass that took the book, looked for what can be done next, and gave the book back, with the take of a request or without.
+-- A pass that took the book, looked for what can be done next, and gave the book back, with the
+-- take of a request or without.
 use Rattle.std.proofs.Common.{◌≡◌, ◌<◌, ℕ, Bool, true, false, length, append-nil, inl, inr, List, [], ◌∷◌, ◌++◌, Option, Some, None, Result, Ok, Err, IfOk, OnErr, refl, sym, ap, subst, ◌∙◌}
 use Rattle.std.specs.Prelude.{IfSome}
 use Rattle.incarnations.specs.declared.state.Event.{Event}

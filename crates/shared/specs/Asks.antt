@@ -14,13 +14,15 @@ pub record Asker : Type 0 where
   pub place : ℕ
   pub incarnation : ℕ
 
--- what a reply to a read tells the run that asked: the answer, that it waits for a lower request, or that it is out of date
+-- what a reply to a read tells the run that asked: the answer, that it waits for a lower request,
+-- or that it is out of date
 abbrev pub told_by : Reply → Result Answer Stop
 told_by (Answered answer) = Ok answer
 told_by (Blocked j) = Err (stop.Blocked j)
 told_by reply = Err stop.Stale
 
--- The pass made a call for the read, of this incarnation, and tells what it was replied; or memory ran out, and the call wasn't made.
+-- The pass made a call for the read, of this incarnation, and tells what it was replied; or memory
+-- ran out, and the call wasn't made.
 abbrev pub Asks : Asker → Read → Result Answer Stop → Asker → Type 0
 Asks a r told a' =
     (a' ≡ record a { pass = a'.pass })

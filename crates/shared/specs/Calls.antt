@@ -41,8 +41,9 @@ IsSoundAt s i finished = (r : Request Id) → slice_get s.block i ≡ Some r →
 abbrev pub entry : ℕ → Event → Reply → Entry
 entry worker event reply = record { worker = worker; event = kept event reply; reply = reply }
 
--- The pass has seen a history that begins with what it had seen, ends with this event and its reply, and has no other new entry of its
--- worker. The reply is lawful where the event was made, and the history throughout.
+-- The pass has seen a history that begins with what it had seen, ends with this event and its
+-- reply, and has no other new entry of its worker. The reply is lawful where the event was made,
+-- and the history throughout.
 pub record Answers (old new : Viewed) (event : Event) (reply : Reply) : Type 0 where
   pub sees : new ≡ record old { seen = new.seen }
   pub between : List Entry
@@ -51,8 +52,8 @@ pub record Answers (old new : Viewed) (event : Event) (reply : Reply) : Type 0 w
   pub allowed : IsAllowed old.subject.base (state_of (run_of old.subject (old.seen ++ between))) old.worker event reply
   pub lawful : IsHistory (setting_of (run_of old.subject new.seen)) new.seen
 
--- A call was not made, since a growth was refused: the pass has at most seen more, with no new entry of its worker, and what it has
--- seen is a history if what it had seen is one.
+-- A call was not made, since a growth was refused: the pass has at most seen more, with no new
+-- entry of its worker, and what it has seen is a history if what it had seen is one.
 pub record Unmade (old new : Viewed) : Type 0 where
   pub watches : Watches owner old new
   pub lawful : IsHistory (setting_of (run_of old.subject old.seen)) old.seen → IsHistory (setting_of (run_of old.subject new.seen)) new.seen

@@ -22,8 +22,9 @@ lets_go_on Passed = true
 lets_go_on Committed = true
 lets_go_on reply = false
 
--- The first of these events were made in turn, each as a call of its own, with these replies. Each reply but the last lets the worker go
--- on; then a growth was refused before the next one was made, or all were made and the last one lets it go on too, or the last one doesn't.
+-- The first of these events were made in turn, each as a call of its own, with these replies. Each
+-- reply but the last lets the worker go on; then a growth was refused before the next one was made,
+-- or all were made and the last one lets it go on too, or the last one doesn't.
 abbrev pub InTurn : {E : Type 0} → Viewed → List Event → List Reply → Result Bool E → Viewed → Type 0
 InTurn old [] [] (Ok whole) new = (whole ≡ true) × (new ≡ old)
 InTurn old [] [] (Err e) new = ⊥
@@ -56,11 +57,13 @@ checking i n notes = Begin i n ∷ replicate notes (Check i n)
 abbrev pub committing : ℕ → ℕ → List Event
 committing i until = map (λ j. Commit j) (range_with_len i (until - i))
 
--- a publication, and then what settles it: a pass of checks of the run, which has so many notes, and commits
+-- a publication, and then what settles it: a pass of checks of the run, which has so many notes,
+-- and commits
 abbrev pub publishing : ℕ → ℕ → Finished → ℕ → ℕ → List Event
 publishing i n finished notes until = Publish i n (Some finished) ∷ (checking i n notes ++ committing i until)
 
--- While a pass holds a book it made these events on it. They go on as calls of its own would, and no one else's entries come between.
+-- While a pass holds a book it made these events on it. They go on as calls of its own would, and
+-- no one else's entries come between.
 pub record Went {E : Type 0} (p : Viewed) (book book' : Run) (events : List Event) (before after : List Reply) (made : Result Bool E) : Type 0 where
   pub subject : (history_of book').subject ≡ p.subject
   pub goes_on : GoesOn owner p.worker book.history book'.history

@@ -15,7 +15,8 @@ use Rattle.shared.specs.declared.taking.Next.{Next}
 use Rattle.shared.specs.Calls.{Viewed, owner, history_of, run_of, entry, Answers, Unmade}
 use Rattle.shared.specs.InTurn.{Adds, Went}
 
--- the event that a worker makes at once where this is what it can do next: it takes a request below a place
+-- the event that a worker makes at once where this is what it can do next: it takes a request below
+-- a place
 abbrev pub taking : ℕ → Option Task → Option Event
 taking most (Some (task.Take i)) = if nat_lt i most then Some (Take i) else None
 taking most (Some (task.Commit i)) = None
@@ -32,7 +33,8 @@ pub record TookIt (old new : Viewed) (most : ℕ) (next : Option Task) (reply : 
   pub last : new.seen ≡ before ++ entry old.worker event reply ∷ []
   pub could : IsNext (state_of (run_of old.subject before)) next
 
--- It can do this next where all stands that the pass has seen now, and that is to take no request below the place.
+-- It can do this next where all stands that the pass has seen now, and that is to take no request
+-- below the place.
 pub record TookNone (old new : Viewed) (most : ℕ) (next : Option Task) : Type 0 where
   pub is : taking most next ≡ None
   pub watches : Watches owner old new

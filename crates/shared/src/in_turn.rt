@@ -1,4 +1,5 @@
-//! Many events of a worker in one hold of the lock. Where workers take the book from one another, a hold costs more than an event.
+//! Many events of a worker in one hold of the lock. Where workers take the book from one another, a
+//! hold costs more than an event.
 ghost use Rattle.std.specs.Prelude.{◌≡◌, [], ◌∷◌, ◌++◌, Some};
 ghost use Rattle.block_machine.specs.Scans.{questions_of};
 ghost use Rattle.book.specs.Run.{IsSoundEvent};
@@ -25,7 +26,8 @@ fn lets_go_on(reply: &Reply) -> bool
     }
 }
 
-// Makes one event on a book that the pass holds, and keeps its reply, for which there is room before. It answers whether the worker goes on.
+// Makes one event on a book that the pass holds, and keeps its reply, for which there is room
+// before. It answers whether the worker goes on.
 #[inline(always)]
 fn make_next<'a>(
     alloc: Global,
@@ -95,8 +97,8 @@ fn make_commits<'a>(
     Ok(true)
 }
 
-/// On a book that the pass holds: a pass of checks of a run of so many notes, and the commits from its request on and below another. It answers
-/// whether all were made and the worker goes on.
+/// On a book that the pass holds: a pass of checks of a run of so many notes, and the commits from
+/// its request on and below another. It answers whether all were made and the worker goes on.
 pub(crate) fn make_settling<'a>(
     alloc: Global,
     book: &mut Book<'a>,
@@ -117,7 +119,8 @@ pub(crate) fn make_settling<'a>(
     make_commits(alloc, book, pass, i, until, replies)
 }
 
-/// On a book that the pass holds: the publication of a run, and then what settles it. It answers whether all were made and the worker goes on.
+/// On a book that the pass holds: the publication of a run, and then what settles it. It answers
+/// whether all were made and the worker goes on.
 pub(crate) fn make_publishing<'a>(
     alloc: Global,
     book: &mut Book<'a>,
@@ -143,7 +146,8 @@ pub(crate) fn make_publishing<'a>(
     make_settling(alloc, book, pass, i, n, notes, until, replies)
 }
 
-/// On a book that the pass holds: reads of an incarnation, each with what it says of the base. It answers whether all were answered.
+/// On a book that the pass holds: reads of an incarnation, each with what it says of the base. It
+/// answers whether all were answered.
 pub(crate) fn make_reads<'a>(
     alloc: Global,
     book: &mut Book<'a>,

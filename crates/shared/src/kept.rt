@@ -12,7 +12,8 @@ use meaning::Request;
 use reads::View;
 use sets::Items;
 
-/// What a book is about: the terms that are numbered, the dataset before the first request, and the requests.
+/// What a book is about: the terms that are numbered, the dataset before the first request, and the
+/// requests.
 #[derive(Drop)]
 pub struct Subject {
     pub terms: Dict,
@@ -44,5 +45,6 @@ impl<'a> Journaled for Kept<'a> {
     }
 }
 
-/// What one worker knows of a shared book: the history that it has seen. It makes the worker's calls.
+/// What one worker knows of a shared book: the history that it has seen. It makes the worker's
+/// calls.
 pub type Pass<'a> = blocklock::Pass<Kept<'a>>;

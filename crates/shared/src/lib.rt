@@ -1,21 +1,22 @@
-//! A book that many threads use: each call is one event, or some in turn, made while its worker has the lock. Stands on `blocklock`, `book` and
-//! `scheduler`.
+//! A book that many threads use: each call is one event, or some in turn, made while its worker has
+//! the lock. Stands on `blocklock`, `book` and `scheduler`.
 //!
-//! The contract used above: a call that is answered leaves the pass with a lawful history that goes on from what it had seen, ends with
-//! the call's entry, and has no other new entry of its worker. At the end the journal begins with what each pass has seen.
+//! The contract used above: a call that is answered leaves the pass with a lawful history that goes
+//! on from what it had seen, ends with the call's entry, and has no other new entry of its worker.
+//! At the end the journal begins with what each pass has seen.
 #![tactic(auto)]
 
 mod in_turn;
 mod kept;
-mod reader;
 mod refused;
+mod replies;
 mod shared_block;
 mod taking;
 mod trying;
 mod waiting;
 
 pub use kept::{Kept, Pass, Subject};
-pub use reader::{Reader, told};
 pub use refused::Refused;
+pub use replies::told;
 pub use shared_block::SharedBlock;
 pub use taking::Next;

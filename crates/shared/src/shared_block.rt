@@ -99,7 +99,8 @@ fn make_scanned<'a>(
 }
 
 impl<'a> SharedBlock<'a> {
-    /// The shared book of a base and a block before any event, with a pass for each worker, from worker 0 on.
+    /// The shared book of a base and a block before any event, with a pass for each worker, from
+    /// worker 0 on.
     pub fn new(
         alloc: Global,
         terms: &'a Dict,
@@ -204,8 +205,8 @@ impl<'a> SharedBlock<'a> {
         task
     }
 
-    /// Ends the sharing. The book's journal begins with what each pass has seen, and has no other entries of its worker; no commit that
-    /// a pass knew of is taken back.
+    /// Ends the sharing. The book's journal begins with what each pass has seen, and has no other
+    /// entries of its worker; no commit that a pass knew of is taken back.
     pub fn close<R: Wait>(self, rt: &R, passes: Vec<Pass<'a>>) -> Book<'a>
         requires some { 0 < vec_len passes }
         requires passes { All (IsIdleAt self) passes.items }

@@ -16,7 +16,8 @@ use delta::Finished;
 use scheduler::{Task, next};
 use std::alloc::{AllocError, Global};
 
-/// What a worker can do next, if there is anything, and the reply to the take of a request where it is that and was made at once.
+/// What a worker can do next, if there is anything, and the reply to the take of a request where it
+/// is that and was made at once.
 #[derive(Drop)]
 pub struct Next {
     pub task: Option<Task>,
@@ -45,7 +46,8 @@ fn taken(next: &Option<Task>, most: usize) -> Option<usize>
     }
 }
 
-/// On a book that the pass of a worker holds: what can be done next. A request below a place is taken.
+/// On a book that the pass of a worker holds: what can be done next. A request below a place is
+/// taken.
 pub(crate) fn make_taking<'a>(
     alloc: Global,
     book: &mut Book<'a>,
@@ -73,8 +75,8 @@ pub(crate) fn make_taking<'a>(
     })
 }
 
-/// On a book that the pass holds: the publication of a run, what settles it, and then what can be done next. It answers whether all of the
-/// settling was made and lets the worker go on, too.
+/// On a book that the pass holds: the publication of a run, what settles it, and then what can be
+/// done next. It answers whether all of the settling was made and lets the worker go on, too.
 pub(crate) fn make_publishing_and_taking<'a>(
     alloc: Global,
     book: &mut Book<'a>,

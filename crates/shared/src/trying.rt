@@ -35,7 +35,8 @@ impl<'a> SharedBlock<'a> {
         self.try_make(alloc, pass, Event::Read(i, n, *read))
     }
 
-    /// Publishes a finished run of incarnation `n` of a request. The journal has a copy of it, which is made before the lock is taken.
+    /// Publishes a finished run of incarnation `n` of a request. The journal has a copy of it,
+    /// which is made before the lock is taken.
     pub fn try_publish(
         &self,
         alloc: Global,

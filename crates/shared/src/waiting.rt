@@ -1,4 +1,5 @@
-//! The calls that wait until the book is there. The places and incarnations are as in `block_machine::Event`.
+//! The calls that wait until the book is there. The places and incarnations are as in
+//! `block_machine::Event`.
 ghost use Rattle.std.specs.Prelude.{◌≡◌, ◌++◌, Some};
 ghost use Rattle.block_machine.specs.Scans.{questions_of};
 ghost use Rattle.shared.specs.Calls.{IsSoundAt, Made};
@@ -32,8 +33,8 @@ impl<'a> SharedBlock<'a> {
         self.make_waiting(rt, alloc, pass, Event::Take(i))
     }
 
-    /// What a worker can do next where all stands that the pass has then seen. Where that is to take a request below `most`, it is taken in the
-    /// same hold of the lock.
+    /// What a worker can do next where all stands that the pass has then seen. Where that is to
+    /// take a request below `most`, it is taken in the same hold of the lock.
     pub fn take_next<R: Wait>(
         &self,
         rt: &R,
@@ -68,7 +69,8 @@ impl<'a> SharedBlock<'a> {
         self.make_waiting(rt, alloc, pass, Event::Read(i, n, *read))
     }
 
-    /// The same, with what the read says of the base, so that nobody waits while the base is searched.
+    /// The same, with what the read says of the base, so that nobody waits while the base is
+    /// searched.
     pub fn read_scanned<R: Wait>(
         &self,
         rt: &R,
@@ -86,7 +88,8 @@ impl<'a> SharedBlock<'a> {
         self.make_scanned_waiting(rt, alloc, pass, Event::Read(i, n, *read), scans)
     }
 
-    /// Publishes a finished run of incarnation `n` of a request. The journal has a copy of it, which is made before the lock is taken.
+    /// Publishes a finished run of incarnation `n` of a request. The journal has a copy of it,
+    /// which is made before the lock is taken.
     pub fn publish<R: Wait>(
         &self,
         rt: &R,
@@ -163,9 +166,11 @@ impl<'a> SharedBlock<'a> {
         self.make_waiting(rt, alloc, pass, Event::GiveUp(i, n))
     }
 
-    /// What follows a publication, in one hold of the lock: a pass of checks of incarnation `n` of request `i`, which has so many notes, and
-    /// the commits of the requests from `i` on and below `until`. It stops behind the first reply that is none of `Begun`, `Passed` and
-    /// `Committed`, and answers whether there was none. The replies come to the end of the list, those too after which a growth was refused.
+    /// What follows a publication, in one hold of the lock: a pass of checks of incarnation `n` of
+    /// request `i`, which has so many notes, and the commits of the requests from `i` on and below
+    /// `until`. It stops behind the first reply that is none of `Begun`, `Passed` and `Committed`,
+    /// and answers whether there was none. The replies come to the end of the list, those too after
+    /// which a growth was refused.
     pub fn settle<R: Wait>(
         &self,
         rt: &R,
@@ -198,9 +203,11 @@ impl<'a> SharedBlock<'a> {
         made
     }
 
-    /// Publishes a finished run of incarnation `n` of request `i`, which the caller gives away, and settles it, in one hold of the lock. It stops
-    /// behind the first reply that is none of `Published`, `Begun`, `Passed` and `Committed`, and answers whether there was none. The replies
-    /// come to the end of the list, those too after which a growth was refused. Then, in the same hold, it is as `take_next`.
+    /// Publishes a finished run of incarnation `n` of request `i`, which the caller gives away, and
+    /// settles it, in one hold of the lock. It stops behind the first reply that is none of
+    /// `Published`, `Begun`, `Passed` and `Committed`, and answers whether there was none. The
+    /// replies come to the end of the list, those too after which a growth was refused. Then, in
+    /// the same hold, it is as `take_next`.
     pub fn publish_settled<R: Wait>(
         &self,
         rt: &R,
@@ -238,8 +245,9 @@ impl<'a> SharedBlock<'a> {
         made
     }
 
-    /// Asks what reads say where incarnation `n` of the request runs, in one hold of the lock, with what each says of the base. It stops behind
-    /// the first that is not answered, and answers whether there was none. The replies come to the end of the list, those too after which a
+    /// Asks what reads say where incarnation `n` of the request runs, in one hold of the lock, with
+    /// what each says of the base. It stops behind the first that is not answered, and answers
+    /// whether there was none. The replies come to the end of the list, those too after which a
     /// growth was refused.
     pub fn read_all<R: Wait>(
         &self,

@@ -1,4 +1,5 @@
--- The requests' slots by their number, with whole notes, and what a read and a commit come to in them.
+-- The requests' slots by their number, with whole notes, and what a read and a commit come to in
+-- them.
 use Rattle.std.specs.Prelude.{◌≡◌, ℕ, zero, suc, List, [], ◌++◌, map, Option, Some, None, option_map, option_to_list, slice_get, slice_set}
 use Rattle.meaning.specs.declared.reply.Reply as request
 use Rattle.reads.specs.Reads.{View, Read, says}

@@ -1,4 +1,5 @@
-//! How committed requests are settled: their changes become one, and nobody asks any more which of them spoke of what.
+//! How committed requests are settled: their changes become one, and nobody asks any more which of
+//! them spoke of what.
 ghost use Rattle.std.specs.Prelude.{◌≡◌, ◌<◌, ◌≤◌, ◌+◌, ℕ, true, Some, length, OnOk, OnErr};
 ghost use Rattle.incarnations.specs.Statuses.{is_closed};
 ghost use Rattle.validate.specs.Below.{slot_at};
@@ -43,8 +44,8 @@ pub fn settle(alloc: Global, kept: &mut Kept<'_>, to: usize) -> Result<(), Alloc
     Ok(())
 }
 
-/// Where the settled changes may have changed what a read says they are joined and put in order, as far as there is memory: it is answered sooner
-/// then.
+/// Where the settled changes may have changed what a read says they are joined and put in order, as
+/// far as there is memory: it is answered sooner then.
 pub fn put_in_order(alloc: Global, kept: &mut Kept<'_>, read: &Read<Id>)
     requires { Holds kept.old }
     ensures holds { Holds kept.new }

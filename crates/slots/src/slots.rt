@@ -47,7 +47,8 @@ impl<'a> Model for Slots<'a> {
 }
 
 impl<'a> Slots<'a> {
-    /// Those of this many requests before their first event. The orders are those in which what they change is kept beside SPOG.
+    /// Those of this many requests before their first event. The orders are those in which what
+    /// they change is kept beside SPOG.
     pub fn new(alloc: Global, size: usize, orders: &[Arrangement]) -> Result<Slots<'a>, AllocError>
         ensures { IfOk result (λ slots. slots ≡ replicate size fresh_slot) }
     {
@@ -154,7 +155,8 @@ impl<'a> Slots<'a> {
         changed_from(alloc, slots, self.kept.low, n, view)
     }
 
-    /// The same by so many threads, where nothing else is needed any more: notes and hints are let go first, or by another thread.
+    /// The same by so many threads, where nothing else is needed any more: notes and hints are let
+    /// go first, or by another thread.
     pub fn into_view<T: Threads + Sync>(
         self,
         rt: &T,
@@ -244,7 +246,8 @@ impl<'a> Slots<'a> {
         validate::check_list(alloc, &self.kept, i, note)
     }
 
-    /// Answers a read, from what it says of the base, and notes it. After want of memory nothing is noted.
+    /// Answers a read, from what it says of the base, and notes it. After want of memory nothing is
+    /// noted.
     pub fn read(
         &mut self,
         alloc: Global,
@@ -275,7 +278,8 @@ impl<'a> Slots<'a> {
         settle(alloc, &mut self.kept, to)
     }
 
-    /// The settled requests' changes are joined and put in order, if they may have changed what the read says, as far as there is memory.
+    /// The settled requests' changes are joined and put in order, if they may have changed what the
+    /// read says, as far as there is memory.
     pub fn put_in_order(&mut self, alloc: Global, read: &Read<Id>)
         ensures { self.new ≡ self.old }
     {
@@ -335,7 +339,8 @@ impl<'a> Slots<'a> {
         slot::commit(&mut self.kept.slots[i]);
     }
 
-    /// A publication. It answers whether the delta is as before. After want of memory all is as before.
+    /// A publication. It answers whether the delta is as before. After want of memory all is as
+    /// before.
     pub fn publish(
         &mut self,
         alloc: Global,

@@ -32,7 +32,8 @@ module _ {K : Type 0} {R : K → K → Ordering} (o : IsTotalOrder R) {E : Type 
       let parts = IsPartitionedBy-ltb (λ (e : E). ordering_index (R (key e) x)) xs 2 (searchable_from_sorted o key xs x s) in
       λ i j e le lt h. up_to_is _ ∙ parts i j e le lt (sym (up_to_is _) ∙ h)
 
--- the places found are in order: a value at the second and before the first would be both less and greater
+-- the places found are in order: a value at the second and before the first would be both less and
+-- greater
 less_than_all : (r : Ordering) → is_lt r ≡ true → is_le r ≡ false → ⊥
 less_than_all Less e f = false≢true (sym f)
 less_than_all Equal e f = false≢true e

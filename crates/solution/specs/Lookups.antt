@@ -34,7 +34,8 @@ IsEnd variables ms a place =
 abbrev pub binds : List ℕ → Mapping Id → Bool
 binds variables m = list_all (λ v. is_some (term_for m v)) variables
 
--- of mappings that bind these variables, those that tie with a mapping that binds them too; else all
+-- of mappings that bind these variables, those that tie with a mapping that binds them too; else
+-- all
 abbrev pub near_bound : List ℕ → List (Mapping Id) → Mapping Id → List (Mapping Id)
 near_bound variables found a = if binds variables a then tied variables found a else found
 

@@ -49,8 +49,8 @@ fn push_mapping(
     }
 }
 
-/// The solutions of a triple pattern among these triples, whatever their graphs: each once, in the order of mappings. The pattern's
-/// variables are numbered below the width.
+/// The solutions of a triple pattern among these triples, whatever their graphs: each once, in the
+/// order of mappings. The pattern's variables are numbered below the width.
 pub fn solutions_among(
     alloc: Global,
     width: u32,

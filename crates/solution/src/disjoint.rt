@@ -31,7 +31,8 @@ fn widest(mappings: &[Mapping]) -> usize
     widest
 }
 
-/// Whether some variable is bound in one on the left and in one on the right. Where none is, no two mappings of both share one.
+/// Whether some variable is bound in one on the left and in one on the right. Where none is, no two
+/// mappings of both share one.
 pub fn share_some(left: &[Mapping], right: &[Mapping]) -> bool
     ensures { result ≡ false → ShareNothing left.now right.now }
 {

@@ -1,6 +1,8 @@
-//! Solution mappings as rows, and sets of them with the operators of the algebra. Stands on `datasets`, `algebra`, `meaning`, `quad_sets` and `sets`.
+//! Solution mappings as rows, and sets of them with the operators of the algebra. Stands on
+//! `datasets`, `algebra`, `meaning`, `quad_sets` and `sets`.
 //!
-//! The contract used above: `Mapping::fit` is `fitted`, and each operator of `Solutions` the set of that name, of `meaning`.
+//! The contract used above: `Mapping::fit` is `fitted`, and each operator of `Solutions` the set of
+//! that name, of `meaning`.
 #![tactic(auto)]
 
 mod among;

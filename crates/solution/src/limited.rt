@@ -19,7 +19,8 @@ use datasets::Id;
 use sets::set_of;
 use std::alloc::{AllocError, Global};
 
-// Adds the merges of a mapping with those of these that it is compatible with, where they pass each filter.
+// Adds the merges of a mapping with those of these that it is compatible with, where they pass each
+// filter.
 fn push_merges<F: Filters>(
     alloc: Global,
     filters: &[Expression<Id>],
@@ -43,7 +44,8 @@ fn push_merges<F: Filters>(
     Ok(())
 }
 
-// Adds the merges of a mapping with those near it that it is compatible with, where they pass each filter.
+// Adds the merges of a mapping with those near it that it is compatible with, where they pass each
+// filter.
 fn push_passing<F: Filters>(
     alloc: Global,
     filters: &[Expression<Id>],
@@ -61,8 +63,9 @@ fn push_passing<F: Filters>(
     push_merges(alloc, filters, by, found, a, right.loose())
 }
 
-/// The merges of all compatible pairs that are near, where they pass each filter, unless there are more than the limit. Whenever more than
-/// the limit have come, repeats are taken out, so that no more than twice as many are kept, and those of one mapping on the left.
+/// The merges of all compatible pairs that are near, where they pass each filter, unless there are
+/// more than the limit. Whenever more than the limit have come, repeats are taken out, so that no
+/// more than twice as many are kept, and those of one mapping on the left.
 pub fn joins_up_to<F: Filters>(
     alloc: Global,
     filters: &[Expression<Id>],

@@ -102,7 +102,8 @@ fn between(mappings: &[Mapping], first: usize, past: usize) -> &[Mapping]
     &mappings[first..past]
 }
 
-// Among mappings that are sorted by what they have for some variables, where those begin that aren't before one.
+// Among mappings that are sorted by what they have for some variables, where those begin that
+// aren't before one.
 fn start_of(variables: &[usize], sorted: &[Mapping], a: &Mapping) -> usize
     requires { IsSorted (the_order_at variables.now) sorted.now }
     ensures within { result ≤ length sorted.now }
@@ -165,7 +166,8 @@ impl Lookup {
         })
     }
 
-    /// Of those that bind the variables, those that have for them what a mapping has; all, where it lacks one of the variables.
+    /// Of those that bind the variables, those that have for them what a mapping has; all, where it
+    /// lacks one of the variables.
     pub fn near(&self, a: &Mapping) -> &[Mapping]
         ensures { result.now ≡ near_bound self.now.variables.items self.now.mappings.items a.now }
     {

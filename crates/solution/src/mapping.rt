@@ -12,8 +12,8 @@ use std::alloc::{AllocError, Global};
 use std::cmp::Ordering;
 use std::marker::Model;
 
-/// A solution mapping (SPARQL 1.1 Query, 18.1.8), as a row: for each variable of the pattern its term or nothing. Mappings are ordered
-/// by each variable in turn, unbound first.
+/// A solution mapping (SPARQL 1.1 Query, 18.1.8), as a row: for each variable of the pattern its
+/// term or nothing. Mappings are ordered by each variable in turn, unbound first.
 #[derive(Drop)]
 pub struct Mapping {
     places: SmallVec<Option<Id>, 4>,
@@ -142,7 +142,8 @@ impl Mapping {
         self.places.as_slice().iter().all(|place| place.is_none())
     }
 
-    /// The mapping under which a place of a pattern is this term, if there is one: a variable that is unbound comes to be bound to it.
+    /// The mapping under which a place of a pattern is this term, if there is one: a variable that
+    /// is unbound comes to be bound to it.
     pub fn fit(mut self, place: Place<Id>, term: Id) -> Option<Mapping>
         ensures { result ≡ fitted id_order place term self }
     {

@@ -71,8 +71,8 @@ impl Solutions {
         }
     }
 
-    /// The solutions of a triple pattern among these triples, whatever their graphs. The pattern's variables are numbered below the
-    /// width.
+    /// The solutions of a triple pattern among these triples, whatever their graphs. The pattern's
+    /// variables are numbered below the width.
     pub fn among(
         alloc: Global,
         width: u32,
@@ -107,7 +107,8 @@ impl Solutions {
         if self.len() > limit { None } else { Some(self) }
     }
 
-    /// The place of a mapping in the order of mappings, counted from 0, or nothing where it is no solution.
+    /// The place of a mapping in the order of mappings, counted from 0, or nothing where it is no
+    /// solution.
     pub fn rank(&self, mapping: &Mapping) -> Option<usize>
         ensures found { IfSome result (λ rank. slice_get self.now rank ≡ Some mapping.now) }
         ensures none { IfNone result (has (mapping_cmp id_order) self.now mapping.now ≡ false) }
@@ -140,7 +141,8 @@ impl Solutions {
         Ok(Solutions::from_mappings(found))
     }
 
-    /// The merges of all compatible pairs that pass each filter, unless there are more than the limit. It ends as soon as there are.
+    /// The merges of all compatible pairs that pass each filter, unless there are more than the
+    /// limit. It ends as soon as there are.
     pub fn join_up_to<F: Filters>(
         &self,
         alloc: Global,
@@ -161,7 +163,8 @@ impl Solutions {
         joins_up_to(alloc, filters, by, &self.mappings, &right, limit)
     }
 
-    /// What `left_join` gives, unless there are more than the limit. It ends as soon as more merges are found.
+    /// What `left_join` gives, unless there are more than the limit. It ends as soon as more merges
+    /// are found.
     pub fn left_join_up_to<F: Filters>(
         self,
         alloc: Global,
@@ -183,7 +186,8 @@ impl Solutions {
         Ok(all.up_to(limit))
     }
 
-    /// The merges that pass each filter, and those on the left that have none (SPARQL 1.1 Query, 18.5, LeftJoin).
+    /// The merges that pass each filter, and those on the left that have none (SPARQL 1.1 Query,
+    /// 18.5, LeftJoin).
     pub fn left_join<F: Filters>(
         self,
         alloc: Global,
@@ -217,7 +221,8 @@ impl Solutions {
         Ok(Solutions::from_mappings(mappings))
     }
 
-    /// Those that each on the right is incompatible with or shares no variable with (SPARQL 1.1 Query, 18.5, Minus).
+    /// Those that each on the right is incompatible with or shares no variable with (SPARQL 1.1
+    /// Query, 18.5, Minus).
     pub fn minus(self, alloc: Global, right: Solutions) -> Result<Solutions, AllocError>
         ensures { IfOk result (λ found. found ≡ operators.minus id_order self right) }
     {

@@ -8,8 +8,8 @@ ghost use Rattle.sets.specs.Sets.{set_of};
 
 use crate::mapping::Mapping;
 
-/// Whether the left is one mapping that binds no variable, and has as many of them as any on the right: the right joined with it is the
-/// right.
+/// Whether the left is one mapping that binds no variable, and has as many of them as any on the
+/// right: the right joined with it is the right.
 pub fn is_unit(left: &[Mapping], right: &[Mapping]) -> bool
     ensures { result ≡ true → join id_order left.now right.now
         ≡ set_of (mapping_cmp id_order) right.now }

@@ -1,7 +1,7 @@
 //! Lists put in order by several threads side by side.
 //!
-//! Stands on `rayon`, which makes as many threads as there are processors where a list is long. Used above: what a call answers is the same
-//! list, sorted.
+//! Stands on `rayon`, which makes as many threads as there are processors where a list is long.
+//! Used above: what a call answers is the same list, sorted.
 #![tactic(auto)]
 
 ghost use Rattle.std.specs.List.Sorted.{IsPermutation, IsSortedByClosure};

@@ -31,7 +31,8 @@ fn words(rt: &(impl Env + AllocGlobal)) -> Result<Vec<String>, LineFault> {
     }
 }
 
-/// Runs a block on a base: the dataset goes to a file, the reply lines to standard output. Workers are from 1 to 64.
+/// Runs a block on a base: the dataset goes to a file, the reply lines to standard output. Workers
+/// are from 1 to 64.
 fn run<R: Threads + Wait + Sync + Files + Print + AllocGlobal>(
     rt: &R,
     base: &str,
@@ -109,7 +110,8 @@ fn replay<R: Files + Print + AllocGlobal>(
     )
 }
 
-/// Runs a block on a base, one request after another: the dataset goes to a file, the reply lines to standard output.
+/// Runs a block on a base, one request after another: the dataset goes to a file, the reply lines
+/// to standard output.
 fn serial<R: Files + Print + AllocGlobal>(
     rt: &R,
     base: &str,

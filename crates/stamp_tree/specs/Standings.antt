@@ -10,7 +10,8 @@ is_due latest Now = true
 is_due latest (After moment) = nat_lt moment latest
 is_due latest Never = false
 
--- the place of the first one for which something is to be done, where those before the list last changed at this moment
+-- the place of the first one for which something is to be done, where those before the list last
+-- changed at this moment
 unfoldable pub first_due : ℕ → List Standing → Option ℕ
 first_due latest [] = None
 first_due latest (x ∷ xs) =

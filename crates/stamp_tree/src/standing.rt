@@ -13,7 +13,8 @@ pub enum Due {
     Never,
 }
 
-/// How a request stands: when something is to be done for it, and the moment of its last change, 0 before any.
+/// How a request stands: when something is to be done for it, and the moment of its last change, 0
+/// before any.
 #[derive(Clone, Copy)]
 pub struct Standing {
     pub due: Due,

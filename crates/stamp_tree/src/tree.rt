@@ -8,7 +8,8 @@ use crate::standing::{Due, Standing, is_due, is_other, joined};
 use std::alloc::{AllocError, Global};
 use std::marker::Model;
 
-/// How requests stand, in their order: a list, above it one half as long of how they stand two by two, and so on. Contracts see the first list.
+/// How requests stand, in their order: a list, above it one half as long of how they stand two by
+/// two, and so on. Contracts see the first list.
 #[cycle(tree)]
 #[derive(Drop)]
 pub struct StampTree {

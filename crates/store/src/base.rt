@@ -20,7 +20,8 @@ use std::alloc::{AllocError, Global};
 use std::marker::Model;
 use terms::{DataSet, Term};
 
-/// A base: the dictionary of its terms and of others, its dataset at their numbers, and the tag that made nodes are written with.
+/// A base: the dictionary of its terms and of others, its dataset at their numbers, and the tag
+/// that made nodes are written with.
 #[derive(Drop)]
 pub struct Base {
     alloc: Global,
@@ -66,9 +67,10 @@ fn numbered_both<H: Hands>(
 }
 
 impl Base {
-    /// The base of a dataset, with the dictionary of its terms and of more, none of which is copied, its quads in these orders beside SPOG, and
-    /// the numbers of those that are more. Numbers come of the sort that puts the terms in order, and who sorts changes nothing in the answer.
-    /// An error comes only where memory runs out.
+    /// The base of a dataset, with the dictionary of its terms and of more, none of which is
+    /// copied, its quads in these orders beside SPOG, and the numbers of those that are more.
+    /// Numbers come of the sort that puts the terms in order, and who sorts changes nothing in the
+    /// answer. An error comes only where memory runs out.
     pub fn new<H: Hands>(
         hands: &H,
         alloc: Global,
@@ -139,7 +141,8 @@ impl Base {
     }
 }
 
-/// It answers what a read says of its dataset. It waits for nobody, and stops for want of memory alone.
+/// It answers what a read says of its dataset. It waits for nobody, and stops for want of memory
+/// alone.
 impl<'a> Source for &'a Base {
     ghost use Rattle.std.specs.Prelude.{◌≡◌};
     ghost use Rattle.reads.specs.Tells.{Tells};

@@ -31,7 +31,8 @@ pub trait Hands {
     // What it takes of its types.
     ghost Ready: { Type 0 };
 
-    /// The dictionary of these terms, and their numbers, and room for so many quads, if it takes it now.
+    /// The dictionary of these terms, and their numbers, and room for so many quads, if it takes it
+    /// now.
     fn numbered(
         &self,
         alloc: Global,
@@ -136,7 +137,8 @@ impl<'r, T: Threads + Sync> Hands for Together<'r, T> {
 
     ghost Ready = { IsSync T.row };
 
-    // The room is made meanwhile: a page of it that is touched first takes as long as some hundred quads.
+    // The room is made meanwhile: a page of it that is touched first takes as long as some hundred
+    // quads.
     fn numbered(
         &self,
         alloc: Global,

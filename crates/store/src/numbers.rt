@@ -181,7 +181,8 @@ pub(crate) fn room_for(alloc: Global, count: usize) -> Result<Vec<KnownQuad>, Al
     vec![in alloc; NO_QUAD; count]
 }
 
-/// The same as `quad_numbers`, where several threads look for the numbers of known terms and put them into the room that was made for so many.
+/// The same as `quad_numbers`, where several threads look for the numbers of known terms and put
+/// them into the room that was made for so many.
 pub(crate) fn quad_numbers_by<T: Threads + Sync>(
     rt: &T,
     alloc: Global,
@@ -199,7 +200,8 @@ pub(crate) fn quad_numbers_by<T: Threads + Sync>(
     Ok(QuadList::of_known(known))
 }
 
-/// These places, each once: the name of a graph comes with each quad that is in it, and of these mostly many one after another.
+/// These places, each once: the name of a graph comes with each quad that is in it, and of these
+/// mostly many one after another.
 pub(crate) fn distinct(mut places: Vec<u32>) -> Vec<u32>
     ensures kept { (place : ℕ) → Contains places.items place → Contains result.items place }
     ensures only { (place : ℕ) → Contains result.items place → Contains places.items place }

@@ -1,4 +1,5 @@
--- How tightly operators bind (SPARQL 1.1 Query, 19.8, productions 111 to 117): the higher, the tighter.
+-- How tightly operators bind (SPARQL 1.1 Query, 19.8, productions 111 to 117): the higher, the
+-- tighter.
 use Rattle.std.specs.Prelude.{ℕ}
 use Rattle.syntax_trees.specs.declared.expression.Operator.{Operator}
 use Rattle.syntax_trees.specs.declared.expression.Operator.TheVariants as operator

@@ -52,7 +52,8 @@ pub enum Two {
     Contains,
 }
 
-/// A filter expression (SPARQL 1.1 Query, 19.8, production 110). Operands of one level stand from left to right.
+/// A filter expression (SPARQL 1.1 Query, 19.8, production 110). Operands of one level stand from
+/// left to right.
 pub enum Expression<'a> {
     Binary(Operator, Box<Expression<'a>>, Box<Expression<'a>>),
     Not(Box<Expression<'a>>),

@@ -28,7 +28,8 @@ pub enum Literal<'a> {
     Boolean(bool),
 }
 
-/// A place of a triple: a name, `a`, a variable, a blank node or a literal (SPARQL 1.1 Query, 19.8, productions 78, 106, 108 and 109).
+/// A place of a triple: a name, `a`, a variable, a blank node or a literal (SPARQL 1.1 Query, 19.8,
+/// productions 78, 106, 108 and 109).
 #[derive(Drop)]
 pub enum Node<'a> {
     Name(Name<'a>),
@@ -55,15 +56,16 @@ pub struct SameSubject<'a> {
     pub properties: Items<Property<'a>>,
 }
 
-/// Triples, and the graph that they stand in, which is a name or a variable (SPARQL 1.1 Update, 19.8, productions 50 to 52). No graph is the
-/// default graph.
+/// Triples, and the graph that they stand in, which is a name or a variable (SPARQL 1.1 Update,
+/// 19.8, productions 50 to 52). No graph is the default graph.
 #[derive(Drop)]
 pub struct Block<'a> {
     pub graph: Option<Node<'a>>,
     pub triples: Items<SameSubject<'a>>,
 }
 
-/// What COPY, MOVE and ADD name: a graph, or the default graph (SPARQL 1.1 Update, 19.8, production 45).
+/// What COPY, MOVE and ADD name: a graph, or the default graph (SPARQL 1.1 Update, 19.8, production
+/// 45).
 #[derive(Drop)]
 pub enum Place<'a> {
     Default,
@@ -94,7 +96,8 @@ pub enum Operation<'a> {
     InsertData(Items<Block<'a>>),
     DeleteData(Items<Block<'a>>),
     DeleteWhere(Items<Block<'a>>),
-    /// DELETE and INSERT with their templates, one of which may be missing and is then empty, the graph of WITH, and the group of WHERE.
+    /// DELETE and INSERT with their templates, one of which may be missing and is then empty, the
+    /// graph of WITH, and the group of WHERE.
     Modify {
         with: Option<Name<'a>>,
         delete: Items<Block<'a>>,

@@ -1,5 +1,5 @@
--- Datasets of terms (RDF 1.1 Concepts, section 4): a set of quads, and a set of graph names with the name of each quad's graph. A named
--- graph may be empty.
+-- Datasets of terms (RDF 1.1 Concepts, section 4): a set of quads, and a set of graph names with
+-- the name of each quad's graph. A named graph may be empty.
 use Rattle.std.specs.Prelude.{◌≡◌, Bool, false, List, [], ◌∷◌, ◌++◌, Option, Some, None}
 use Rattle.std.specs.Option.{option_to_list}
 use Rattle.std.specs.Ordering.{eq_by_cmp}

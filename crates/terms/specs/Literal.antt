@@ -5,8 +5,8 @@ use Rattle.iris.specs.Iri.{IsIri}
 use Rattle.iris.specs.Forms.{is_tag}
 use Rattle.terms.specs.Vocabulary.{lang_string}
 
--- What a contract sees of a literal: the bytes of its lexical form, of its datatype's IRI, and of its
--- language tag.
+-- What a contract sees of a literal: the bytes of its lexical form, of its datatype's IRI, and of
+-- its language tag.
 pub record LiteralValue : Type 0 where
   pub lexical : List ℕ
   pub datatype : List ℕ

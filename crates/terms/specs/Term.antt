@@ -1,5 +1,6 @@
--- The order of terms (RDF 1.1 Concepts, section 3): IRIs, then literals, then blank nodes as written, then made ones. A text goes by its
--- UTF-8 bytes, which is the order of its characters, and no language tag is before any.
+-- The order of terms (RDF 1.1 Concepts, section 3): IRIs, then literals, then blank nodes as
+-- written, then made ones. A text goes by its UTF-8 bytes, which is the order of its characters,
+-- and no language tag is before any.
 use Rattle.std.specs.Prelude.{ℕ, Bool, List, ◌==◌}
 use Rattle.std.specs.declared.cmp.Ordering.{Ordering}
 use Rattle.std.specs.declared.cmp.Ordering.TheVariants.{Equal}

@@ -15,9 +15,9 @@ use std::alloc::{AllocError, Global};
 use std::marker::Model;
 use std::thread::Threads;
 
-/// A dataset (RDF 1.1 Concepts, section 4). Contracts see the set of its quads and the set of its graph names, each as a rising list,
-/// however they lie in memory: each term once, and quads and names by the places of their terms. The name of each quad's graph is among
-/// the names.
+/// A dataset (RDF 1.1 Concepts, section 4). Contracts see the set of its quads and the set of its
+/// graph names, each as a rising list, however they lie in memory: each term once, and quads and
+/// names by the places of their terms. The name of each quad's graph is among the names.
 #[derive(Drop)]
 pub struct DataSet {
     terms: TermTable,
@@ -39,7 +39,8 @@ impl Model for DataSet {
     ghost invariant = { λ d. IsDataset term_order (dataset_at d.terms d.quads.items d.names.items) × AreWithin d.terms d.quads.items d.names.items };
 }
 
-/// What a dataset lies in memory as: terms, and quads and graph names by places among them, in any order and maybe more than once.
+/// What a dataset lies in memory as: terms, and quads and graph names by places among them, in any
+/// order and maybe more than once.
 #[derive(Clone, Copy, Drop)]
 pub struct Parts<'a> {
     pub terms: &'a [Term],
@@ -47,7 +48,8 @@ pub struct Parts<'a> {
     pub names: &'a [u32],
 }
 
-/// What a dataset lay in memory as: its terms, and its quads and graph names by places among them, in any order and maybe more than once.
+/// What a dataset lay in memory as: its terms, and its quads and graph names by places among them,
+/// in any order and maybe more than once.
 #[derive(Drop)]
 pub struct OwnedParts {
     pub terms: Vec<Term>,
@@ -85,8 +87,8 @@ fn placed_quad(terms: &mut TermTable, quad: Quad<Term>) -> Result<Quad<u32>, All
     })
 }
 
-/// Puts a quad and the name of its graph at the ends of two lists. An `Err`, which comes only where memory runs out, leaves both as they
-/// were.
+/// Puts a quad and the name of its graph at the ends of two lists. An `Err`, which comes only where
+/// memory runs out, leaves both as they were.
 pub fn push_both(
     quads: &mut Vec<Quad<u32>>,
     names: &mut Vec<u32>,
@@ -252,7 +254,8 @@ impl DataSet {
         }
     }
 
-    /// The dataset of the quads and names at these places, in any order and maybe more than once. It takes no memory.
+    /// The dataset of the quads and names at these places, in any order and maybe more than once.
+    /// It takes no memory.
     pub fn from_parts(terms: TermTable, quads: Vec<Quad<u32>>, names: Vec<u32>) -> DataSet
         requires within { AreWithin terms quads.items names.items }
         requires dataset { IsDataset term_order (dataset_at terms quads.items names.items) }
@@ -265,7 +268,8 @@ impl DataSet {
         }
     }
 
-    /// Puts in a quad, and the name of its graph. An `Err`, which comes only where memory runs out, leaves the dataset as it was.
+    /// Puts in a quad, and the name of its graph. An `Err`, which comes only where memory runs out,
+    /// leaves the dataset as it was.
     pub fn add(&mut self, quad: Quad<Term>) -> Result<(), AllocError>
         ensures ok { OnOk result (self.new ≡ with_quad quad self.old) }
         ensures err { OnErr result (self.new ≡ self.old) }
@@ -275,7 +279,8 @@ impl DataSet {
         Ok(())
     }
 
-    /// Puts in a graph, empty if no quad is in it. An `Err`, which comes only where memory runs out, leaves the dataset as it was.
+    /// Puts in a graph, empty if no quad is in it. An `Err`, which comes only where memory runs
+    /// out, leaves the dataset as it was.
     pub fn declare(&mut self, name: Term) -> Result<(), AllocError>
         ensures ok { OnOk result (self.new ≡ with_graph name self.old) }
         ensures err { OnErr result (self.new ≡ self.old) }
@@ -285,7 +290,8 @@ impl DataSet {
         Ok(())
     }
 
-    /// Puts in all quads and graphs of another dataset. An `Err`, which comes only where memory runs out, leaves the dataset as it was.
+    /// Puts in all quads and graphs of another dataset. An `Err`, which comes only where memory
+    /// runs out, leaves the dataset as it was.
     pub fn unite(&mut self, other: DataSet) -> Result<(), AllocError>
         ensures ok { OnOk result (self.new ≡ united self.old other) }
         ensures err { OnErr result (self.new ≡ self.old) }
@@ -330,7 +336,8 @@ impl DataSet {
             names: self.names.as_slice(),
         }
     }
-    /// The same, taken out of it, so that no term is copied. An `Err` comes only where memory runs out.
+    /// The same, taken out of it, so that no term is copied. An `Err` comes only where memory runs
+    /// out.
     pub fn into_parts(self, alloc: Global) -> Result<OwnedParts, AllocError>
         ensures parts { IfOk result (λ parts. dataset_at parts.terms.items parts.quads.items
             parts.names.items ≡ self) }

@@ -46,7 +46,8 @@ fn is_last(place: Place) -> bool
     matches!(place, Place::First | Place::Later)
 }
 
-/// Whether a text is a language tag in lower case: letters, then groups of `-` and letters or digits.
+/// Whether a text is a language tag in lower case: letters, then groups of `-` and letters or
+/// digits.
 #[tactic(auto, using(crate::proofs::FormLaws::tag_steps))]
 pub fn is_tag(text: &[u8]) -> bool
     ensures { result ≡ is_tag text.now }

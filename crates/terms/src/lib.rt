@@ -1,7 +1,8 @@
 //! Terms, their order and their canonical text, and datasets of terms.
 //!
-//! A term is pure data in every contract: its texts are their bytes. Stands on `iris`, `sets` and `datasets`. Used above: `Term::cmp` is the
-//! order of terms, and a `DataSet` is a set of quads and a set of graph names that has the name of each quad's graph.
+//! A term is pure data in every contract: its texts are their bytes. Stands on `iris`, `sets` and
+//! `datasets`. Used above: `Term::cmp` is the order of terms, and a `DataSet` is a set of quads and
+//! a set of graph names that has the name of each quad's graph.
 #![tactic(auto)]
 
 mod dataset;

@@ -76,7 +76,8 @@ fn is_lang_string(datatype: &Iri) -> bool
     datatype.as_str() == RDF_LANG_STRING
 }
 
-/// Whether this tag stands with this datatype: a language tag in lower case with rdf:langString, and none with any other.
+/// Whether this tag stands with this datatype: a language tag in lower case with rdf:langString,
+/// and none with any other.
 fn is_tagged_alike(datatype: &Iri, tag: &Option<String>) -> bool
     ensures test { result ≡ is_tagged_alike datatype.now (tag_bytes tag.now) }
     ensures iri { IsIri datatype.now }
@@ -89,8 +90,9 @@ fn is_tagged_alike(datatype: &Iri, tag: &Option<String>) -> bool
 }
 
 impl Literal {
-    /// The literal of these parts (RDF 1.1 Concepts, 3.3), `None` where they are none: the tag isn't a language tag in lower case, or it
-    /// stands with another datatype than rdf:langString, or it is missing with that one. An `Err` comes only where memory runs out.
+    /// The literal of these parts (RDF 1.1 Concepts, 3.3), `None` where they are none: the tag
+    /// isn't a language tag in lower case, or it stands with another datatype than rdf:langString,
+    /// or it is missing with that one. An `Err` comes only where memory runs out.
     #[tactic(auto, using(crate::proofs::FormLaws::literals))]
     pub fn new(
         alloc: Global,
@@ -115,7 +117,8 @@ impl Literal {
         }))
     }
 
-    /// The same literal again, in the same memory. An `Err` comes only where more copies would be held at once than can be counted.
+    /// The same literal again, in the same memory. An `Err` comes only where more copies would be
+    /// held at once than can be counted.
     pub fn copied(&self, _alloc: Global) -> Result<Literal, AllocError>
         ensures { IfOk result (λ copy. copy ≡ self.now) }
     {
@@ -151,7 +154,8 @@ impl Literal {
 }
 
 impl Blank {
-    /// The label of a text without `_:`, if it is one: one or more ASCII letters, digits and `_`. An `Err` comes only where memory runs out.
+    /// The label of a text without `_:`, if it is one: one or more ASCII letters, digits and `_`.
+    /// An `Err` comes only where memory runs out.
     pub fn check(alloc: Global, text: &str) -> Result<Option<Blank>, AllocError>
         ensures { IfOk result (λ found. MatchOption found (is_label text.now ≡ false)
             (λ blank. (blank ≡ text.now) × (is_label text.now ≡ true))) }

@@ -10,7 +10,8 @@ use std::alloc::{AllocError, Global};
 use std::marker::Model;
 use std::thread::{Threads, spawn};
 
-/// Terms, each once and in the order in which they came, so that a place stands for a term. Contracts see the list of the terms.
+/// Terms, each once and in the order in which they came, so that a place stands for a term.
+/// Contracts see the list of the terms.
 #[derive(Drop)]
 pub struct TermTable {
     terms: TableForm,
@@ -66,8 +67,8 @@ impl TermTable {
         }
     }
 
-    /// The place of a term, counted from 0, which comes last where it is new. It fails where memory runs out; whatever comes, no term
-    /// changes its place.
+    /// The place of a term, counted from 0, which comes last where it is new. It fails where memory
+    /// runs out; whatever comes, no term changes its place.
     pub fn place_of(&mut self, term: Term) -> Result<u32, AllocError>
         ensures term { IfOk result (λ place. term_at self.new place ≡ term) }
         ensures within { IfOk result (λ place. is_within self.new place ≡ true) }
@@ -84,8 +85,8 @@ impl TermTable {
         }
     }
 
-    /// The places of another table's terms, in their order there: those that are new come last. It fails where memory runs out; whatever
-    /// comes, no term changes its place.
+    /// The places of another table's terms, in their order there: those that are new come last. It
+    /// fails where memory runs out; whatever comes, no term changes its place.
     pub fn places_of(&mut self, alloc: Global, others: TermTable) -> Result<Vec<u32>, AllocError>
         ensures places { IfOk result (λ places. AreAt self.new places.items others) }
         ensures kept { GoesOn self.old self.new }
@@ -145,8 +146,8 @@ impl TermTable {
         }
     }
 
-    /// The places of these terms. Those that were found nowhere come last where they are new. It fails where memory runs out; whatever comes,
-    /// no term changes its place.
+    /// The places of these terms. Those that were found nowhere come last where they are new. It
+    /// fails where memory runs out; whatever comes, no term changes its place.
     fn places_found(
         &mut self,
         alloc: Global,

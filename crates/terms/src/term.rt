@@ -1,4 +1,5 @@
-//! Terms. Contracts see the text parts as bytes, so `≡` of two terms says that they are the same term.
+//! Terms. Contracts see the text parts as bytes, so `≡` of two terms says that they are the same
+//! term.
 ghost use Rattle.std.specs.Prelude.{◌≡◌, IfOk};
 
 use crate::literal::{Blank, Literal};
@@ -12,7 +13,8 @@ pub enum Term {
     Literal(Literal),
     /// A blank node as it was written, by its label.
     Blank(Blank),
-    /// A blank node that a request made: which request, which operation of it, which label of its template, and which solution, by rank.
+    /// A blank node that a request made: which request, which operation of it, which label of its
+    /// template, and which solution, by rank.
     Made {
         request: u32,
         op: u32,

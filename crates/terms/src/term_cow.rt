@@ -8,7 +8,8 @@ use iris::IriCow;
 use std::alloc::{AllocError, Global};
 use std::marker::Model;
 
-/// A term that may be borrowed from a text, where it is an IRI, or is owned. Contracts see the term.
+/// A term that may be borrowed from a text, where it is an IRI, or is owned. Contracts see the
+/// term.
 #[derive(Drop)]
 pub struct TermCow<'a> {
     form: TermForm<'a>,

@@ -125,8 +125,8 @@ pub fn term_text(alloc: Global, term: &Term, tag: u32) -> Result<Vec<u8>, AllocE
     Ok(text)
 }
 
-/// Adds the canonical text of a term, with the dataset's tag in the labels of made nodes. An `Err`, which comes only where memory runs out,
-/// leaves the text as it was.
+/// Adds the canonical text of a term, with the dataset's tag in the labels of made nodes. An `Err`,
+/// which comes only where memory runs out, leaves the text as it was.
 pub fn canonical(alloc: Global, term: &Term, tag: u32, text: &mut Vec<u8>) -> Result<(), AllocError>
     ensures ok { OnOk result (text.new.items ≡ text.old.items ++ term_text tag term.now) }
     ensures err { OnErr result (text.new.items ≡ text.old.items) }

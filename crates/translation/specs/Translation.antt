@@ -1,5 +1,5 @@
--- Requests as updates over terms: names are IRIs by the latest declaration before them, variables and labels are numbers, and groups are
--- patterns of the algebra.
+-- Requests as updates over terms: names are IRIs by the latest declaration before them, variables
+-- and labels are numbers, and groups are patterns of the algebra.
 use Rattle.std.specs.Prelude.{ℕ, List, [], ◌∷◌, length, Option, Some, None}
 use Rattle.std.specs.Option.{option_map}
 use Rattle.terms.specs.declared.term.Term.{Term}
@@ -46,7 +46,8 @@ module _ (ds : Prefixes) (vs : List (List ℕ)) (ls : Labels) where
     insert = template_of ds vs ls graph ys;
   })
 
-  -- INSERT DATA and DELETE DATA have the empty group as WHERE, and DELETE WHERE its quads (SPARQL 1.1 Update, 3.1.1 to 3.1.3)
+  -- INSERT DATA and DELETE DATA have the empty group as WHERE, and DELETE WHERE its quads (SPARQL
+  -- 1.1 Update, 3.1.1 to 3.1.3)
   abbrev pub operation_with : Operation → Made Term
   operation_with (operation.Create silent n) = made.Graphs silent (graphs.Create (name_term ds n))
   operation_with (operation.Drop silent t) = made.Graphs silent (graphs.Drop (target_of ds t))

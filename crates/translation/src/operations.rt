@@ -347,10 +347,11 @@ fn operation_numbered<'a>(
     operation_labelled(alloc, prefixes, &variables, nodes)
 }
 
-/// An operation as an update (SPARQL 1.1 Update, section 3), with the prefixes that are declared before it. Its IRIs are made on the way, each
-/// once, and kept with the prefixes. A name whose prefix isn't declared, and a literal with rdf:langString as its written datatype, stand for a
-/// term that no request may have: such a request is refused. An error comes only where a growth was refused, or where the operation has 2^32
-/// variables or labels.
+/// An operation as an update (SPARQL 1.1 Update, section 3), with the prefixes that are declared
+/// before it. Its IRIs are made on the way, each once, and kept with the prefixes. A name whose
+/// prefix isn't declared, and a literal with rdf:langString as its written datatype, stand for a
+/// term that no request may have: such a request is refused. An error comes only where a growth was
+/// refused, or where the operation has 2^32 variables or labels.
 pub fn operation_of<'a>(
     alloc: Global,
     prefixes: &mut Prefixes<'a>,

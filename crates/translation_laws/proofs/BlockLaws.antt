@@ -1,4 +1,5 @@
--- A block whose requests are accepted or refused keeps a dataset well-formed, and a mark free of its blank labels; so do its first requests.
+-- A block whose requests are accepted or refused keeps a dataset well-formed, and a mark free of
+-- its blank labels; so do its first requests.
 use Rattle.std.proofs.Common.{◌≡◌, ℕ, zero, suc, ◌≤◌, ◌^◌, false, List, [], ◌∷◌, length, take, Ok, Err, arith}
 use Rattle.std.specs.List.{AllByRecursion}
 use Rattle.datasets.specs.Dataset.{Dataset}

@@ -1,4 +1,5 @@
--- What a run keeps of the terms and quads of a dataset, where what is made of them, of what requests bring and of made nodes has it too.
+-- What a run keeps of the terms and quads of a dataset, where what is made of them, of what
+-- requests bring and of made nodes has it too.
 use Rattle.std.proofs.Common.{◌≡◌, ℕ, ◌+◌, ◌<◌, ◌≤◌, ◌^◌, Bool, true, false, List, [], ◌∷◌, ◌++◌, length, map, Option, Some, None, Result, Ok, Err, refl, arith, slice_set}
 use Rattle.std.specs.Prelude.{zero, suc, IfSome, if◌then◌else◌}
 use Rattle.std.specs.List.{AllByRecursion}
@@ -263,7 +264,8 @@ module _ (T G : Term → Type 0) (Q : Quad Term → Type 0) (kept : IsKept T G Q
   settled_kept d (Ok e) h k = k
   settled_kept d (Err failure) h k = h
 
-  -- what a request that isn't refused brings is so, and its operations' places are numbers of 32 bits
+  -- what a request that isn't refused brings is so, and its operations' places are numbers of 32
+  -- bits
   abbrev pub IsBrought : Request Term → Type 0
   IsBrought (Ok operations) = (length operations ≤ 2 ^ 32) × AllByRecursion (EachBrought T G IsNumber) operations
   IsBrought (Err refusal) = Unit {0}

@@ -1,4 +1,5 @@
--- Where no blank label of a dataset begins with a mark, none does after a run: requests bring no blank node but made ones.
+-- Where no blank label of a dataset begins with a mark, none does after a run: requests bring no
+-- blank node but made ones.
 use Rattle.std.proofs.Common.{◌≡◌, ℕ, false, ◌||◌, List, [], ◌∷◌, Option, Some, None, Ok, Err, refl}
 use Rattle.std.specs.Prelude.{IfSome}
 use Rattle.std.specs.List.{AllByRecursion, list_any}

@@ -1,4 +1,5 @@
--- What holds of each node of a group or of quads holds of each term and variable of their pattern and of their template.
+-- What holds of each node of a group or of quads holds of each term and variable of their pattern
+-- and of their template.
 use Rattle.std.proofs.Common.{ℕ, List, [], ◌∷◌, map, Option, Some, None}
 use Rattle.std.specs.Prelude.{IfSome}
 use Rattle.std.specs.List.{AllByRecursion, flat_map}

@@ -1,4 +1,5 @@
--- The nodes that the grammar reads from tokens have the parts of these tokens, and are not more than they.
+-- The nodes that the grammar reads from tokens have the parts of these tokens, and are not more
+-- than they.
 use Rattle.std.proofs.Common.{◌≡◌, ℕ, zero, suc, ◌+◌, ◌≤◌, true, List, [], ◌∷◌, ◌++◌, length, map, Option, arith}
 use Rattle.std.proofs.lemmas.List.{length-append}
 use Rattle.std.specs.Prelude.{Bool, IsUtf8}
@@ -336,7 +337,8 @@ operation_taken (grammar.modify w c k g) = both (change_taken (with_taken w) c) 
 
 -- ---- requests
 
--- what is declared is an IRI, and the nodes of an operation have their parts and are at most so many
+-- what is declared is an IRI, and the nodes of an operation have their parts and are at most so
+-- many
 abbrev pub StepParts : ℕ → Step → Type 0
 StepParts most (step.Declare p i) = IsIri i
 StepParts most (step.Do op) = AllByRecursion NodeParts (nodes_of_operation op) × (length (nodes_of_operation op) ≤ most)

@@ -1,4 +1,5 @@
--- What holds of the empty mapping, of each mapping that is fitted to terms of the dataset, and of each merge holds of each solution.
+-- What holds of the empty mapping, of each mapping that is fitted to terms of the dataset, and of
+-- each merge holds of each solution.
 use Rattle.std.proofs.Common.{ℕ, Bool, true, false, cond, List, [], ◌∷◌, ◌++◌, Option, Some, None, filter}
 use Rattle.std.specs.Prelude.{IfSome, filter_map, option_and_then}
 use Rattle.std.specs.List.{AllByRecursion, cons_option}

@@ -1,4 +1,5 @@
--- The terms that names and literals are, where these have the parts of tokens: they are in their forms.
+-- The terms that names and literals are, where these have the parts of tokens: they are in their
+-- forms.
 use Rattle.std.proofs.Common.{◌≡◌, ℕ, ◌<◌, Bool, true, false, cond, List, [], ◌∷◌, ◌++◌, Option, Some, None, unwrap_or, refl, sym, ap, ◌∙◌, subst}
 use Rattle.std.specs.Prelude.{IfSome, All, IsUtf8, bytes_eq, is_none, nat_lt}
 use Rattle.std.specs.Option.{option_map}

@@ -1,4 +1,5 @@
--- The terms of an accepted request are IRIs and literals in their forms, and so is what it brings into a dataset.
+-- The terms of an accepted request are IRIs and literals in their forms, and so is what it brings
+-- into a dataset.
 use Rattle.std.proofs.Common.{◌≡◌, ℕ, ◌≤◌, ◌^◌, true, false, ◌&&◌, List, [], ◌∷◌, ◌++◌, length, Option, Some, None, Ok, refl, sym, ap, ◌∙◌, subst, arith}
 use Rattle.std.specs.Prelude.{IfSome, nat_lt}
 use Rattle.std.proofs.lemmas.Bool.{false≢true, or_parts, ltb-false}

@@ -1,4 +1,5 @@
--- What holds of each term in a pattern or a template (T), of the number of each variable in it (N), and of each label's in a template (L).
+-- What holds of each term in a pattern or a template (T), of the number of each variable in it (N),
+-- and of each label's in a template (L).
 use Rattle.std.specs.Prelude.{ℕ, IfSome}
 use Rattle.std.specs.List.{AllByRecursion}
 use Rattle.algebra.specs.declared.pattern.Place.{Place}

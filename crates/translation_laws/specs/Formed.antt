@@ -1,5 +1,5 @@
--- What a request itself brings into a dataset (RDF 1.1 Concepts, sections 3 and 4): terms of the form of their kind, IRIs as the names of new
--- graphs, and labels by numbers of 32 bits.
+-- What a request itself brings into a dataset (RDF 1.1 Concepts, sections 3 and 4): terms of the
+-- form of their kind, IRIs as the names of new graphs, and labels by numbers of 32 bits.
 use Rattle.std.specs.Prelude.{ℕ, ◌<◌, ◌≤◌, ◌^◌, length, Ok, Err, IfSome}
 use Rattle.std.specs.List.{AllByRecursion}
 use Rattle.algebra.specs.declared.update.GraphOperation.{GraphOperation}
@@ -18,7 +18,8 @@ EachOfGraphs G (graphs.Drop t) = Unit {0}
 EachOfGraphs G (graphs.Clear t) = Unit {0}
 EachOfGraphs G (graphs.Transfer how from to) = IfSome to G
 
--- of such a name, of each inserted term (T) and of each label's number (L); what is deleted, and the pattern, bring nothing
+-- of such a name, of each inserted term (T) and of each label's number (L); what is deleted, and
+-- the pattern, bring nothing
 abbrev pub EachBrought : (T G : Term → Type 0) → (ℕ → Type 0) → Operation Term → Type 0
 EachBrought T G L (operation.Modify m) = AllByRecursion (EachOfQuad T (λ v. Unit {0}) L) m.insert
 EachBrought T G L (operation.Graphs silent op) = EachOfGraphs G op

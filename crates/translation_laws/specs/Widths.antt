@@ -12,8 +12,8 @@ use Rattle.meaning_laws.specs.BasicPatterns.{AreSolutions}
 use Rattle.translation_laws.specs.Each.{EachOfPlan, EachOfQuad}
 
 module _ {K : Type 0} where
-  -- the variables of the pattern, with those of its filters, are below the width; those of the templates are too, or are the width itself,
-  -- which no solution binds
+  -- the variables of the pattern, with those of its filters, are below the width; those of the
+  -- templates are too, or are the width itself, which no solution binds
   abbrev pub IsWithinWidth : Operation K → Type 0
   IsWithinWidth (operation.Modify m) =
       EachOfPlan (λ t. Unit {0}) (λ v. v < m.width) m.pattern
@@ -31,7 +31,8 @@ module _ {K : Type 0} where
   EachBasic P (Filter es a) = EachBasic P a
   EachBasic P (InGraph n a) = EachBasic P a
 
-  -- the joined solutions of each basic graph pattern, from these triples, are its solutions in the standard's words
+  -- the joined solutions of each basic graph pattern, from these triples, are its solutions in the
+  -- standard's words
   abbrev pub IsSolved : Vocabulary K → List (Quad K) → Operation K → Type 0
   IsSolved V triples (operation.Modify m) =
       EachBasic (λ ts. AreSolutions V.order m.width ts triples (basic_solutions V.order m.width ts triples)) m.pattern

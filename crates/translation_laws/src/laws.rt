@@ -36,8 +36,8 @@ use meaning_laws::laws::{answers_with_datasets, joins_are_solutions};
 use nquads_laws::{spelled_is_well_formed, spells_again};
 use terms::Term;
 
-/// The number of a variable is below the width exactly where the variable is among the nodes of WHERE; else it is the width itself. Two variables
-/// of WHERE have different numbers.
+/// The number of a variable is below the width exactly where the variable is among the nodes of
+/// WHERE; else it is the width itself. Two variables of WHERE have different numbers.
 pub fn numbers_of_where_are_below()
     ensures below { (where-nodes : List Node) (variable : List ℕ)
         → (number_of (variables_of where-nodes) variable < length (variables_of where-nodes))
@@ -51,14 +51,15 @@ pub fn numbers_of_where_are_below()
         → variable ≡ other }
 {}
 
-/// The variables of each operation of a request are within its width: those of the pattern and of its filters are below it, and those of the
-/// templates are too, or are the width itself where WHERE lacks them.
+/// The variables of each operation of a request are within its width: those of the pattern and of
+/// its filters are below it, and those of the templates are too, or are the width itself where
+/// WHERE lacks them.
 pub fn variables_are_within_width()
     ensures { (steps : List Step) → AllByRecursion IsWithinWidth (translated steps) }
 {}
 
-/// Each solution of a pattern has a place for each number below the width, so the number that a variable has which WHERE lacks, the width itself,
-/// is bound in none.
+/// Each solution of a pattern has a place for each number below the width, so the number that a
+/// variable has which WHERE lacks, the width itself, is bound in none.
 pub fn variables_beyond_width_are_unbound<K>()
     ensures rows { (V : Vocabulary K) (width : ℕ) (pattern : Plan K) (d : Dataset K)
         (graph : Option K) → AllByRecursion (λ mapping. length mapping ≡ width)
@@ -68,7 +69,8 @@ pub fn variables_beyond_width_are_unbound<K>()
         (solutions V.order V.passes width pattern d graph) }
 {}
 
-/// The joined solutions of each basic graph pattern of a request are its solutions in the standard's words (SPARQL 1.1 Query, 18.3.1).
+/// The joined solutions of each basic graph pattern of a request are its solutions in the
+/// standard's words (SPARQL 1.1 Query, 18.3.1).
 pub fn basic_patterns_are_solved()
     ensures { (V : Vocabulary Term) (triples : List (Quad Term)) (steps : List Step)
         → IsExactOrder V → AllByRecursion (IsSolved V triples) (translated steps) }
@@ -76,8 +78,9 @@ pub fn basic_patterns_are_solved()
     joins_are_solutions::<Term>();
 }
 
-/// Each term of a text's operations is an IRI or a literal, unless the text is refused for its syntax, a prefix or a blank node that is deleted; so
-/// is each of an accepted request, and it is in its form. The term that stands where a node has none stands in none of them.
+/// Each term of a text's operations is an IRI or a literal, unless the text is refused for its
+/// syntax, a prefix or a blank node that is deleted; so is each of an accepted request, and it is
+/// in its form. The term that stands where a node has none stands in none of them.
 pub fn terms_are_written()
     ensures reading { (text : List ℕ) (syntax : Syntax) → Reads text syntax
         → has_fault refusal.Syntax syntax ≡ false → has_fault refusal.Prefix syntax ≡ false
@@ -89,8 +92,9 @@ pub fn terms_are_written()
         → AllByRecursion IsTerm (terms_of_request (Ok update)) }
 {}
 
-/// The run of requests that bring terms in their forms keeps a dataset well-formed: what an instance of a template makes of the terms of the
-/// dataset, of the terms of the request and of made nodes has each kind of term where it may stand, and the numbers of made nodes have 32 bits.
+/// The run of requests that bring terms in their forms keeps a dataset well-formed: what an
+/// instance of a template makes of the terms of the dataset, of the terms of the request and of
+/// made nodes has each kind of term where it may stand, and the numbers of made nodes have 32 bits.
 pub fn run_keeps_well_formed()
     ensures { (requests : List (Request Term)) (d : Dataset Term) → length requests ≤ 2 ^ 32
         → AllByRecursion IsFormedRequest requests → IsWellFormed d
@@ -99,8 +103,8 @@ pub fn run_keeps_well_formed()
     answers_with_datasets::<Term>();
 }
 
-/// The run of a block keeps a dataset well-formed, and so does that of its first n requests: what an accepted request brings into a dataset is in
-/// its form, and a refused one brings nothing.
+/// The run of a block keeps a dataset well-formed, and so does that of its first n requests: what
+/// an accepted request brings into a dataset is in its form, and a refused one brings nothing.
 pub fn block_keeps_well_formed()
     ensures whole { (bytes : List ℕ) (block : List (Request Term)) (d : Dataset Term)
         → IsSplit bytes (Ok block) → IsWellFormed d → IsWellFormed (run written block d).0 }
@@ -111,8 +115,8 @@ pub fn block_keeps_well_formed()
     answers_with_datasets::<Term>();
 }
 
-/// A tag that no blank label of a dataset is marked with stays so along the run of a block and of its first n requests: requests bring no blank
-/// nodes but made ones.
+/// A tag that no blank label of a dataset is marked with stays so along the run of a block and of
+/// its first n requests: requests bring no blank nodes but made ones.
 pub fn tag_stays_free()
     ensures whole { (bytes : List ℕ) (block : List (Request Term)) (d : Dataset Term) (tag : ℕ)
         → IsSplit bytes (Ok block) → IsWellFormed d → is_taken d.quads tag ≡ false
@@ -122,8 +126,9 @@ pub fn tag_stays_free()
         → is_taken (run_of_first written n block d).0.quads tag ≡ false }
 {}
 
-/// What is written of the run of a block, or of its first n requests, on the dataset that a text spells, spells the dataset after that run, with
-/// each made node as the blank node of its label; and no two terms of it become one where no blank label of the dataset before is marked with the
+/// What is written of the run of a block, or of its first n requests, on the dataset that a text
+/// spells, spells the dataset after that run, with each made node as the blank node of its label;
+/// and no two terms of it become one where no blank label of the dataset before is marked with the
 /// tag.
 pub fn run_is_spelled()
     ensures whole { (text bytes : List ℕ) (block : List (Request Term)) (d : Dataset Term) (tag : ℕ)

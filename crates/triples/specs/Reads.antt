@@ -1,6 +1,7 @@
--- The grammar of triples and quads, by its productions, on lists of tokens. (SPARQL 1.1 Query and Update, 19.8, productions 50 to 52 of
--- quads, 75 to 82 and 106 to 109 of triples, in this profile.) `ReadsX ts x rest`: the production reads x at the front of the tokens ts,
--- and rest follows.
+-- The grammar of triples and quads, by its productions, on lists of tokens. (SPARQL 1.1 Query and
+-- Update, 19.8, productions 50 to 52 of quads, 75 to 82 and 106 to 109 of triples, in this
+-- profile.) `ReadsX ts x rest`: the production reads x at the front of the tokens ts, and rest
+-- follows.
 use Rattle.std.specs.Prelude.{ℕ, ◌≡◌, ◌==◌, Bool, true, false, List, [], ◌∷◌, codes, Some, None}
 use Rattle.lexer.specs.declared.token.Token.{Token}
 use Rattle.lexer.specs.declared.token.Token.TheVariants as token
@@ -86,7 +87,8 @@ pub data ReadsGraphBlock : List Token → Block → List Token → Type 0 where
   block : {ts r u rest : List Token} {g : Node} {xs : List SameSubject} → ReadsGraphName ts g (token.Sign signs.OpenBrace ∷ r)
       → ReadsMaybeTriples r xs (token.Sign signs.CloseBrace ∷ u) → ReadsMaybeDot u rest → ReadsGraphBlock ts (record { graph = Some g; triples = xs }) rest
 
--- { 'GRAPH' VarIri '{' [Triples] '}' ['.'] [Triples] } '}': each time the block of the graph, and that of the triples after it
+-- { 'GRAPH' VarIri '{' [Triples] '}' ['.'] [Triples] } '}': each time the block of the graph, and
+-- that of the triples after it
 pub data ReadsBlocks : List Token → List Block → List Token → Type 0 where
   close : {rest : List Token} → ReadsBlocks (token.Sign signs.CloseBrace ∷ rest) [] rest
   graph : {ts r u v rest : List Token} {b : Block} {xs : List SameSubject} {later : List Block} → ReadsKeyword (codes "GRAPH") ts r → ReadsGraphBlock r b u

@@ -29,8 +29,8 @@ pub fn node_at<'t, 'a>(tokens: &'t [Token<'a>]) -> Result<(Node<'a>, &'t [Token<
     }
 }
 
-/// The name of a graph, or the variable for it, at the front of the tokens (SPARQL 1.1 Query, 19.8, production 107), and what follows it.
-/// `NoReading` where they begin with anything else.
+/// The name of a graph, or the variable for it, at the front of the tokens (SPARQL 1.1 Query, 19.8,
+/// production 107), and what follows it. `NoReading` where they begin with anything else.
 pub fn graph_name_at<'t, 'a>(tokens: &'t [Token<'a>]) -> Result<(Node<'a>, &'t [Token<'a>]), Stop>
     ensures { Gives (λ x. (x.0, x.1.now)) result (graph_name_at tokens.now) }
 {
@@ -87,7 +87,8 @@ pub fn object_at<'t, 'a>(tokens: &'t [Token<'a>]) -> Result<(Node<'a>, &'t [Toke
     }
 }
 
-/// Whether a subject stands at the front of the tokens, and so triples do (SPARQL 1.1 Query, 19.8, production 75).
+/// Whether a subject stands at the front of the tokens, and so triples do (SPARQL 1.1 Query, 19.8,
+/// production 75).
 pub fn begins_node(tokens: &[Token<'_>]) -> bool
     ensures { result ≡ begins_node tokens.now }
 {

@@ -108,9 +108,10 @@ fn blocks_behind<'t, 'a>(
     }
 }
 
-/// The quads in braces at the front of the tokens (SPARQL 1.1 Update, 19.8, productions 48 to 51), and what follows them: a block of the
-/// default graph, then for each GRAPH block that block and another of the default graph, the triples behind it. Blocks may be empty.
-/// `NoReading` where the tokens begin with anything else, `Memory` where a growth is refused.
+/// The quads in braces at the front of the tokens (SPARQL 1.1 Update, 19.8, productions 48 to 51),
+/// and what follows them: a block of the default graph, then for each GRAPH block that block and
+/// another of the default graph, the triples behind it. Blocks may be empty. `NoReading` where the
+/// tokens begin with anything else, `Memory` where a growth is refused.
 #[tactic(auto, unfolding(crate::specs::Reading::quads_at))]
 pub fn quads_at<'t, 'a>(
     alloc: Global,

@@ -83,8 +83,9 @@ fn same_at<'t, 'a>(
     Ok((same, rest))
 }
 
-/// The triples at the front of the tokens, one subject or more, with the dot behind them where there is one (SPARQL 1.1 Query, 19.8,
-/// productions 52 and 75), and what follows them. `NoReading` where they begin with none, `Memory` where a growth is refused.
+/// The triples at the front of the tokens, one subject or more, with the dot behind them where
+/// there is one (SPARQL 1.1 Query, 19.8, productions 52 and 75), and what follows them. `NoReading`
+/// where they begin with none, `Memory` where a growth is refused.
 pub fn triples_at<'t, 'a>(
     alloc: Global,
     tokens: &'t [Token<'a>],

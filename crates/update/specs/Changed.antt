@@ -19,7 +19,8 @@ abbrev pub changed : {E : Type 0} → View → Result Delta E → Result View E
 changed d (Ok c) = Ok (applied c d)
 changed d (Err e) = Err e
 
--- a change speaks of what another speaks of where that is not so in a dataset already, and of nothing else
+-- a change speaks of what another speaks of where that is not so in a dataset already, and of
+-- nothing else
 pub record IsNewOf (change c : Delta) (d : View) : Type 0 where
   pub present : change.present ≡ set_of (quad_order id_order) (without (quad_order id_order) c.present d.quads)
   pub absent : change.absent ≡ set_of (quad_order id_order) (filter (has (quad_order id_order) d.quads) c.absent)

@@ -23,11 +23,13 @@ pub record Executed : Type 0 where
   pub request : Request Id
   pub finished : Finished
 
--- for every dataset that the notes agree with, the change is what the answer changes and nothing else
+-- for every dataset that the notes agree with, the change is what the answer changes and nothing
+-- else
 abbrev pub IsLeastFor : (View → View × Reply) → List Note → Delta → Type 0
 IsLeastFor answer notes delta = (d : View) → IsDataset d → Agrees notes d → delta ≡ difference d (answer d).0
 
--- the run is sound for its request, its change is the least, and each of its reads is near the request
+-- the run is sound for its request, its change is the least, and each of its reads is near the
+-- request
 pub record IsExecuted (e : Executed) : Type 0 where
   pub sound : IsSoundFor (answer_of (numbers e.terms) e.place e.request) e.finished
   pub least : IsLeastFor (answer_of (numbers e.terms) e.place e.request) e.finished.transcript e.finished.delta

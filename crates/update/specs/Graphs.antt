@@ -60,7 +60,8 @@ abbrev pub name_list : Option Id → List Id
 name_list None = []
 name_list (Some g) = g ∷ []
 
--- the quads that go where those of one graph, which were found, come to the place of others: ADD keeps all
+-- the quads that go where those of one graph, which were found, come to the place of others: ADD
+-- keeps all
 abbrev pub leaving : Transfer → (found others : List (Quad Id)) → List (Quad Id)
 leaving transfer.Add found others = []
 leaving transfer.Copy found others = others

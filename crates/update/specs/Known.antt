@@ -26,7 +26,8 @@ names_in (Quads quads) = []
 names_in (Is so) = []
 names_in (Names names) = names
 
--- a few scans and what they tell; what others tell of whole graphs; whether the names of all graphs were told, and these names
+-- a few scans and what they tell; what others tell of whole graphs; whether the names of all graphs
+-- were told, and these names
 pub record WhatIsKnown : Type 0 where
   pub scans : List ToldScan
   pub whole : WholeGraphs
@@ -51,7 +52,8 @@ scans_for_untold k quads = map (λ q. scan_for q) (filter (λ q. is_none (told_o
 abbrev pub questions_for_untold : WhatIsKnown → List Id → List Read
 questions_for_untold k names = if k.has_graphs then [] else map (λ g. GraphIs g) names
 
--- the reads for all that a change speaks of, where it wasn't told whether that is there: of quads, and then of names
+-- the reads for all that a change speaks of, where it wasn't told whether that is there: of quads,
+-- and then of names
 abbrev pub reads_for_untold : WhatIsKnown → Delta → List Read
 reads_for_untold k c =
     scans_for_untold k c.present ++ (scans_for_untold k c.absent ++ (questions_for_untold k c.there ++ questions_for_untold k c.gone))

@@ -22,8 +22,8 @@ use reads::{Note, SharedItems, Source, Stop};
 use std::alloc::Global;
 use std::marker::Model;
 
-/// A finished run of a request at a place of a block. It is sound for the request, its change is the least that is, and each of its
-/// reads is near the request.
+/// A finished run of a request at a place of a block. It is sound for the request, its change is
+/// the least that is, and each of its reads is near the request.
 #[derive(Drop)]
 pub struct Execution<'a> {
     dict: &'a Dict,
@@ -117,9 +117,10 @@ fn outcome_of<S: Source>(
     }
 }
 
-/// The execution of the request at this place of the block, counted from 0, from what a source answers. Whatever it answers, the
-/// execution is sound, and its transcript is what was asked and answered, in order. It stops as the source does, and for want of memory. A
-/// refused request asks nothing.
+/// The execution of the request at this place of the block, counted from 0, from what a source
+/// answers. Whatever it answers, the execution is sound, and its transcript is what was asked and
+/// answered, in order. It stops as the source does, and for want of memory. A refused request asks
+/// nothing.
 pub fn execute<'a, S: Source>(
     alloc: Global,
     dict: &'a Dict,

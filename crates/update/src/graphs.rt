@@ -172,7 +172,8 @@ fn name_leaving(alloc: Global, how: Transfer, from: Option<Id>) -> Result<Vec<Id
     }
 }
 
-// What COPY, MOVE and ADD change by themselves. From a graph to itself that is nothing; else they fail where the first graph isn't there.
+// What COPY, MOVE and ADD change by themselves. From a graph to itself that is nothing; else they
+// fail where the first graph isn't there.
 fn transferred<S: Source>(
     alloc: Global,
     how: Transfer,
@@ -234,9 +235,10 @@ fn own_change<S: Source>(
     }
 }
 
-/// The change that goes on with an operation on graphs, or why the operation fails, from a change to which the operations before it led.
-/// CREATE fails where the graph is there; DROP and CLEAR of one graph, and COPY, MOVE and ADD from it, where it isn't. From a graph to
-/// itself nothing happens.
+/// The change that goes on with an operation on graphs, or why the operation fails, from a change
+/// to which the operations before it led. CREATE fails where the graph is there; DROP and CLEAR of
+/// one graph, and COPY, MOVE and ADD from it, where it isn't. From a graph to itself nothing
+/// happens.
 pub fn graphs<S: Source>(
     alloc: Global,
     operation: &GraphOperation<Id>,

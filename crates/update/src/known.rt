@@ -1,4 +1,5 @@
-//! What notes tell of quads, so that none of these is asked for again, and of the names of all graphs.
+//! What notes tell of quads, so that none of these is asked for again, and of the names of all
+//! graphs.
 ghost use Rattle.std.specs.Prelude.{◌≡◌, Bool, true, IfOk};
 ghost use Rattle.sets.specs.Sets.{has};
 ghost use Rattle.datasets.specs.Id.{id_order};
@@ -15,8 +16,8 @@ use sets::{is_member, set_of};
 use std::alloc::{AllocError, Global};
 use std::marker::Model;
 
-/// What notes tell: the first scans, of the quads that their patterns let through; the notes after these, of whole graphs; and the names
-/// of all graphs, where notes tell them.
+/// What notes tell: the first scans, of the quads that their patterns let through; the notes after
+/// these, of whole graphs; and the names of all graphs, where notes tell them.
 #[derive(Drop)]
 pub struct Known {
     scans: Vec<ToldScan>,

@@ -17,8 +17,9 @@ use quad_sets::{QuadSet, QuadSlice};
 use reads::{Note, Source, Stop};
 use std::alloc::Global;
 
-// What isn't so yet of a change, with these quads and names as those that are not to be there, in each dataset that agrees with the
-// notes. What isn't known from them is asked for in turn: quads in lots, and each name alone.
+// What isn't so yet of a change, with these quads and names as those that are not to be there, in
+// each dataset that agrees with the notes. What isn't known from them is asked for in turn: quads
+// in lots, and each name alone.
 fn new_in_turn<S: Source>(
     alloc: Global,
     known: &Known,
@@ -54,8 +55,9 @@ fn count_of(changes: &Delta, others: &QuadSlice<'_>, other_names: &[Id]) -> usiz
         .saturating_add(other_names.len())
 }
 
-/// What a change really changes, in each dataset that agrees with the notes: each quad that it speaks of is asked for, unless the notes
-/// tell of it, and each graph name, unless they tell those of all graphs. Where it speaks of little, all are asked for at once.
+/// What a change really changes, in each dataset that agrees with the notes: each quad that it
+/// speaks of is asked for, unless the notes tell of it, and each graph name, unless they tell those
+/// of all graphs. Where it speaks of little, all are asked for at once.
 pub fn least_of<S: Source>(
     alloc: Global,
     changes: &Delta,

@@ -34,8 +34,8 @@ fn push_questions(known: &Known, names: &[Id], reads: &mut Vec<Read<Id>>) -> Res
     Ok(())
 }
 
-// The reads for quads and names that are to be there, and for others that are not, where it isn't known whether they are there: of all
-// the quads first.
+// The reads for quads and names that are to be there, and for others that are not, where it isn't
+// known whether they are there: of all the quads first.
 fn reads_for(
     alloc: Global,
     known: &Known,
@@ -71,8 +71,8 @@ fn named_first<'n>(known: &Known, name: &Id, notes: &'n [Note]) -> (bool, &'n [N
     }
 }
 
-// Puts those of the names that are there, or those that are not, at the end of what was found, by notes of which the first tell of the
-// names. Gives the notes that are left.
+// Puts those of the names that are there, or those that are not, at the end of what was found, by
+// notes of which the first tell of the names. Gives the notes that are left.
 fn push_those_names<'n>(
     known: &Known,
     are_there: bool,
@@ -95,8 +95,8 @@ fn push_those_names<'n>(
     Ok(left)
 }
 
-// Of quads and names that are to be there those that are not there yet, and of others that are not to be there those that still are, by
-// the notes of the reads for them.
+// Of quads and names that are to be there those that are not there yet, and of others that are not
+// to be there those that still are, by the notes of the reads for them.
 fn new_of(
     alloc: Global,
     known: &Known,
@@ -123,8 +123,8 @@ fn new_of(
     Delta::from_parts(alloc, come, lost, named, unnamed)
 }
 
-/// What isn't so yet of a change, with these quads and names as those that are not to be there, in each dataset that agrees with the
-/// notes. All that isn't known from them is asked for at once.
+/// What isn't so yet of a change, with these quads and names as those that are not to be there, in
+/// each dataset that agrees with the notes. All that isn't known from them is asked for at once.
 pub fn new_at_once<S: Source>(
     alloc: Global,
     known: &Known,

@@ -62,8 +62,9 @@ fn solved<S: Source>(
     )
 }
 
-/// From more solutions on, what they insert is asked for by one scan of its template. A question costs as much as some hundred quads of an
-/// answer, so that a scan which tells of 10,000,000 quads is still cheaper, and the request is one that others wait for anyway.
+/// From more solutions on, what they insert is asked for by one scan of its template. A question
+/// costs as much as some hundred quads of an answer, so that a scan which tells of 10,000,000 quads
+/// is still cheaper, and the request is one that others wait for anyway.
 const MANY_SOLUTIONS: usize = 100_000;
 
 // Whether there are very many solutions.
@@ -74,8 +75,9 @@ fn are_many(found: &Option<Solutions>) -> bool {
     }
 }
 
-// The solutions of WHERE, where the operations before it led, unless they are too many. Of very many it asks for the scans of what they
-// insert too, so that no quad of these is asked for by itself.
+// The solutions of WHERE, where the operations before it led, unless they are too many. Of very
+// many it asks for the scans of what they insert too, so that no quad of these is asked for by
+// itself.
 fn solutions_of<S: Source>(
     alloc: Global,
     dict: &Dict,
@@ -102,8 +104,8 @@ fn solutions_of<S: Source>(
     Ok(found)
 }
 
-/// The change that goes on with an operation, or why the operation fails, from a change to which the operations before it led. WHERE is
-/// evaluated once; all deletions come before all insertions.
+/// The change that goes on with an operation, or why the operation fails, from a change to which
+/// the operations before it led. WHERE is evaluated once; all deletions come before all insertions.
 pub fn modify<S: Source>(
     alloc: Global,
     dict: &Dict,

@@ -100,7 +100,8 @@ fn perform_one<S: Source>(
     }
 }
 
-/// The change that the operations make, each from where those before it led, or the first that fails.
+/// The change that the operations make, each from where those before it led, or the first that
+/// fails.
 pub fn perform<S: Source>(
     alloc: Global,
     dict: &Dict,

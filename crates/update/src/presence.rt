@@ -22,7 +22,8 @@ use reads::same::same_bool;
 use reads::{Answered, Note, Source, Stop};
 use std::alloc::{AllocError, Global};
 
-/// How many quads and names are asked for at once. The reads of so many take little memory beside the notes of all.
+/// How many quads and names are asked for at once. The reads of so many take little memory beside
+/// the notes of all.
 pub const AT_ONCE: usize = 256;
 
 // Whether an answer tells of some quad.
@@ -45,8 +46,8 @@ pub fn has_name(answer: &Answered) -> bool
     }
 }
 
-// Whether a graph name is there, in each dataset that agrees with the notes and with what is known. It is asked for only where it isn't
-// known.
+// Whether a graph name is there, in each dataset that agrees with the notes and with what is known.
+// It is asked for only where it isn't known.
 fn is_named<S: Source>(
     alloc: Global,
     known: &Known,
@@ -77,7 +78,8 @@ pub fn push_if<T: Copy>(found: &mut Vec<T>, so: bool, item: T) -> Result<(), All
     Ok(())
 }
 
-/// Puts the scans for those of the quads of which it isn't known whether they are there at the end of the reads.
+/// Puts the scans for those of the quads of which it isn't known whether they are there at the end
+/// of the reads.
 pub fn push_scans(
     known: &Known,
     quads: &[Quad<Id>],
@@ -144,8 +146,8 @@ fn told_first<'n>(known: &Known, quad: &Quad<Id>, notes: &'n [Note]) -> (bool, &
     }
 }
 
-/// Puts those of the quads that are there, or those that are not, at the end of what was found, by notes of which the first tell of the
-/// quads. Gives the notes that are left.
+/// Puts those of the quads that are there, or those that are not, at the end of what was found, by
+/// notes of which the first tell of the quads. Gives the notes that are left.
 pub fn push_those<'n>(
     known: &Known,
     are_there: bool,
@@ -168,8 +170,8 @@ pub fn push_those<'n>(
     Ok(left)
 }
 
-/// Of the quads those that are there, or those that are not, in each dataset that agrees with the notes. Each that isn't known from
-/// them is asked for, many at once.
+/// Of the quads those that are there, or those that are not, in each dataset that agrees with the
+/// notes. Each that isn't known from them is asked for, many at once.
 pub fn quads_that<S: Source>(
     alloc: Global,
     known: &Known,
@@ -200,8 +202,8 @@ pub fn quads_that<S: Source>(
     Ok(found)
 }
 
-/// Of the graph names those that are there, or those that are not, in each dataset that agrees with the notes. Each that isn't known from
-/// them is asked for.
+/// Of the graph names those that are there, or those that are not, in each dataset that agrees with
+/// the notes. Each that isn't known from them is asked for.
 pub fn names_that<S: Source>(
     alloc: Global,
     known: &Known,

@@ -80,8 +80,8 @@ fn among(target: &Target<Id>, mut quads: Vec<Quad<Id>>) -> Vec<Quad<Id>>
     quads
 }
 
-/// The quads of the graphs that are named, in each changed dataset that agrees with the notes. It asks once, for all of a graph, or for
-/// all quads where the target is more than one graph.
+/// The quads of the graphs that are named, in each changed dataset that agrees with the notes. It
+/// asks once, for all of a graph, or for all quads where the target is more than one graph.
 pub fn quads_of<S: Source>(
     alloc: Global,
     target: &Target<Id>,
@@ -102,8 +102,8 @@ pub fn quads_of<S: Source>(
     Ok(among(target, quads))
 }
 
-/// The names of the graphs that are named, in each changed dataset that agrees with the notes; a graph that is named by itself counts
-/// also where it isn't there.
+/// The names of the graphs that are named, in each changed dataset that agrees with the notes; a
+/// graph that is named by itself counts also where it isn't there.
 pub fn names_of<S: Source>(
     alloc: Global,
     target: &Target<Id>,
@@ -129,8 +129,8 @@ pub fn names_of<S: Source>(
     }
 }
 
-/// Whether the graph that is named is there, in each changed dataset that agrees with the notes. Only one that is named by itself may
-/// be missing, and only that one is asked for.
+/// Whether the graph that is named is there, in each changed dataset that agrees with the notes.
+/// Only one that is named by itself may be missing, and only that one is asked for.
 pub fn is_there<S: Source>(
     alloc: Global,
     target: &Target<Id>,

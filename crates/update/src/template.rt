@@ -13,7 +13,8 @@ use std::alloc::{AllocError, Global};
 /// For how many instances there is room at first, at most: of most solutions each template has one.
 const MOST_ROOM: usize = 1024;
 
-/// What numbers the nodes that labels make: the request, its operation, both counted from 0, and the rank of the solution.
+/// What numbers the nodes that labels make: the request, its operation, both counted from 0, and
+/// the rank of the solution.
 #[derive(Clone, Copy)]
 struct Origin {
     request: u32,
@@ -134,7 +135,8 @@ fn push_instances(
     Ok(())
 }
 
-/// The instances of a template over the solutions of an operation, with doubles. The rank of a solution is its place.
+/// The instances of a template over the solutions of an operation, with doubles. The rank of a
+/// solution is its place.
 pub fn instances(
     alloc: Global,
     dict: &Dict,

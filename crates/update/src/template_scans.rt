@@ -22,7 +22,8 @@ fn written(slot: Slot<Id>) -> Option<Id>
     }
 }
 
-// The graph that is written, and any graph for a variable or a label. With none it is the default graph.
+// The graph that is written, and any graph for a variable or a label. With none it is the default
+// graph.
 fn written_graph(graph: Option<Slot<Id>>) -> GraphPlace<Id>
     ensures { result ≡ the_written_graph graph }
 {
@@ -47,7 +48,8 @@ fn template_scan(template: &QuadTemplate<Id>) -> Read<Id>
     })
 }
 
-// Whether a template has a written predicate or graph name. The scan of another may tell of nearly all quads.
+// Whether a template has a written predicate or graph name. The scan of another may tell of nearly
+// all quads.
 fn is_narrow(template: &QuadTemplate<Id>) -> bool {
     matches!(template.predicate, Slot::Term(_)) || matches!(template.graph, Some(Slot::Term(_)))
 }

@@ -121,8 +121,8 @@ fn push_told(alloc: Global, scans: &mut Vec<ToldScan>, note: &Note) -> Result<()
     Ok(())
 }
 
-/// So many scans are kept. To test a quad by a pattern takes a few nanoseconds, to ask for it some microseconds, so all the tests that may
-/// be in vain are still much less than a question.
+/// So many scans are kept. To test a quad by a pattern takes a few nanoseconds, to ask for it some
+/// microseconds, so all the tests that may be in vain are still much less than a question.
 const MOST_SCANS: usize = 64;
 
 /// The first scans that the notes tell of, and the place of the first note that was not looked at.

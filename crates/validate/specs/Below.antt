@@ -17,7 +17,8 @@ blocker slots zero read = None
 blocker slots (suc j) read =
     if (slot_at slots j).estimate && covers (slot_at slots j).delta read then Some j else blocker slots j read
 
--- the requests below i whose delta covers the read, each with the incarnation of its last publication
+-- the requests below i whose delta covers the read, each with the incarnation of its last
+-- publication
 unfoldable pub touching : List Slot → ℕ → Read → List (ℕ × ℕ)
 touching slots zero read = []
 touching slots (suc j) read =

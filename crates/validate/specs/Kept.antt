@@ -1,5 +1,6 @@
--- What is kept of slots beside them. What is committed never changes again: so of the first requests, once they are settled, a note keeps no
--- part of its list, and their changes are kept as one.
+-- What is kept of slots beside them. What is committed never changes again: so of the first
+-- requests, once they are settled, a note keeps no part of its list, and their changes are kept as
+-- one.
 use Rattle.std.specs.Prelude.{◌≡◌, ℕ, ◌<◌, ◌≤◌, Bool, true, false, List, [], ◌∷◌, ◌++◌, length, map, Some, None}
 use Rattle.reads.specs.Reads.{View, Delta, Read}
 use Rattle.version_overlay.specs.Settled.{changed_by}
@@ -21,7 +22,8 @@ use Rattle.validate.specs.Lower.{Knows}
 abbrev pub shown : List KeptSlot → List Slot
 shown slots = map (slot_by plain) slots
 
--- a note with its whole list: of the requests that were settled when it was made, that is the list of now
+-- a note with its whole list: of the requests that were settled when it was made, that is the list
+-- of now
 abbrev pub whole : List KeptSlot → KeptNote → Noted
 whole slots n = record { read = n.note.read; answer = n.note.answer; touching = touching (shown slots) n.low n.note.read ++ n.touching }
 
@@ -44,8 +46,9 @@ abbrev pub LowSlots : ℕ → List KeptSlot → Type 0
 LowSlots low [] = Unit {0}
 LowSlots low (x ∷ xs) = LowNotes low x.notes × LowSlots low xs
 
--- What is kept: of each request that is not settled, that it may have spoken of all that its delta covers; of those that are settled, that
--- they are committed, and what they make of a base; and that no request that is executed is an estimate.
+-- What is kept: of each request that is not settled, that it may have spoken of all that its delta
+-- covers; of those that are settled, that they are committed, and what they make of a base; and
+-- that no request that is executed is an estimate.
 pub record IsKept (slots : List KeptSlot) (low : ℕ) (spoken : Read → ℕ → Bool) (settled : List Delta) : Type 0 where
   pub within : low ≤ length slots
   pub knows : Knows spoken low (shown slots)

@@ -17,12 +17,14 @@ abbrev pub after_first : ℕ → List ℕ → ℕ → ℕ → ℕ
 after_first low list i zero = low
 after_first low list i (suc k) = suc (request_at list i k)
 
--- a rising list of requests from low on and below i that has all of them whose delta covers the read
+-- a rising list of requests from low on and below i that has all of them whose delta covers the
+-- read
 pub record Leads (slots : List Slot) (read : Read) (low : ℕ) (list : List ℕ) (i : ℕ) : Type 0 where
   pub within : (k : ℕ) → k < length list → request_at list i k < i
   pub rising : (k : ℕ) → k ≤ length list → after_first low list i k ≤ request_at list i k
   pub none : (k : ℕ) → k ≤ length list → NoneCovers slots read (after_first low list i k) (request_at list i k)
 
--- each request from low on whose delta covers a read is among those that may have spoken of what it asks for
+-- each request from low on whose delta covers a read is among those that may have spoken of what it
+-- asks for
 abbrev pub Knows : (Read → ℕ → Bool) → ℕ → List Slot → Type 0
 Knows spoken low slots = (j : ℕ) (read : Read) → low ≤ j → covers (slot_at slots j).delta read ≡ true → spoken read j ≡ true

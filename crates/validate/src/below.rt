@@ -1,5 +1,6 @@
-//! What the requests below one have published: the view that their deltas make, their estimates, and their changes. Each look goes along
-//! the requests that may have spoken of what is asked for, but for those that are settled: their changes are one.
+//! What the requests below one have published: the view that their deltas make, their estimates,
+//! and their changes. Each look goes along the requests that may have spoken of what is asked for,
+//! but for those that are settled: their changes are one.
 ghost use Rattle.std.specs.Prelude.{◌≡◌, ◌≤◌, ◌<◌, ◌&&◌, ◌++◌, ◌∷◌, [], Some, suc, length, IfOk, OnOk, if◌then◌else◌};
 ghost use Rattle.datasets.specs.Id.{id_order};
 ghost use Rattle.change_laws.specs.Laws.{IsRising};
@@ -35,7 +36,8 @@ fn changes(alloc: Global, slots: &[Slot<'_>], low: usize, high: usize) -> Result
     first.followed_by(alloc, &second)
 }
 
-/// A dataset that the requests below `low` leave, with the deltas of those from `low` on and below `high`.
+/// A dataset that the requests below `low` leave, with the deltas of those from `low` on and below
+/// `high`.
 pub fn changed_from(
     alloc: Global,
     slots: &[Slot<'_>],
@@ -54,8 +56,9 @@ pub fn changed_from(
     changes(alloc, slots, low, high)?.apply(alloc, view)
 }
 
-/// What is asked for of the base with the deltas of the requests below `i`, from what the read says of the base and of the settled changes:
-/// none where no delta has changed that. An error comes only where memory runs out.
+/// What is asked for of the base with the deltas of the requests below `i`, from what the read says
+/// of the base and of the settled changes: none where no delta has changed that. An error comes
+/// only where memory runs out.
 pub fn part_before(
     alloc: Global,
     scanned: &Scanned<'_>,
@@ -78,8 +81,8 @@ pub fn part_before(
     Ok(part)
 }
 
-/// The changes of the requests below `i` that the read asks for, one after another, as it says of the base with their deltas what it says
-/// after these. They are shared, and not copied.
+/// The changes of the requests below `i` that the read asks for, one after another, as it says of
+/// the base with their deltas what it says after these. They are shared, and not copied.
 pub fn changes_before(
     alloc: Global,
     scanned: &Scanned<'_>,
@@ -108,7 +111,8 @@ pub fn changes_before(
     Ok(found)
 }
 
-/// The greatest request below `i` that is an estimate and whose delta covers the read. The list begins at `low`, below which all are settled.
+/// The greatest request below `i` that is an estimate and whose delta covers the read. The list
+/// begins at `low`, below which all are settled.
 pub fn blocker(
     kept: &Kept<'_>,
     low: usize,
@@ -147,7 +151,8 @@ fn blocker_or(
     }
 }
 
-/// The requests from `low` on and below `i` whose delta covers the read, each with the incarnation of its last publication.
+/// The requests from `low` on and below `i` whose delta covers the read, each with the incarnation
+/// of its last publication.
 pub fn touching(
     alloc: Global,
     slots: &[Slot<'_>],

@@ -14,7 +14,8 @@ use datasets::{Id, Read};
 use incarnations::Slot;
 use std::alloc::{AllocError, Global};
 
-/// Of so few requests each is asked whether its change covers a read: to look for those that may have spoken of it takes longer.
+/// Of so few requests each is asked whether its change covers a read: to look for those that may
+/// have spoken of it takes longer.
 const FEW: usize = 16;
 
 // Those from `from` on and below `i`, rising and each once.
@@ -82,7 +83,8 @@ fn covering_between(
     Ok(found)
 }
 
-// Those from `from` on and below `i` whose delta covers the read, and some more, in any order and with repeats.
+// Those from `from` on and below `i` whose delta covers the read, and some more, in any order and
+// with repeats.
 fn spoken_between(
     alloc: Global,
     kept: &Kept<'_>,
@@ -112,7 +114,8 @@ fn spoken_between(
     Ok(found)
 }
 
-/// The requests from `from` on and below `i` that may have spoken of what the read asks for, rising: none whose delta covers it is missing.
+/// The requests from `from` on and below `i` that may have spoken of what the read asks for,
+/// rising: none whose delta covers it is missing.
 pub fn candidates_for(
     alloc: Global,
     kept: &Kept<'_>,

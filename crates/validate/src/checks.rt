@@ -75,8 +75,8 @@ fn answer_at(
     answer_of(alloc, &scanned, part)
 }
 
-/// Compares a note's touching list with the list now, at request `i`, from the first request on that was not settled when it was made: no
-/// answer is computed.
+/// Compares a note's touching list with the list now, at request `i`, from the first request on
+/// that was not settled when it was made: no answer is computed.
 pub fn check_list(
     alloc: Global,
     kept: &Kept<'_>,

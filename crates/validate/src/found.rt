@@ -16,7 +16,8 @@ use reads::{Answered, IndexedView, Scanned};
 use std::alloc::{AllocError, Global};
 use version_overlay::{LeanNote, is_long};
 
-/// What is found of a read: an estimate that blocks it, or the note of its answer, with that answer.
+/// What is found of a read: an estimate that blocks it, or the note of its answer, with that
+/// answer.
 #[derive(Drop)]
 pub enum Found<'a> {
     /// The greatest lower request that is an estimate and whose delta covers the read.
@@ -55,8 +56,8 @@ pub fn look<'a>(
     Ok(Found::Noted(noted, answer))
 }
 
-// The note of what a read says at request `i`, and the answer. An answer that the base alone gives is found again there, and a long one by
-// the changes that it has too.
+// The note of what a read says at request `i`, and the answer. An answer that the base alone gives
+// is found again there, and a long one by the changes that it has too.
 fn note_of<'a>(
     alloc: Global,
     base: &'a IndexedView,

@@ -3,7 +3,8 @@
 use incarnations::Slot;
 use version_overlay::{Settled, Spoken};
 
-/// The slots of a block's requests, and what the first of them make of a dataset, as one, once they are committed.
+/// The slots of a block's requests, and what the first of them make of a dataset, as one, once they
+/// are committed.
 #[derive(Drop)]
 pub struct Kept<'a> {
     pub slots: Vec<Slot<'a>>,

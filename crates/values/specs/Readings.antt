@@ -1,5 +1,5 @@
--- What a term is read as where an operator asks for its value (SPARQL 1.1 Query, 17.1 and 17.2). What ill-formed literals, integers that
--- do not fit and tagged literals are is this project's.
+-- What a term is read as where an operator asks for its value (SPARQL 1.1 Query, 17.1 and 17.2).
+-- What ill-formed literals, integers that do not fit and tagged literals are is this project's.
 use Rattle.std.specs.Prelude.{ℕ, Bool, true, false, not, ◌&&◌, ◌||◌, if◌then◌else◌, ◌-◌, ◌==◌, nat_le, List, [], ◌∷◌, Option, Some, None, ℤ, pos, neg_ℤ, int_lt, codes, map, ◌^◌}
 use Rattle.std.specs.Ordering.{eq_by_cmp}
 use Rattle.std.specs.List.{list_all}

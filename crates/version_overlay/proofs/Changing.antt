@@ -29,7 +29,8 @@ unfolding changed_by
 changed_by-rises [] v rising = rising
 changed_by-rises (c ∷ cs) v rising = changed_by-rises cs (applied c v) (rises c v)
 
--- the part of a change that a read asks for, laid over what is asked for of a dataset; the read may have another name
+-- the part of a change that a read asks for, laid over what is asked for of a dataset; the read may
+-- have another name
 pub covered_as : (c : Delta) (r r' : Read) → r' ≡ r → (asked : Delta) → ((d : View) → says r' (applied asked d) ≡ says r' (applied c d)) → (part d : View) → says r part ≡ says r d
     → (next : View) → next ≡ applied asked part → says r next ≡ says r (applied c d)
 covered_as c r r' same_read asked same part d alike next e =

@@ -17,7 +17,8 @@ abbrev pub part_or : View → Option View → View
 part_or whole None = whole
 part_or whole (Some part) = part
 
--- whether a filter of patterns and one of names let a read through; they tell nothing of the question for all names
+-- whether a filter of patterns and one of names let a read through; they tell nothing of the
+-- question for all names
 abbrev pub may_ask : SeenQuads → List Bool → Read → Bool
 may_ask quads names (Scan p) = may_match quads p
 may_ask quads names (GraphIs name) = is_seen names name

@@ -10,7 +10,8 @@ use delta::Delta;
 use reads::{Answered, IndexedView, Scanned, View};
 use std::alloc::{AllocError, Global};
 
-/// What is asked for of a dataset, if changes have changed it, with one change more, where that covers the read.
+/// What is asked for of a dataset, if changes have changed it, with one change more, where that
+/// covers the read.
 pub fn changed_part(
     alloc: Global,
     scanned: &Scanned<'_>,
@@ -61,7 +62,8 @@ pub fn answer_of(
     }
 }
 
-/// One more change, shared and not copied, if it covers the read: the read says after all of them what it says with that change too.
+/// One more change, shared and not copied, if it covers the read: the read says after all of them
+/// what it says with that change too.
 pub fn push_covering(
     alloc: Global,
     changes: &mut Vec<Delta>,

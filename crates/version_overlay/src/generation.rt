@@ -29,7 +29,8 @@ pub struct Generation {
 }
 
 impl Generation {
-    /// Nobody has spoken. Quads that are spoken of will be kept in these orders. It takes no memory.
+    /// Nobody has spoken. Quads that are spoken of will be kept in these orders. It takes no
+    /// memory.
     pub fn new(alloc: Global, orders: OrderSet) -> Generation
         ensures { (read : Asked) (j : ℕ) → has_spoken result read j ≡ false }
     {
@@ -41,7 +42,8 @@ impl Generation {
         }
     }
 
-    /// The request speaks of all that its delta covers, and of nothing else. What was there stays, also where memory runs out.
+    /// The request speaks of all that its delta covers, and of nothing else. What was there stays,
+    /// also where memory runs out.
     pub fn put(&mut self, alloc: Global, delta: &Delta, request: usize) -> Result<(), AllocError>
         ensures highest { self.new.highest ≡ max self.old.highest request }
         ensures added { OnOk result ((read : Asked) → covers delta.now read ≡ true
@@ -60,7 +62,8 @@ impl Generation {
         Ok(())
     }
 
-    /// The requests that may have spoken of what the read asks for, in any order and with repeats: none of them is missing.
+    /// The requests that may have spoken of what the read asks for, in any order and with repeats:
+    /// none of them is missing.
     pub fn requests(&self, alloc: Global, read: &Read<Id>) -> Result<Vec<usize>, AllocError>
         ensures { IfOk result (λ found. (j : ℕ) → has_spoken self.now read.now j ≡ true
             → list_any (λ r. r == j) found.items ≡ true) }

@@ -10,7 +10,8 @@ use quad_lists::Arrangement;
 use std::alloc::{AllocError, Global};
 use std::thread::{Threads, join};
 
-/// How many levels that are alike in length become one. To put them in order takes longer than to look at each.
+/// How many levels that are alike in length become one. To put them in order takes longer than to
+/// look at each.
 const ALIKE: usize = 4;
 
 /// The same where they are put in no order.
@@ -19,7 +20,8 @@ const ALIKE_UNORDERED: usize = 2;
 /// Fewer levels are joined by one thread.
 const WORTH_THREADS: usize = 64;
 
-/// The changes of these levels as one. Those of each half are joined first, so that each is copied about as often as they can be halved.
+/// The changes of these levels as one. Those of each half are joined first, so that each is copied
+/// about as often as they can be halved.
 pub(crate) fn all_joined(alloc: Global, levels: &[Level]) -> Result<Delta, AllocError>
     requires { 1 ≤ length levels.now }
     ensures { IfOk result (λ change. (d : Dataset) → applied change d ≡ changed_by levels.now d) }
@@ -130,7 +132,8 @@ fn join_alike(alloc: Global, levels: &mut Vec<Level>, orders: &[Arrangement])
     }
 }
 
-/// The levels behind the first so many become one, and then the last ones while they are alike in length, as far as there is memory.
+/// The levels behind the first so many become one, and then the last ones while they are alike in
+/// length, as far as there is memory.
 pub(crate) fn join_behind(
     alloc: Global,
     levels: &mut Vec<Level>,

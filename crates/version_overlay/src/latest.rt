@@ -1,5 +1,5 @@
-//! What the last publications speak of, as long as they are few. To ask each of them takes less than to keep it where it is found sooner, and
-//! most are settled before they are many.
+//! What the last publications speak of, as long as they are few. To ask each of them takes less
+//! than to keep it where it is found sooner, and most are settled before they are many.
 ghost use Rattle.std.specs.Prelude.{◌≡◌, ◌==◌, ◌∷◌, [], ℕ, true, nat_le, filter, OnOk};
 ghost use Rattle.std.specs.List.{list_any};
 ghost use Rattle.quad_hints.specs.declared.seen.SeenQuads.{SeenQuads};

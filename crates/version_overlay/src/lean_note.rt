@@ -16,7 +16,8 @@ use reads::{Answered, IndexedView, Note};
 use std::alloc::{AllocError, Global};
 use std::marker::Model;
 
-/// A read with its answer, which is kept or can be found again. To a contract it is the read with the answer.
+/// A read with its answer, which is kept or can be found again. To a contract it is the read with
+/// the answer.
 #[derive(Drop)]
 pub struct LeanNote<'a> {
     form: Form<'a>,
@@ -65,7 +66,8 @@ fn is_scan_for(quad: &KnownQuad, read: &Read<Id>) -> bool
     }
 }
 
-// The quad that the read asks for alone, and whether it was there: if it asks for one, of known terms, and the answer tells that.
+// The quad that the read asks for alone, and whether it was there: if it asks for one, of known
+// terms, and the answer tells that.
 fn presence_form<'a>(read: &Read<Id>, answer: &Answered) -> Option<Form<'a>>
     ensures { IfSome result (λ form. note_of form ≡ record
         { read = read.now; answer = answer.now }) }
@@ -100,8 +102,8 @@ impl<'a> LeanNote<'a> {
         LeanNote::whole(alloc, WholeNote::kept(base, read, answer))
     }
 
-    /// A read with its answer, which may be forgotten: the read says it of the base after these changes. An error comes only where memory
-    /// runs out.
+    /// A read with its answer, which may be forgotten: the read says it of the base after these
+    /// changes. An error comes only where memory runs out.
     pub fn lean(
         alloc: Global,
         base: &'a IndexedView,

@@ -1,5 +1,5 @@
-//! One change of several requests, its present quads in several orders where they are asked for, and what it makes of the part of a dataset
-//! that a read asks for.
+//! One change of several requests, its present quads in several orders where they are asked for,
+//! and what it makes of the part of a dataset that a read asks for.
 ghost use Rattle.std.specs.Prelude.{◌≡◌, true, false, [], IfOk, filter};
 ghost use Rattle.std.specs.List.{list_any};
 ghost use Rattle.sets.specs.Sets.{has};
@@ -39,7 +39,8 @@ fn orders_worth(
     quads.in_orders(alloc, orders)
 }
 
-/// A change whose present quads are found by binary search, once they are put in order. Contracts see the change.
+/// A change whose present quads are found by binary search, once they are put in order. Contracts
+/// see the change.
 #[derive(Drop)]
 pub struct Level {
     change: Delta,
@@ -72,8 +73,8 @@ impl Level {
         }
     }
 
-    /// The present quads are put in these orders beside SPOG, where they are many, they were not before, and there is memory. A read finds them
-    /// sooner then.
+    /// The present quads are put in these orders beside SPOG, where they are many, they were not
+    /// before, and there is memory. A read finds them sooner then.
     pub fn put_in_order(&mut self, alloc: Global, orders: &[Arrangement])
         ensures { self.new ≡ self.old }
     {
@@ -93,7 +94,8 @@ impl Level {
         &self.change
     }
 
-    /// What is asked for of a dataset, if changes have changed it, with this change more, where that changes it.
+    /// What is asked for of a dataset, if changes have changed it, with this change more, where
+    /// that changes it.
     pub fn part_after(
         &self,
         alloc: Global,
@@ -112,7 +114,8 @@ impl Level {
         }
     }
 
-    // The same, where the read is a scan. What comes is found by binary search, and what goes is looked for among what is there.
+    // The same, where the read is a scan. What comes is found by binary search, and what goes is
+    // looked for among what is there.
     fn scan_after(
         &self,
         alloc: Global,
@@ -199,7 +202,8 @@ fn is_any_told_gone(
     }
 }
 
-// Whether two sets of quads have a quad in common. Those of the smaller one are looked for in the other.
+// Whether two sets of quads have a quad in common. Those of the smaller one are looked for in the
+// other.
 fn have_common(first: &QuadSlice<'_>, second: &QuadSlice<'_>) -> bool
     ensures { result ≡ false → (q : Named Number) → has (quad_order id_order) first.now q ≡ true
         → has (quad_order id_order) second.now q ≡ false }

@@ -1,8 +1,10 @@
-//! What the requests of a block have published, where it is looked up: which of them may have spoken of what a read asks for, the
-//! changes of those that are committed, and reads with answers that are found again by the changes that made them. Stands on `delta`.
+//! What the requests of a block have published, where it is looked up: which of them may have
+//! spoken of what a read asks for, the changes of those that are committed, and reads with answers
+//! that are found again by the changes that made them. Stands on `delta`.
 //!
-//! The contracts used above: `Spoken::requests` misses no request that spoke of a read; what `Settled` makes of a dataset is `changed_by`
-//! of specs/Settled.antt; a `LeanNote` has the answer that it was made with.
+//! The contracts used above: `Spoken::requests` misses no request that spoke of a read; what
+//! `Settled` makes of a dataset is `changed_by` of specs/Settled.antt; a `LeanNote` has the answer
+//! that it was made with.
 #![tactic(auto)]
 
 pub mod along;

@@ -1,8 +1,10 @@
 //! The changes of the requests that are committed, which will not change again.
 //!
-//! They lie in levels, the oldest first. Nothing is done with those that came last until a read may find something in them: then they become one,
-//! and so do levels that are alike in length, and each is put in order. So a read looks at few of them, what a change speaks of is copied about as
-//! often as there are levels, and where no read finds anything they are joined at the end, by several threads. Filters tell what a read can't find.
+//! They lie in levels, the oldest first. Nothing is done with those that came last until a read may
+//! find something in them: then they become one, and so do levels that are alike in length, and
+//! each is put in order. So a read looks at few of them, what a change speaks of is copied about as
+//! often as there are levels, and where no read finds anything they are joined at the end, by
+//! several threads. Filters tell what a read can't find.
 ghost use Rattle.std.specs.Prelude.{◌≡◌, true, false, [], IfOk, OnOk, OnErr};
 ghost use Rattle.datasets.specs.Id.{id_order};
 ghost use Rattle.change_laws.specs.Laws.{IsRising};
@@ -46,7 +48,8 @@ impl Model for Settled {
 }
 
 impl Settled {
-    /// No change yet. The quads of those that come are kept in these orders, beside SPOG. An error comes only where memory runs out.
+    /// No change yet. The quads of those that come are kept in these orders, beside SPOG. An error
+    /// comes only where memory runs out.
     pub fn new(alloc: Global, orders: &[Arrangement]) -> Result<Settled, AllocError>
         ensures { IfOk result (λ settled. settled ≡ []) }
     {
@@ -60,8 +63,9 @@ impl Settled {
         })
     }
 
-    /// One more change, after the others. After want of memory they make of a dataset what they made. One that speaks of nothing adds
-    /// nothing, but for the first, which makes sets of what it is applied to.
+    /// One more change, after the others. After want of memory they make of a dataset what they
+    /// made. One that speaks of nothing adds nothing, but for the first, which makes sets of what
+    /// it is applied to.
     pub fn push(&mut self, alloc: Global, delta: &Delta) -> Result<(), AllocError>
         ensures ok { OnOk result ((d : Dataset) → changed_by self.new d
             ≡ applied delta.now (changed_by self.old d)) }
@@ -77,8 +81,9 @@ impl Settled {
         Ok(())
     }
 
-    /// The changes are joined where they are alike in length, and put in order, as far as there is memory, so that a read that they may have
-    /// changed is answered sooner. They make of a dataset what they made.
+    /// The changes are joined where they are alike in length, and put in order, as far as there is
+    /// memory, so that a read that they may have changed is answered sooner. They make of a dataset
+    /// what they made.
     pub fn put_in_order(&mut self, alloc: Global)
         ensures { (d : Dataset) → changed_by self.new d ≡ changed_by self.old d }
     {
@@ -99,7 +104,8 @@ impl Settled {
         }
     }
 
-    /// The part of the dataset after the changes that a read asks for, from what it says of the dataset: none where they don't speak of it.
+    /// The part of the dataset after the changes that a read asks for, from what it says of the
+    /// dataset: none where they don't speak of it.
     pub fn part(&self, alloc: Global, scanned: &Scanned<'_>) -> Result<Option<View>, AllocError>
         ensures { IfOk result (λ part. says scanned.now.read (part_or scanned.now.dataset part)
             ≡ says scanned.now.read (changed_by self.now scanned.now.dataset)) }
@@ -115,7 +121,8 @@ impl Settled {
         Ok(part)
     }
 
-    /// Those that a read asks for, one after another: what it says after them is what it says after all. They are shared, and not copied.
+    /// Those that a read asks for, one after another: what it says after them is what it says after
+    /// all. They are shared, and not copied.
     pub fn changes(&self, alloc: Global, read: &Read<Id>) -> Result<Vec<Delta>, AllocError>
         ensures { IfOk result (λ found. (d : Dataset) → IsRising id_order d
             → says read.now (changed_by found.items d) ≡ says read.now (changed_by self.now d)) }
@@ -140,8 +147,8 @@ impl Settled {
         all_joined(alloc, self.levels.as_slice())?.apply(alloc, view)
     }
 
-    /// The same of a dataset in its orders, where the changes are not needed any more, and are let go as soon as they are one. An error comes only
-    /// where memory runs out.
+    /// The same of a dataset in its orders, where the changes are not needed any more, and are let
+    /// go as soon as they are one. An error comes only where memory runs out.
     pub fn into_applied(
         self,
         alloc: Global,

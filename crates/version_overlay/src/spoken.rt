@@ -1,7 +1,8 @@
 //! Which requests may have spoken of what a read asks for, found without a look at all of them.
 //!
-//! The latest changes are kept as they are. Once they are many, what they speak of is put into the current one of two generations; the older one
-//! is dropped whole, once all its requests are settled, and the current one takes its place. So what is kept is of the requests that aren't
+//! The latest changes are kept as they are. Once they are many, what they speak of is put into the
+//! current one of two generations; the older one is dropped whole, once all its requests are
+//! settled, and the current one takes its place. So what is kept is of the requests that aren't
 //! settled, and of about as many more.
 ghost use Rattle.std.specs.Prelude.{◌≡◌, ◌≤◌, ◌==◌, ℕ, true, false, IfOk, OnOk};
 ghost use Rattle.std.specs.List.{list_any};
@@ -37,8 +38,9 @@ pub struct Spoken {
 impl Spoken {
     ghost use Rattle.version_overlay.specs.Spoken.{speaks};
 
-    /// Nobody has spoken. Quads that are spoken of will be kept in these orders, by which those of a read are found: how long that takes
-    /// depends on them, and no contract sees them. It takes no memory.
+    /// Nobody has spoken. Quads that are spoken of will be kept in these orders, by which those of
+    /// a read are found: how long that takes depends on them, and no contract sees them. It takes
+    /// no memory.
     pub fn new(alloc: Global, orders: OrderSet) -> Spoken
         ensures { (read : Asked) (j : ℕ) → speaks result read j ≡ false }
     {
@@ -51,7 +53,8 @@ impl Spoken {
         }
     }
 
-    /// The request speaks of all that its delta covers. What was there stays, also where memory runs out.
+    /// The request speaks of all that its delta covers. What was there stays, also where memory
+    /// runs out.
     pub fn put(&mut self, alloc: Global, delta: &Delta, request: usize) -> Result<(), AllocError>
         ensures added { OnOk result ((read : Asked) → covers delta.now read ≡ true
             → speaks self.new read request ≡ true) }
@@ -79,7 +82,8 @@ impl Spoken {
         Ok(())
     }
 
-    /// Whether a request may have spoken of what the read asks for. It is a look at the filter, and takes no memory.
+    /// Whether a request may have spoken of what the read asks for. It is a look at the filter, and
+    /// takes no memory.
     pub fn may_have_spoken(&self, read: &Read<Id>) -> bool
         ensures { result ≡ false → (j : ℕ) → speaks self.now read.now j ≡ false }
     {
@@ -90,7 +94,8 @@ impl Spoken {
         }
     }
 
-    /// The requests that may have spoken of what the read asks for, in any order and with repeats: none of them is missing.
+    /// The requests that may have spoken of what the read asks for, in any order and with repeats:
+    /// none of them is missing.
     pub fn requests(&self, alloc: Global, read: &Read<Id>) -> Result<Vec<usize>, AllocError>
         ensures { IfOk result (λ found. (j : ℕ) → speaks self.now read.now j ≡ true
             → list_any (λ r. r == j) found.items ≡ true) }
@@ -114,7 +119,8 @@ impl Spoken {
         self.drop_older_below(alloc, low);
     }
 
-    // Drops the older generation if all its requests are below `low`. The current one takes its place.
+    // Drops the older generation if all its requests are below `low`. The current one takes its
+    // place.
     fn drop_older_below(&mut self, alloc: Global, low: usize)
         ensures { (read : Asked) (j : ℕ) → low ≤ j → speaks self.old read j ≡ true
             → speaks self.new read j ≡ true }

@@ -1,4 +1,5 @@
-//! Reads with their answers, where a long answer needn't be kept: it is found again in the base, with the changes that made it.
+//! Reads with their answers, where a long answer needn't be kept: it is found again in the base,
+//! with the changes that made it.
 ghost use Rattle.std.specs.Prelude.{◌≡◌, IfOk};
 ghost use Rattle.reads.specs.Reads.{says};
 ghost use Rattle.version_overlay.specs.WholeNote.{listed as the_listed};
@@ -15,7 +16,8 @@ use std::marker::Model;
 /// With fewer quads or names an answer takes no more memory than what it is found again by.
 const WORTH_FORGETTING: usize = 64;
 
-/// A read with its answer, which is kept or can be found again. To a contract it is the read with the answer.
+/// A read with its answer, which is kept or can be found again. To a contract it is the read with
+/// the answer.
 #[derive(Drop)]
 pub struct WholeNote<'a> {
     read: Read<Id>,
@@ -63,7 +65,8 @@ impl<'a> WholeNote<'a> {
         }
     }
 
-    /// A read with its answer, which may be forgotten: the read says it of the base after these changes.
+    /// A read with its answer, which may be forgotten: the read says it of the base after these
+    /// changes.
     pub fn lean(
         base: &'a IndexedView,
         read: &Read<Id>,

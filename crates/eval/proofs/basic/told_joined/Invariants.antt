@@ -8,7 +8,8 @@ use Rattle.reads.specs.Reads.{View, applied}
 use Rattle.eval.specs.Scans.{TellScans}
 use Rattle.eval.proofs.basic.told_joined.Given as goal
 
--- the notes that are left tell of the patterns that are left; the solutions so far, joined with those of these, are those of all
+-- the notes that are left tell of the patterns that are left; the solutions so far, joined with
+-- those of these, are those of all
 abbrev pub invariant-loop-pattern : goal.invariant-loop-pattern
 invariant-loop-pattern g l =
     (d : View) (later : List (TriplePattern Id)) → TellScans (l.patterns ++ later) l.graph l.notes d →

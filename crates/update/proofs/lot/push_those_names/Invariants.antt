@@ -8,7 +8,8 @@ use Rattle.reads.specs.Same.{bool_eq}
 use Rattle.update.specs.Known.{questions_for_untold, Tell}
 use Rattle.update.proofs.lot.push_those_names.Given as goal
 
--- the notes that are left tell of the names that are left; what was found, with what is so of these, is what is so of all
+-- the notes that are left tell of the names that are left; what was found, with what is so of
+-- these, is what is so of all
 abbrev pub invariant-loop-name : goal.invariant-loop-name
 invariant-loop-name l =
     (d : View) (later : List Read) → Tell l.known (questions_for_untold l.known l.names ++ later) l.notes d →

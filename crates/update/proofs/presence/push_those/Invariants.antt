@@ -10,7 +10,8 @@ use Rattle.reads.specs.Same.{bool_eq}
 use Rattle.update.specs.Known.{scans_for_untold, Tell}
 use Rattle.update.proofs.presence.push_those.Given as goal
 
--- the notes that are left tell of the quads that are left; what was found, with what is so of these, is what is so of all
+-- the notes that are left tell of the quads that are left; what was found, with what is so of
+-- these, is what is so of all
 abbrev pub invariant-loop-quad : goal.invariant-loop-quad
 invariant-loop-quad l =
     (d : View) (later : List Read) → Tell l.known (scans_for_untold l.known l.quads ++ later) l.notes d →

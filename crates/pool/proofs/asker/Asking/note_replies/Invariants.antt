@@ -4,7 +4,8 @@ use Rattle.shared.specs.InTurn.{InTurn, reading}
 use Rattle.pool.proofs.AskingAll.{Along}
 use Rattle.pool.proofs.asker.Asking.note_replies.Given as goal
 
--- what was noted is what the replies so far tell, and there is room for the notes of the reads that are left
+-- what was noted is what the replies so far tell, and there is room for the notes of the reads that
+-- are left
 abbrev pub invariant-loop-replies : goal.invariant-loop-replies
 invariant-loop-replies g l = record {
   along : (old : Viewed) → InTurn old (reading l.self.place l.self.incarnation l.reads) l.fn.replies.items l.made l.self.pass → Along l.self l.made old l.reads l.left l.replies.items l.fn.notes.items l.notes.items;
