@@ -1,4 +1,5 @@
-"""What the gate costs, crate by crate: the processor time of the prover's processes, read from /proc once a second while they run."""
+"""What the gate costs, crate by crate: the processor time of the prover's processes, read from /proc once a second
+while they run."""
 import os
 import threading
 from collections import defaultdict
@@ -50,7 +51,8 @@ class Costs(threading.Thread):
                     self.seconds[pid] = max(seconds_of(pid), self.seconds.get(pid, 0.0))
 
     def table(self):
-        """The lines of a table: for each crate the processor seconds of each kind of work, the dearest crate first, and their sum."""
+        """The lines of a table: for each crate the processor seconds of each kind of work, the dearest crate first, and
+        their sum."""
         self.is_over.set()
         self.join()
         found = defaultdict(lambda: dict.fromkeys(KINDS, 0.0))

@@ -1,4 +1,5 @@
-"""The functions of a crate's source files: where they stand, and what is left of a crate when the others are emptied."""
+"""The functions of a crate's source files: where they stand, and what is left of a crate when the others are
+emptied."""
 import bisect
 import json
 import os
@@ -7,7 +8,7 @@ import shutil
 import subprocess
 from dataclasses import dataclass
 
-from crates import rtlib
+from toolchain import RATTLE, files_of, text_of
 
 EMPTY = "{ loop {} }"
 
@@ -20,7 +21,8 @@ def module_of(file):
 
 @dataclass(frozen=True)
 class Function:
-    """A function of a source file, by the header of the block that it stands in, its name, and which of that name there it is."""
+    """A function of a source file, by the header of the block that it stands in, its name, and which of that name there
+    it is."""
 
     file: str
     block: str
@@ -33,7 +35,8 @@ class Function:
         return found[2] if found else None
 
     def path(self):
-        """Its path for `rattle check --only`. A method has its type's path, which may stand in another module; one of a trait's impl is asked for with its module."""
+        """Its path for `rattle check --only`. A method has its type's path, which may stand in another module; one of a
+        trait's impl is asked for with its module."""
         place = module_of(self.file).split("/") if module_of(self.file) else []
         if not self.block:
             return "::".join([*place, self.name])
@@ -42,7 +45,8 @@ class Function:
 
 @dataclass
 class Span:
-    """Where a function stands in its file, by line and column, from what follows the item before it to its last brace; its tokens before its body, and the bytes of that."""
+    """Where a function stands in its file, by line and column, from what follows the item before it to its last brace;
+    its tokens before its body, and the bytes of that."""
 
     function: Function
     start: tuple
@@ -56,15 +60,20 @@ class Span:
 
 
 def tokens_of(folder, files):
-    """The tokens of the files that are code, and the ends of clauses, for each file: the byte where each begins and ends, its kind and its text."""
+    """The tokens of the files that are code, and the ends of clauses, for each file: the byte where each begins and
+    ends, its kind and its text."""
     if not files:
         return {}
-    ran = subprocess.run([rtlib.RATTLE, "fmt", "--tokens", *files], cwd=folder, capture_output=True, text=True)
+    ran = subprocess.run([RATTLE, "fmt", "--tokens", *files], cwd=folder, capture_output=True, text=True)
     parts = re.split(r"(?m)^file \d+\n", ran.stdout)[1:]
     if ran.returncode or len(parts) != len(files):
         return None
     row = re.compile(r'(?m)^\d+ (\d+) (\d+) (Code|Head|End|Literal) (".*")$')
-    return {file: [(int(it[1]), int(it[2]), it[3], json.loads(it[4])) for it in row.finditer(part)] for file, part in zip(files, parts)}
+
+    def token(found):
+        return int(found[1]), int(found[2]), found[3], json.loads(found[4])
+
+    return {file: [token(it) for it in row.finditer(part)] for file, part in zip(files, parts)}
 
 
 def places(text):
@@ -94,7 +103,8 @@ def closing(tokens, at):
 
 
 def body_of(tokens, at):
-    """The place of the brace that opens the body of the function whose name stands here, or of the semicolon in its place."""
+    """The place of the brace that opens the body of the function whose name stands here, or of the semicolon in its
+    place."""
     depth = 0
     for place in range(at, len(tokens)):
         _, _, kind, text = tokens[place]
@@ -145,12 +155,13 @@ def spans_in(folder, texts):
 
 def sources_of(folder):
     """The texts of a crate's source files, by their path in its folder."""
-    files = [os.path.relpath(it, folder) for it in rtlib.files_of(folder) if it.endswith(".rt")]
-    return {it: rtlib.text_of(f"{folder}/{it}") for it in files}
+    files = [os.path.relpath(it, folder) for it in files_of(folder) if it.endswith(".rt")]
+    return {it: text_of(f"{folder}/{it}") for it in files}
 
 
 class Functions:
-    """The functions of a crate, and which of them can be emptied beside others that are kept: as many as can be, but for cycles of calls that those are in."""
+    """The functions of a crate, and which of them can be emptied beside others that are kept: as many as can be, but
+    for cycles of calls that those are in."""
 
     def __init__(self, folder):
         self.folder, self.texts, self.cycles = folder, sources_of(folder), {}
@@ -159,7 +170,8 @@ class Functions:
         self.homes = {name: module_of(file) for file, names in types.items() for name in names}
 
     def place_of(self, function):
-        """The folder below proofs/ in which the folder of a function's proof stands, or None for a function of a trait."""
+        """The folder below proofs/ in which the folder of a function's proof stands, or None for a function of a
+        trait."""
         of_type = function.of_type()
         if function.block and of_type not in self.homes:
             return None
@@ -181,25 +193,31 @@ class Functions:
         # one of methods and what they pass on stands beside their type
         for folder in {place, os.path.dirname(place)} if place is not None else ():
             at = f"{self.folder}/proofs/{folder}"
-            found = [it for it in os.listdir(at) if it.startswith("+") and named & {*re.split(r"[+-]", it)}] if os.path.isdir(at) else []
+            cycles = [it for it in os.listdir(at) if it.startswith("+")] if os.path.isdir(at) else []
+            found = [it for it in cycles if named & {*re.split(r"[+-]", it)}]
             if found:
                 return "/".join(it for it in (folder, found[0]) if it)
         return None
 
     def emptied_beside(self, kept):
-        """The functions that can be emptied beside these: none of a trait, nor one whose type its body says, nor one without a body. They are given as spans, by file."""
-        cycles = {self.cycle_of(span) for spans in self.spans.values() for span in spans if span.function in kept} - {None}
+        """The functions that can be emptied beside these: none of a trait, nor one whose type its body says, nor one
+        without a body. They are given as spans, by file."""
+        own = [span for spans in self.spans.values() for span in spans if span.function in kept]
+        cycles = {self.cycle_of(span) for span in own} - {None}
 
         def can_be_emptied(span):
             words = [it[3] for it in span.head]
             answered = words[words.index("->") :] if "->" in words else []
             is_kept = span.function in kept or self.cycle_of(span) in cycles
-            return not is_kept and span.body and self.place_of(span.function) is not None and "impl" not in answered and not {"const", "test"} & {*words}
+            if is_kept or not span.body or self.place_of(span.function) is None:
+                return False
+            return "impl" not in answered and not {"const", "test"} & {*words}
 
         return {file: [span for span in spans if can_be_emptied(span)] for file, spans in self.spans.items()}
 
     def left_beside(self, kept):
-        """What a wrong body of one of these functions rests on in its crate: the sources without the bodies of those that can be emptied, by file, and the folders of proofs of the latter."""
+        """What a wrong body of one of these functions rests on in its crate: the sources without the bodies of those
+        that can be emptied, by file, and the folders of proofs of the latter."""
         emptied, texts, folders = self.emptied_beside(kept), dict(self.texts), set()
         for file, spans in emptied.items():
             data = texts[file].encode()
@@ -218,7 +236,8 @@ class Emptying:
         self.folder, self.crate_name, self.kept, self.functions = folder, crate_name, kept, Functions(folder)
 
     def empty(self, span):
-        """Leaves a hole of a function's proof, and returns what of its file's bytes is replaced, and by what, the last first."""
+        """Leaves a hole of a function's proof, and returns what of its file's bytes is replaced, and by what, the last
+        first."""
         at, cycle = self.functions.proof_of(span.function), self.functions.cycle_of(span)
         own = f"{self.folder}/proofs/{at}"
         if cycle:
@@ -229,7 +248,8 @@ class Emptying:
             os.remove(f"{own}/{answers}")
         with open(f"{own}/Proof.antt", "w", encoding="utf-8") as it:
             name, module = span.function.name, f"Rattle.{self.crate_name}.proofs.{at.replace('/', '.')}"
-            it.write(f"use {module}.Statement.{{statement}}\n\npub {name}_spec : {{M : Type 1}} → statement M\n{name}_spec = ?\n")
+            it.write(f"use {module}.Statement.{{statement}}\n\n")
+            it.write(f"pub {name}_spec : {{M : Type 1}} → statement M\n{name}_spec = ?\n")
         attributes = [place for place, it in enumerate(span.head) if it[3] == "cycle"]
         # from its # to its ]
         return [(*span.body, EMPTY), *((span.head[it - 2][0], span.head[it + 4][1], "") for it in attributes)]
@@ -244,5 +264,6 @@ class Emptying:
 
 
 def empty_others(folder, crate_name, kept):
-    """Empties the functions of a copy of a crate but for these: what is proved of one function rests on the contracts of others, and not on their bodies or proofs."""
+    """Empties the functions of a copy of a crate but for these: what is proved of one function rests on the contracts
+    of others, and not on their bodies or proofs."""
     Emptying(folder, crate_name, kept).run()

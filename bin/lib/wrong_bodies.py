@@ -1,15 +1,12 @@
 """Wrong bodies of crates, the edits crates/NAME/wrong-bodies/*.edit, each of which the prover must refuse.
 
-A proof is modular: the goals of a function rest on the contracts of what it calls, and not on their bodies. So the edits of different functions
-stand in one copy of their crate, in which the other functions are emptied, which is checked once, and an edit counts as refused only where a goal
-of its own function, or of a closure in it, is reported. That a function calls one that is not proved says nothing. An edit of which such a check
-tells nothing, or that no other can stand beside, goes into another copy, in the end alone with nothing emptied. An edit that cannot be applied or
-read, or that is still proved, fails.
-
-That an edit is refused is kept beside the toolchain, on this machine alone, by the sum of all that it rests on, as `rt ci` keeps what it proves.
+A proof is modular: the goals of a function rest on the contracts of what it calls, and not on their bodies. So the
+edits of different functions share one copy of their crate, in which the other functions are emptied. One check of the
+copy judges each edit: it is refused where a goal of its own function, or of a closure in it, is reported. A call of a
+function that is not proved counts for nothing. An edit that such a check does not judge, or that no other can share a
+copy with, goes into another copy, in the end alone with nothing emptied. An edit that cannot be applied or read, or
+that is still proved, fails.
 """
-import contextlib
-import hashlib
 import os
 import re
 import shutil
@@ -17,8 +14,8 @@ import subprocess
 import tempfile
 from dataclasses import dataclass
 
-from crates import ROOT, rt, rtlib
-from functions import Functions, empty_others, module_of, places, sources_of, spans_in
+from functions import empty_others, module_of, places, sources_of, spans_in
+from toolchain import PARTS, RATTLE, STALE, edited, guarded, is_unread
 
 OPEN = "an open goal"
 BY_TYPE = "a hand-written answer of another type"
@@ -29,7 +26,8 @@ PROVED = "NOT REFUSED: it is still proved"
 
 @dataclass
 class Edit:
-    """A wrong body: its name, the text of its file, and the functions that it changes, none where it changes more than bodies."""
+    """A wrong body: its name, the text of its file, and the functions that it changes, none where it changes more than
+    bodies."""
 
     name: str
     text: str
@@ -38,7 +36,7 @@ class Edit:
 
 def changed_places(text, folder):
     """The places at which an edit changes files, as pairs of the file and the byte, or why it cannot be applied."""
-    texts, why = rt.edited(text, folder)
+    texts, why = edited(text, folder)
     if why:
         return None, why
     found, file = [], ""
@@ -55,7 +53,8 @@ def changed_places(text, folder):
 
 
 def functions_at(found, crate):
-    """The functions at these places of files: where a constant stands, those that name it, and none where a place is in neither."""
+    """The functions at these places of files: where a constant stands, those that name it, and none where a place is in
+    neither."""
     texts = sources_of(crate.folder)
     spans, functions = spans_in(crate.folder, texts), set()
     for file, byte in found:
@@ -63,7 +62,9 @@ def functions_at(found, crate):
         within = [it.function for it in spans.get(file, []) if it.start <= (line, column) < it.end]
         constant = re.match(r"(?:pub(?:\(crate\))? )?const (\w+):", texts.get(file, "").split("\n")[line - 1])
         if not within and constant:
-            within = [it.function for of_file, own in spans.items() for it in own if re.search(rf"\b{constant[1]}\b", it.text(texts[of_file]))]
+            name = re.compile(rf"\b{constant[1]}\b")
+            everywhere = [(of_file, it) for of_file, own in spans.items() for it in own]
+            within = [it.function for of_file, it in everywhere if name.search(it.text(texts[of_file]))]
         if not within:
             return frozenset()
         functions.update(within)
@@ -98,8 +99,8 @@ class Check:
 
 
 def check_of(folder, words):
-    how = {"cwd": folder, "stdin": subprocess.DEVNULL, "stdout": subprocess.PIPE, "stderr": subprocess.STDOUT, "errors": "replace"}
-    with subprocess.Popen([*rtlib.guarded(), *words], **how, text=True) as ran:
+    how = {"cwd": folder, "stdin": subprocess.DEVNULL, "stdout": subprocess.PIPE, "stderr": subprocess.STDOUT}
+    with subprocess.Popen([*guarded(), *words], **how, text=True, errors="replace") as ran:
         said = ran.stdout.read()
         _, status, used = os.wait4(ran.pid, 0)
         ran.returncode = os.waitstatus_to_exitcode(status)
@@ -111,7 +112,7 @@ class Copy:
 
     def __init__(self, crate, room):
         self.crate, self.folder, self.edits, self.texts = crate, room, [], {}
-        for part in rtlib.PARTS:
+        for part in PARTS:
             if os.path.isdir(f"{crate.folder}/{part}"):
                 shutil.copytree(f"{crate.folder}/{part}", f"{room}/{part}")
 
@@ -120,7 +121,7 @@ class Copy:
         is_whole = not edit.functions or any(not it.functions for it in self.edits)
         if self.edits and (is_whole or any(it.functions & edit.functions for it in self.edits)):
             return False
-        texts, why = rt.edited(edit.text, self.folder)
+        texts, why = edited(edit.text, self.folder)
         if why:
             return False
         for path, text in texts.items():
@@ -134,11 +135,12 @@ class Copy:
         return {it for edit in self.edits for it in edit.functions}
 
     def check(self, kept, jobs, empties):
-        """What the prover says of the edited functions, with all others emptied or not, or of the whole crate where an edit changes more than bodies."""
+        """What the prover says of the edited functions, with all others emptied or not, or of the whole crate where an
+        edit changes more than bodies."""
         only = sorted({it.path() for it in self.functions()})
         is_whole = any(not it.functions for it in self.edits)
         asked = [] if is_whole or "" in only else [word for path in only for word in ("--only", path)]
-        words = [rtlib.RATTLE, "check", *self.crate.words(["--jobs", str(jobs)], keeps=False), "--incremental", kept]
+        words = [RATTLE, "check", *self.crate.words(["--jobs", str(jobs)], keeps=False), "--incremental", kept]
         if empties and not is_whole:
             empty_others(self.folder, self.crate.name, self.functions())
             self.texts = {**self.texts, **sources_of(self.folder)}
@@ -154,7 +156,7 @@ class Copy:
         spans = spans_in(self.folder, self.texts)
         if ran.status != 1 or not re.match(r"logic=not-proved|only=|holes=", lines[-1]) or spans is None:
             return {} if ran.status == 0 else None
-        if any(rt.unread(it, self.texts) or self.breaks_others(it) for it in lines) or rtlib.STALE.search(ran.said):
+        if any(is_unread(it, self.texts) or self.breaks_others(it) for it in lines) or STALE.search(ran.said):
             return None
         found = {}
         for line in lines:
@@ -165,12 +167,16 @@ class Copy:
         return found
 
     def breaks_others(self, line):
-        """Whether a line is an error in proofs/ outside the folders of the edited functions' proofs, as in lemmas that rest on a proof that was emptied."""
+        """Whether a line is an error in proofs/ outside the folders of the edited functions' proofs, as in lemmas that
+        rest on a proof that was emptied."""
         error = re.match(r"(?:\./)?proofs/(\S+)\.antt:\d+:\d+: error: ", line)
-        return bool(error) and all(it.functions for it in self.edits) and not any(is_proof_of(os.path.dirname(error[1]), it) for it in self.functions())
+        if not error or not all(it.functions for it in self.edits):
+            return False
+        return not any(is_proof_of(os.path.dirname(error[1]), it) for it in self.functions())
 
     def reported(self, line, spans):
-        """The function of which a line reports a goal, if it is one of those that the edits change, and what it reports."""
+        """The function of which a line reports a goal, if it is one of those that the edits change, and what it
+        reports."""
         # a goal that no rule fits, as the condition of a type, has words of its own
         goal = re.match(r"note: (?:\./)?(src/\S+?):(\d+):(\d+): (?:it is not proved|`search` found no proof)", line)
         if goal:
@@ -183,10 +189,11 @@ class Copy:
         what = BY_NAME if re.search(r"has no field|is not in scope|has no `", answer[2]) else BY_TYPE
         own = [it for edit in self.edits for it in edit.functions if is_proof_of(answer[1], it)]
         if len(own) > 1:
-            # of several functions in a cycle of calls, whose proof is one, the name of the answer begins with that of the function, and the
-            # folder of one that calls itself alone has its name
+            # of several functions in a cycle of calls, whose proof is one, the name of the answer begins with that of
+            # the function, and the folder of one that calls itself alone has its name
             by_name = [it for it in own if re.match(rf"`(\w+-)?{it.name}-", answer[2])]
-            own = by_name or [it for it in own if answer[1].rpartition("/")[2] == f"+{it.name}" and not is_in_a_cycle(it, spans)]
+            folder = answer[1].rpartition("/")[2]
+            own = by_name or [it for it in own if folder == f"+{it.name}" and not is_in_a_cycle(it, spans)]
         return own[0] if len(own) == 1 else None, what
 
 
@@ -205,18 +212,22 @@ def is_proof_of(folder, function):
 
 
 def is_in_a_cycle(function, spans):
-    """Whether a function's attribute names a cycle of calls, which it is in with others: such a cycle may have the name of one of them."""
-    return any(token[3] == "cycle" for it in spans.get(function.file, []) if it.function == function for token in it.head)
+    """Whether a function's attribute names a cycle of calls, which it is in with others: such a cycle may have the name
+    of one of them."""
+    own = [it for it in spans.get(function.file, []) if it.function == function]
+    return any(token[3] == "cycle" for it in own for token in it.head)
 
 
 def is_worth_emptying(crate, edits):
-    """Whether so few of a crate's functions are edited that to empty the others costs less than to prove what is called."""
+    """Whether so few of a crate's functions are edited that to empty the others costs less than to prove what is
+    called."""
     spans = spans_in(crate.folder, sources_of(crate.folder)) or {}
     return 3 * len({it for edit in edits for it in edit.functions}) <= sum(map(len, spans.values()))
 
 
 def tried(crate, edits, room, jobs):
-    """Tries edits of a crate. Returns for each name whether it is refused and what to say, and the processor seconds that it took."""
+    """Tries edits of a crate. Returns for each name whether it is refused and what to say, and the processor seconds
+    that it took."""
     # each group with whether its copy may have the other functions emptied
     results, groups, number, seconds = {}, [(edits, True)] if edits else [], 0, 0.0
     while groups:
@@ -244,95 +255,3 @@ def tried(crate, edits, room, jobs):
 
 def evidence(found):
     return next(it for it in (OPEN, BY_TYPE, BY_NAME) if it in found)
-
-
-def files_below(*folders):
-    return sorted(f"{at}/{name}" for folder in folders for at, _, names in os.walk(folder) for name in names)
-
-
-def sum_of(files):
-    found = hashlib.sha256()
-    for file in files:
-        with open(file, "rb") as it:
-            found.update(repr((os.path.relpath(file, ROOT), it.read())).encode())
-    return found.hexdigest()
-
-
-class Refused:
-    """The edits of a crate that a run on this machine has seen refused, by the sum of all that this rests on: the toolchain, these scripts, what the
-    libraries below the crate state, the crate's own files but for the bodies and proofs of functions that the edit does not change, and the edit."""
-
-    def __init__(self, crate):
-        stated = [it for below in crate.below() for it in files_below(f"{below.rlib}/interface/lang", f"{below.rlib}/lang/antt/specs")]
-        scripts = [f"{ROOT}/bin/lib/{it}" for it in ("functions.py", "wrong_bodies.py")]
-        self.folder, self.own = crate.folder, files_below(*(f"{crate.folder}/{it}" for it in rtlib.PARTS))
-        self.sum, self.at, self.functions = rt.kit_sum() + sum_of([*scripts, *stated]), f"{rt.STORE}/wrong-bodies", Functions(crate.folder)
-
-    def own_sum(self, edit):
-        """The sum of the crate's own files, without what is another function's alone."""
-        if not edit.functions:
-            return sum_of(self.own)
-        texts, folders = self.functions.left_beside(edit.functions)
-        others = [it for it in self.own if os.path.relpath(it, self.folder) not in texts and os.path.relpath(os.path.dirname(it), f"{self.folder}/proofs") not in folders]
-        return hashlib.sha256(repr(sorted(texts.items())).encode()).hexdigest() + sum_of(others)
-
-    def file(self, edit):
-        return f"{self.at}/{hashlib.sha256(repr((self.sum, self.own_sum(edit), edit.name, edit.text)).encode()).hexdigest()}"
-
-    def found(self, edit):
-        """What was said of the edit when it was refused, or None if that is not known."""
-        said = rtlib.text_of(self.file(edit))
-        return said if said in (OPEN, BY_TYPE, BY_NAME) else None
-
-    def keep(self, edit, said):
-        with contextlib.suppress(OSError):
-            os.makedirs(self.at, 0o700, exist_ok=True)
-            with tempfile.NamedTemporaryFile("w", dir=self.at, delete=False, encoding="utf-8") as it:
-                it.write(said)
-            # so that no other run meets half of it
-            os.replace(it.name, self.file(edit))
-
-
-def results_of(crate, jobs, is_anew):
-    """What becomes of a crate's edits, by their names, how many of them are tried here, and the processor seconds of that."""
-    (good, bad), kept = edits_of(crate), Refused(crate)
-    told = {} if is_anew else {it.name: (True, said) for it in good if (said := kept.found(it))}
-    new = [it for it in good if it.name not in told]
-    with tempfile.TemporaryDirectory(prefix="wrong-bodies-") as room:
-        results, seconds = tried(crate, new, room, jobs)
-    for edit in new:
-        is_refused, said = results[edit.name]
-        if is_refused:
-            kept.keep(edit, said)
-    return {**told, **results, **{name: (False, f"BAD EDIT: {why}") for name, why in bad}}, len(new), seconds
-
-
-def add_wrong_bodies(work, crate, waits_for, is_anew=False):
-    """Adds a crate's edits as a task, which comes to whether each is refused and what to say of it, by its name: to none if what it waits for is not well."""
-
-    def call(given, jobs):
-        if not all(given[it.name, kind] for it, kind in waits_for):
-            return {}, ""
-        results, new, seconds = results_of(crate, jobs, is_anew)
-        tell(crate, results)
-        others = "" if new == len(results) else f" ({len(results) - new} of them kept)"
-        return results, f"{len(results)} wrong bodies of {crate.name}{others}, {seconds:.0f} s of a processor"
-
-    # each of several checks reads the libraries below anew, so crates that stand on many are dear, and are begun early
-    work.add(crate, "wrong bodies", waits_for, crate.count(rb"\n") + 60 * len(crate.below()), call)
-
-
-def has_wrong_bodies(crate):
-    return os.path.isdir(f"{crate.folder}/wrong-bodies")
-
-
-def tell(crate, results):
-    """Prints what came of a crate's edits."""
-    rows = [f"wrong body {crate.name}/{edit}: {'refused, by ' if is_refused else ''}{what}\n" for edit, (is_refused, what) in sorted(results.items())]
-    print("".join(rows), end="", flush=True)
-
-
-def counts_of(results):
-    """How many edits of a crate were refused, how many of those by no open goal, and how many were not."""
-    refused = [what for is_refused, what in results.values() if is_refused]
-    return len(refused), sum(it != OPEN for it in refused), len(results) - len(refused)
