@@ -21,7 +21,7 @@ use Rattle.slots.specs.Slots.{status_of, replies_to}
 use Rattle.slots.proofs.SlotLaws.{set_same, set_other, status_within, view_below, replies_below}
 use Rattle.block_machine.specs.Machine.{State, fresh, is_current, is_stamped, can_commit, commit_reply, Unless, TakeReply, NoteReply, CheckReply, IsAllowed, after, state_after}
 use Rattle.block_machine.specs.Serial.{Setting, IsSetting, dataset_after, replies_after, IsSound, IsSoundEntry, IsLawful, LawfulFrom, IsHistory, state_of, FrontIsSerial}
-use Rattle.block_machine.proofs.Known.{is_current-Clear, Known, known_more, known_agrees}
+use Rattle.block_machine.proofs.Known.{Clear, is_current-Clear, Known, known_more, known_agrees}
 use Rattle.block_machine.proofs.Invariant.{is_done, Holds, Ran, PassHolds, StampHolds, SlotHolds, InOrder, Invariant, Steady, slot_steady, each_replaced, replaced}
 use Rattle.delta.specs.declared.finished.Finished.{Finished}
 use Rattle.reads.specs.Runs.{Agrees}
@@ -120,7 +120,7 @@ DeltasAreOne = (a b : Delta) → delta_eq a b ≡ true → a ≡ b
 
 module _ (exact : DeltasAreOne) (m : Setting) (s : State) (inv : Invariant m s) where
   -- an execution goes on, or ends with no publication
-  execution_kept : (i n w : ℕ) (x : Slot) → status_of s.slots i ≡ Some (Executing n w) → x.delta ≡ (slot_at s.slots i).delta → x.changed ≡ (slot_at s.slots i).changed → x.pass ≡ (slot_at s.slots i).pass → x.stamp ≡ (slot_at s.slots i).stamp → is_done x.status ≡ false → is_closed (Some x.status) ≡ false → Invariant m (record { slots = slice_set s.slots i x; clock = s.clock; front = s.front })
+  pub execution_kept : (i n w : ℕ) (x : Slot) → status_of s.slots i ≡ Some (Executing n w) → x.delta ≡ (slot_at s.slots i).delta → x.changed ≡ (slot_at s.slots i).changed → x.pass ≡ (slot_at s.slots i).pass → x.stamp ≡ (slot_at s.slots i).stamp → is_done x.status ≡ false → is_closed (Some x.status) ≡ false → Invariant m (record { slots = slice_set s.slots i x; clock = s.clock; front = s.front })
   execution_kept i n w x st delta changed pass stamp not_done is_open =
       let at = status_within s.slots i (Executing n w) st in
       let old = inv.each i at.0 in
@@ -234,8 +234,10 @@ module _ (exact : DeltasAreOne) (m : Setting) (s : State) (inv : Invariant m s) 
           (record { done = done; start = omega arith; next = subst (λ (ns : List Noted). 0 < length ns) (sym e) (omega arith); holds = record { known = λ clear. tt } }))
           (λ z f. absurd (let d : None ≡ Some z = f in (cc)))
 
-  -- a check that finds the noted answer goes on to the next note, or ends in a stamp
-  pass_kept : (i n w : ℕ) → status_of s.slots i ≡ Some (Executed n) → (p : Pass) → (slot_at s.slots i).pass ≡ Some p → (note : Noted) → slice_get (slot_at s.slots i).notes p.next ≡ Some note → note.answer ≡ says note.read (view_at m.base s.slots i) → Invariant m (record { slots = slice_set s.slots i (passed (slot_at s.slots i) (Some p)); clock = s.clock; front = s.front })
+  -- A check that finds the noted answer goes on to the next note, or ends in a stamp. The answer
+  -- has to be the one now only as long as no lower request has changed since the pass began: after
+  -- that nothing is known of the notes.
+  pub pass_kept : (i n w : ℕ) → status_of s.slots i ≡ Some (Executed n) → (p : Pass) → (slot_at s.slots i).pass ≡ Some p → (note : Noted) → slice_get (slot_at s.slots i).notes p.next ≡ Some note → (Clear s.slots i p.start → note.answer ≡ says note.read (view_at m.base s.slots i)) → Invariant m (record { slots = slice_set s.slots i (passed (slot_at s.slots i) (Some p)); clock = s.clock; front = s.front })
   pass_kept i n w st p stands note at same = go ((p.next + 1) == length y.notes) refl
     where
       y : Slot
@@ -251,7 +253,7 @@ module _ (exact : DeltasAreOne) (m : Setting) (s : State) (inv : Invariant m s) 
       was = old.pass p stands
 
       more : Holds m.base s.slots i p.start (suc p.next) y.notes
-      more = record { known = λ clear. known_more (view_at m.base s.slots i) p.next y.notes note (was.holds.known clear) at same }
+      more = record { known = λ clear. known_more (view_at m.base s.slots i) p.next y.notes note (was.holds.known clear) at (same clear) }
 
       on : Slot
       on = record y { pass = Some (record p { next = p.next + 1 }) }
@@ -288,7 +290,7 @@ module _ (exact : DeltasAreOne) (m : Setting) (s : State) (inv : Invariant m s) 
           }))
           (λ z f. let h = old.stamp z f in record { done = h.done; start = h.start; holds = h.holds })
 
-  abort_kept : (i n w : ℕ) → status_of s.slots i ≡ Some (Executed n) → Invariant m (after s w (Check i n) Aborted)
+  pub abort_kept : (i n w : ℕ) → status_of s.slots i ≡ Some (Executed n) → Invariant m (after s w (Check i n) Aborted)
   abort_kept i n w st =
       let at = status_within s.slots i (Executed n) st in
       let x = aborted (slot_at s.slots i) n in
@@ -395,7 +397,7 @@ module _ (exact : DeltasAreOne) (m : Setting) (s : State) (inv : Invariant m s) 
 
   -- A LAWFUL ENTRY
 
-  keeps : IsSetting m → (w : ℕ) (e : Event) (r : Reply) → IsAllowed m.base s w e r → IsSoundEntry m e r → Invariant m (after s w e r)
+  pub keeps : IsSetting m → (w : ℕ) (e : Event) (r : Reply) → IsAllowed m.base s w e r → IsSoundEntry m e r → Invariant m (after s w e r)
   keeps ok w (Take i) (Taken n) h sound = take_kept i n w (take_ready (status_of s.slots i) n h)
   keeps ok w (ReadOf i n read) (Answered a) h sound =
       let u = unless_execution (status_of s.slots i) n w (Answered a) _ (λ e. cc) (λ e. cc) h in
@@ -418,7 +420,7 @@ module _ (exact : DeltasAreOne) (m : Setting) (s : State) (inv : Invariant m s) 
       go None e st c = absurd (let d : Passed ≡ NotYet = c in (cc))
       go (Some p) e st c =
           let t = note_same (slice_get (slot_at s.slots i).notes p.next) c in
-          pass_kept i n w st p e t.0 t.1 t.2
+          pass_kept i n w st p e t.0 t.1 (λ clear. t.2)
   keeps ok w (Check i n) Aborted h sound =
       let u = unless_executed (status_of s.slots i) n Aborted _ (λ e. cc) h in
       abort_kept i n w u.0
@@ -470,7 +472,7 @@ invariant_after exact m ok history lawful = history_holds exact m ok (fresh m.si
 
 -- A HISTORY WITH ONE MORE ENTRY
 
-state_after-push : (s : State) (es : List Entry) (e : Entry) → state_after s (es ++ e ∷ []) ≡ after (state_after s es) e.worker e.event e.reply
+pub state_after-push : (s : State) (es : List Entry) (e : Entry) → state_after s (es ++ e ∷ []) ≡ after (state_after s es) e.worker e.event e.reply
 unfolding state_after
 state_after-push s [] e = refl
 state_after-push s (x ∷ es) e = state_after-push (after s x.worker x.event x.reply) es e
