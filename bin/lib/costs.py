@@ -61,4 +61,6 @@ class Costs(threading.Thread):
         rows = sorted(found.items(), key=lambda it: -sum(it[1].values()))
         rows.append(("all", {kind: sum(row[kind] for row in found.values()) for kind in KINDS}))
         lines = ["| processor seconds | " + " | ".join(KINDS) + " |", "|---" * (len(KINDS) + 1) + "|"]
-        return [*lines, *(f"| {crate} | " + " | ".join(f"{row[kind]:.0f}" for kind in KINDS) + " |" for crate, row in rows)]
+        for crate, row in rows:
+            lines.append(f"| {crate} | " + " | ".join(f"{row[kind]:.0f}" for kind in KINDS) + " |")
+        return lines

@@ -42,7 +42,8 @@ def faults():
     names = [name for _, crates in groups for name in crates]
     for _, crates in groups:
         for name, libraries in crates.items():
-            found += [f"crates.txt: {name} stands on {it}, which is not above it" for it in libraries if it in names and it not in above]
+            late = [it for it in libraries if it in names and it not in above]
+            found += [f"crates.txt: {name} stands on {it}, which is not above it" for it in late]
             above.add(name)
     folders = {it for it in os.listdir(f"{ROOT}/crates") if os.path.isdir(f"{ROOT}/crates/{it}")}
     found += [f"crates.txt has {it} in no group, or it has no folder" for it in sorted(folders ^ above)]
