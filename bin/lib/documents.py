@@ -86,8 +86,8 @@ def nearest(names, beyond):
 
 
 def with_columns(row):
-    """A line, where it is the row of a crate with what crates.txt says: what it stands on, but for what that stands on
-    itself, and who uses it, or the nearest of many."""
+    """A line, where it is the row of a crate with what crates.txt says: what it uses, but for what that uses itself,
+    and who uses it, or the nearest of many."""
     parts, users = row.split(" | "), {name: [it for it in LIBRARIES if name in LIBRARIES[it]] for name in LIBRARIES}
     crate = parts[0].strip("|` ")
     if crate not in LIBRARIES or len(parts) != 5:
