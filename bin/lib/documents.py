@@ -9,7 +9,7 @@ from crate_map import ROOT, lines_of
 
 MAP = "docs/ARCHITECTURE.md"
 MOST_BYTES = {"README.md": 8192, "docs/DECISIONS.md": 25600, "docs/BENCHMARKS.md": 8192}
-MOST_LINES, MOST_WORDS, MOST_CHARACTERS, MOST_ENTRIES, MOST_USERS = {MAP: 260}, 40, 700, 70, 7
+MOST_LINES, MOST_WORDS, MOST_CHARACTERS, MOST_ENTRIES, MOST_USERS = {MAP: 260}, 40, 700, 70, 10
 FOLDERS = ("bin", "bench", "docs", "examples", "crates", "rows", "tests", ".ci")
 LIBRARIES = {name: libraries for _, crates in crate_map.listed() for name, libraries in crates.items()}
 # names before `::` that are no crate of the repository: the ports that crates.txt names, and Rust's own
