@@ -1,0 +1,23 @@
+# Counts a.
+PREFIX ex: <http://example.org/>
+DELETE { ex:a ex:count ?n } INSERT { ex:a ex:count ?m } WHERE { ex:a ex:count ?n . ?n ex:next ?m }
+----
+# Counts a again: it reads what the request before writes.
+PREFIX ex: <http://example.org/>
+DELETE { ex:a ex:count ?n } INSERT { ex:a ex:count ?m } WHERE { ex:a ex:count ?n . ?n ex:next ?m }
+----
+# Counts b.
+PREFIX ex: <http://example.org/>
+DELETE { ex:b ex:count ?n } INSERT { ex:b ex:count ?m } WHERE { ex:b ex:count ?n . ?n ex:next ?m }
+----
+# Counts a once more.
+PREFIX ex: <http://example.org/>
+DELETE { ex:a ex:count ?n } INSERT { ex:a ex:count ?m } WHERE { ex:a ex:count ?n . ?n ex:next ?m }
+----
+# Touches neither counter.
+PREFIX ex: <http://example.org/>
+INSERT DATA { ex:c ex:count ex:n0 }
+----
+# Says what a and b have reached: it reads what most requests before write.
+PREFIX ex: <http://example.org/>
+INSERT { ex:sum ex:of ?m , ?n } WHERE { ex:a ex:count ?m . ex:b ex:count ?n }
