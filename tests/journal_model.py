@@ -1,9 +1,9 @@
-"""What the statuses of requests say of a journal's lines. It knows nothing of answers and changes: a line that it refuses is not lawful, and one
-that it takes may be lawful or not."""
+"""What the statuses of requests allow of a journal's lines. It knows nothing of answers and changes: a line that it
+refuses is not lawful, and one that it takes may be lawful or not."""
 
 
 class Statuses:
-    """The statuses of so many requests, as docs/FORMATS.md and docs/DEFINITIONS.md have them, and how many are committed."""
+    """The statuses of a block's requests (docs/FORMATS.md, docs/DEFINITIONS.md), and how many are committed."""
 
     def __init__(self, requests):
         self.status = [("ready", 0)] * requests
@@ -98,8 +98,8 @@ def publication(lines, place):
     _, verb, request, incarnation, reply = parts(lines[place])
     if verb != "read" or not reply.startswith("answer "):
         return None
-    told = (("publish", request, incarnation, "published"), ("giveup", request, incarnation, "given"))
-    ends = (at for at in range(place, len(lines)) if parts(lines[at])[1:] in told)
+    last = (("publish", request, incarnation, "published"), ("giveup", request, incarnation, "given"))
+    ends = (at for at in range(place, len(lines)) if parts(lines[at])[1:] in last)
     at = next(ends, None)
     return at if at is not None and parts(lines[at])[1] == "publish" else None
 
