@@ -1,0 +1,4 @@
+mod Members
+mod ShardLaws
+mod Marks
+pub mod FoundParts
