@@ -1,0 +1,13 @@
+mod Archive
+mod Beginnings
+mod Bounds
+mod Checks
+mod Later
+mod Lists
+mod Notes
+mod OneHold
+mod Parts
+mod Shelves
+mod ShelvesAt
+mod Statuses
+mod Theorem
