@@ -1,4 +1,4 @@
-//! Groups as they are told in tables: parts in braces, triples in square brackets, and before other
+//! Groups as tables write them: parts in braces, triples in square brackets, and before other
 //! parts a letter for the kind.
 use groups::group_at;
 use lexer::{Stop, Token, tokens};

@@ -1,5 +1,5 @@
-//! Tokens as they are told in tables: a letter for the kind, a colon and the parts; signs as they
-//! are written.
+//! Tokens as tables write them: a letter for the kind, a colon and the parts; signs as they are
+//! written.
 use lexer::{Sign, Stop, Token, tokens};
 use std::alloc::{AllocError, Global};
 

@@ -1,5 +1,5 @@
 //! N-Quads texts: what they spell, and what is written.
-use crate::made::{TWO_GRAPHS, fault_of, spells, two_graphs};
+use crate::fixtures::{TWO_GRAPHS, fault_of, spells, two_graphs};
 use canonical_nquads::{tag, write};
 use devices::{ReadFault, Watched, front_of};
 use nquads::{BaseFault, read, read_bytes};

@@ -5,7 +5,7 @@ use Rattle.terms.specs.Term.{term_order}
 use Rattle.terms.specs.declared.term.Term.{Term}
 use Rattle.dict.specs.Dictionary.{term_of, is_known}
 use Rattle.meaning_laws.specs.Renaming.{renamed, dataset_known}
-use Rattle.request_tests.proofs.numbers.back.Goals as goal
+use Rattle.request_tests.proofs.numbered_datasets.back.Goals as goal
 
 pub named-requires-clause-known : goal.named-requires-clause-known
 named-requires-clause-known c =

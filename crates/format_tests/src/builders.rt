@@ -3,7 +3,7 @@ ghost use Rattle.std.specs.Prelude.{◌≡◌, true};
 ghost use Rattle.std.specs.List.{list_all};
 ghost use Rattle.iris.specs.Iri.{is_iri_byte};
 
-use crate::made::{iri, is_iri};
+use crate::fixtures::{iri, is_iri};
 use canonical_nquads::canonical_text;
 use dataset_builder::DatasetBuilder;
 use datasets::Quad;

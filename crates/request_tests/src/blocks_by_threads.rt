@@ -1,6 +1,6 @@
 //! Blocks whose requests are checked by several threads, beside the same blocks by one.
 
-use crate::texts::TEXTS;
+use crate::update_texts::TEXTS;
 use meaning::Refusal;
 use rules::{Block, BlockFault, Checked, split, split_by};
 use std::alloc::{AllocError, Global};
