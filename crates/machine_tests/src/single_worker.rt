@@ -4,9 +4,9 @@ ghost use Rattle.update.specs.Asked.{IsShort};
 ghost use Rattle.shared.specs.Calls.{IsSoundAt};
 ghost use Rattle.shared.specs.Duty.{IsPassFor};
 
+use crate::book_inputs::Topic;
 use crate::lines::{Told, told_by};
-use crate::numbers::request_at;
-use crate::topic::Topic;
+use crate::numbered_blocks::request_at;
 use block_machine::Reply;
 use datasets::Read;
 use delta::Finished;

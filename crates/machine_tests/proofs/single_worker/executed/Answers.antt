@@ -1,7 +1,7 @@
 use Rattle.std.proofs.Common.{sym, subst}
 use Rattle.shared.specs.Duty.{IsPassFor, Duty}
 use Rattle.machine_tests.proofs.SeeingLaws.{ran_for, stopped_for}
-use Rattle.machine_tests.proofs.alone.executed.Goals as goal
+use Rattle.machine_tests.proofs.single_worker.executed.Goals as goal
 
 pub returns-in-Ok-clause-pass : goal.returns-in-Ok-clause-pass
 returns-in-Ok-clause-pass c =

@@ -2,7 +2,7 @@
 
 use crate::blocks::are_short;
 use crate::lines::{Line, line_of, line_of_kept};
-use crate::numbers::{count_quads, numbered};
+use crate::numbered_blocks::{count_quads, numbered};
 use block_machine::Entry;
 use book::Book;
 use numbering::Numbered;

@@ -3,11 +3,11 @@ ghost use Rattle.reads.specs.Reads.{IsDataset};
 ghost use Rattle.shared.specs.Calls.{IsSoundAt};
 ghost use Rattle.shared.specs.Duty.{IsPassFor};
 
-use crate::alone::{executed, published};
+use crate::book_inputs::Topic;
 use crate::lines::{Step, Told, told_by};
-use crate::numbers::{numbered, request_at};
+use crate::numbered_blocks::{numbered, request_at};
 use crate::sharing::{BLOCK, are_told, opened_alone, opened_by_two};
-use crate::topic::Topic;
+use crate::single_worker::{executed, published};
 use block_machine::Reply;
 use book::count;
 use datasets::{GraphPlace, QuadPattern, Read};

@@ -7,7 +7,7 @@ use Rattle.reads.specs.Asking.{Asked}
 use Rattle.book.specs.Run.{Run}
 use Rattle.machine_tests.specs.Seeing.{Follows}
 use Rattle.machine_tests.proofs.RunLaws.{sound_there}
-use Rattle.machine_tests.proofs.run.executed.Goals as goal
+use Rattle.machine_tests.proofs.book_steps.executed.Goals as goal
 
 pub returns-in-Ok : goal.returns-in-Ok
 returns-in-Ok c r there =

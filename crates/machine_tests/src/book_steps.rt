@@ -4,7 +4,7 @@ ghost use Rattle.update.specs.Asked.{IsShort};
 ghost use Rattle.book.specs.Run.{IsSoundEvent, Run};
 
 use crate::lines::{Step, Told, told_by};
-use crate::numbers::request_at;
+use crate::numbered_blocks::request_at;
 use block_machine::{Event, Reply};
 use book::Book;
 use datasets::Read;
