@@ -1,5 +1,5 @@
 //! Terms and datasets of terms.
-use crate::made::{iri, is_iri};
+use crate::fixtures::{iri, is_iri};
 use datasets::Quad;
 use iris::Iri;
 use nquads::{BaseFault, read_bytes};

@@ -3,20 +3,20 @@
 #![tactic(auto)]
 
 #[cfg(test)]
-mod built;
+mod builders;
 #[cfg(test)]
 mod datasets_of_terms;
 #[cfg(test)]
+mod fixtures;
+#[cfg(test)]
 mod journals;
 #[cfg(test)]
-mod lists;
+mod lists_and_iris;
 #[cfg(test)]
-mod made;
+mod nquads_texts;
 #[cfg(test)]
 mod objects;
 #[cfg(test)]
 mod pieces;
 #[cfg(test)]
 mod slow_devices;
-#[cfg(test)]
-mod texts;

@@ -1,5 +1,5 @@
 //! Objects of statements: strings with their escapes, tags, datatypes, labels and IRIs.
-use crate::made::{fault_of, spells};
+use crate::fixtures::{fault_of, spells};
 use nquads::{BaseFault, read_bytes};
 use std::alloc::{AllocError, Global};
 

@@ -1,9 +1,9 @@
 //! Texts that are read in portions, and in pieces by several threads.
 ghost use Rattle.std.specs.Prelude.{◌≡◌};
 
-use crate::made::fault_of;
+use crate::fixtures::fault_of;
+use crate::nquads_texts::{BAD, TEXTS, is_bad_at};
 use crate::slow_devices::Slow;
-use crate::texts::{BAD, TEXTS, is_bad_at};
 use canonical_nquads::{canonical_pieces, canonical_pieces_by, canonical_text};
 use devices::Watched;
 use nquads::{BaseFault, read_by, read_bytes};

@@ -1,7 +1,7 @@
 //! Readers and writers that are slow, or fail.
 ghost use Rattle.std.specs.Prelude.{◌<◌, ◌-◌, ◌^◌};
 
-use crate::made::{TWO_GRAPHS, fault_of, two_graphs};
+use crate::fixtures::{TWO_GRAPHS, fault_of, two_graphs};
 use canonical_nquads::{WriteFault, canonical_text, write};
 use devices::Watched;
 use nquads::{BaseFault, read, read_by};

@@ -2,7 +2,7 @@
 ghost use Rattle.std.specs.Prelude.{IsTrue};
 ghost use Rattle.update.specs.Asked.{AreShort, IsShort};
 
-use crate::numbers::{count_quads, has_quads, numbered, numbered_by};
+use crate::numbered_blocks::{count_quads, has_quads, numbered, numbered_by};
 use datasets::Id;
 use delta::Outcome;
 use meaning::{Refusal, Reply, Request};

@@ -1,13 +1,13 @@
 //! Blocks run through a book, in orders that workers side by side may take.
 ghost use Rattle.reads.specs.Reads.{IsDataset};
 
+use crate::book_steps::play;
 use crate::lines::Step::{Begin, Check, Commit, GiveUp, Publish, PublishNothing, Take};
 use crate::lines::Told::{
     Aborted, Begun, Committed, Given, NotYet, NotYours, Passed, Published, Stale, Taken,
 };
 use crate::lines::{Step, Told};
-use crate::numbers::{has_quads, numbered};
-use crate::run::play;
+use crate::numbered_blocks::{has_quads, numbered};
 use book::Book;
 use meaning::Reply;
 use numbering::Numbered;
@@ -179,7 +179,10 @@ pub const WALKS: [Walk; 5] = [
     // The third request reads what the first has put in and the second has taken out since: its
     // answer is the same, but it came from others.
     Walk {
-        block: "INSERT DATA { <x:a> <x:p> <x:b> }\n----\nDELETE DATA { <x:a> <x:p> <x:b> }\n----\nINSERT { ?x <x:q> <x:c> } WHERE { ?x <x:p> ?y }",
+        block: "\
+            INSERT DATA { <x:a> <x:p> <x:b> }\n----\n\
+            DELETE DATA { <x:a> <x:p> <x:b> }\n----\n\
+            INSERT { ?x <x:q> <x:c> } WHERE { ?x <x:p> ?y }",
         lines: &[
             (2, Take(2), Taken(0)),
             (2, Publish(2, 0), Published),

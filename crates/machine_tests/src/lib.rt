@@ -5,21 +5,23 @@
 #![tactic(auto)]
 
 #[cfg(test)]
-mod alone;
-#[cfg(test)]
 mod blocks;
+#[cfg(test)]
+mod book_inputs;
+#[cfg(test)]
+mod book_steps;
 #[cfg(test)]
 mod books;
 #[cfg(test)]
-mod heard;
-#[cfg(test)]
-mod holds;
+mod gate_entries;
 #[cfg(test)]
 mod lines;
 #[cfg(test)]
-mod lists;
+mod lock_holds;
 #[cfg(test)]
-mod numbers;
+mod name_lists;
+#[cfg(test)]
+mod numbered_blocks;
 #[cfg(test)]
 mod pools;
 #[cfg(test)]
@@ -27,8 +29,6 @@ mod replays;
 #[cfg(test)]
 mod requests;
 #[cfg(test)]
-mod run;
-#[cfg(test)]
 mod sharing;
 #[cfg(test)]
-mod topic;
+mod single_worker;

@@ -1,7 +1,7 @@
 //! Blocks run by a pool whose gate holds workers up until others have got on.
 
 use crate::blocks::are_short;
-use crate::numbers::{has_quads, numbered};
+use crate::numbered_blocks::{has_quads, numbered};
 use block_machine::{Entry, Event, Reply};
 use meaning::Reply as Answer;
 use numbering::Numbered;

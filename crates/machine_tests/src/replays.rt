@@ -7,7 +7,7 @@ use crate::books::{WALKS, Walk, walked};
 use crate::lines::Step::{Begin, Publish, Take};
 use crate::lines::Told::{Aborted, Begun, NotYet, Passed, Published, Stale, Taken};
 use crate::lines::{Step, Told, told_by};
-use crate::numbers::numbered;
+use crate::numbered_blocks::numbered;
 use book::Book;
 use journal::{JournalFault, Line, write_lines};
 use numbering::Numbered;
@@ -116,8 +116,10 @@ struct Choice {
 
 /// The third request reads by a pattern what the first has put in and the second has taken out
 /// since.
-const TWICE: &str =
-    "INSERT DATA { <x:a> <x:p> <x:b> }\n----\nDELETE DATA { <x:a> <x:p> <x:b> }\n----\nINSERT { ?x <x:q> <x:c> } WHERE { ?x <x:p> ?y }";
+const TWICE: &str = "\
+    INSERT DATA { <x:a> <x:p> <x:b> }\n----\n\
+    DELETE DATA { <x:a> <x:p> <x:b> }\n----\n\
+    INSERT { ?x <x:q> <x:c> } WHERE { ?x <x:p> ?y }";
 
 /// The second request reads by a pattern what the first has put in since.
 const ONCE: &str =
@@ -125,9 +127,12 @@ const ONCE: &str =
 
 /// The fourth request reads by a pattern the 70 quads that the first has put in. Meanwhile the
 /// second has put in one more, which the third has taken out since.
-const LONG: &str =
-    "INSERT DATA { <x:a> <x:p> 10,11,12,13,14,15,16,17,18,19,20,21,22,23,24,25,26,27,28,29,30,31,32,33,34,35,36,37,38,39,40,41,42,43,44,\
-    45,46,47,48,49,50,51,52,53,54,55,56,57,58,59,60,61,62,63,64,65,66,67,68,69,70,71,72,73,74,75,76,77,78,79 }\n----\n\
+const LONG: &str = "\
+    INSERT DATA { <x:a> <x:p> \
+    10,11,12,13,14,15,16,17,18,19,20,21,22,23,24,25,26,27,28,29,\
+    30,31,32,33,34,35,36,37,38,39,40,41,42,43,44,45,46,47,48,49,\
+    50,51,52,53,54,55,56,57,58,59,60,61,62,63,64,65,66,67,68,69,\
+    70,71,72,73,74,75,76,77,78,79 }\n----\n\
     INSERT DATA { <x:a> <x:p> 9 }\n----\nDELETE DATA { <x:a> <x:p> 9 }\n----\n\
     INSERT { ?x <x:q> <x:c> } WHERE { ?x <x:p> ?y }";
 

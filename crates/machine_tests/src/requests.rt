@@ -1,5 +1,5 @@
 //! Requests over a base, and over a source whose answers are of the wrong kind.
-use crate::numbers::{numbered, request_at, tell, tell_quads};
+use crate::numbered_blocks::{numbered, request_at, tell, tell_quads};
 use asking::ask_all;
 use datasets::Read;
 use delta::{Delta, Finished};

@@ -3,10 +3,10 @@ ghost use Rattle.std.specs.Prelude.{◌≡◌, ◌+◌, ◌<◌, ◌≤◌, vec_
 ghost use Rattle.reads.specs.Reads.{IsDataset};
 ghost use Rattle.shared.specs.Duty.{IsPassFor};
 
-use crate::alone::{published, published_as};
+use crate::book_inputs::Topic;
 use crate::lines::{Step, Told, told_by};
-use crate::numbers::numbered;
-use crate::topic::Topic;
+use crate::numbered_blocks::numbered;
+use crate::single_worker::{published, published_as};
 use block_machine::Reply;
 use numbering::Numbered;
 use reads::{IndexedView, View};

@@ -1,5 +1,5 @@
 //! Tables of texts with their groups.
-use crate::told_groups::told;
+use crate::parsed_groups::told;
 use lexer::Stop;
 use std::alloc::{AllocError, Global};
 use std::process::Abort;

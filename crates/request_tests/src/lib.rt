@@ -4,20 +4,20 @@
 #![tactic(auto)]
 
 #[cfg(test)]
-mod by_threads;
+mod blocks_by_threads;
 #[cfg(test)]
 mod filters;
 #[cfg(test)]
 mod group_patterns;
 #[cfg(test)]
-mod numbers;
+mod numbered_datasets;
 #[cfg(test)]
-mod presence;
+mod parsed_groups;
 #[cfg(test)]
-mod texts;
+mod quad_presence;
+#[cfg(test)]
+mod token_lists;
 #[cfg(test)]
 mod tokens;
 #[cfg(test)]
-mod told_groups;
-#[cfg(test)]
-mod told_tokens;
+mod update_texts;

@@ -1,5 +1,5 @@
 //! Tables of texts with their tokens.
-use crate::told_tokens::told;
+use crate::token_lists::told;
 use lexer::{Piece, Stop, Token, tokens};
 use std::alloc::Global;
 use std::process::Abort;

@@ -1,0 +1,114 @@
+//! What a pool's gate sees of the workers, beside the journal of their book.
+
+use crate::blocks::are_short;
+use crate::lines::{Line, line_of, line_of_kept};
+use crate::numbered_blocks::{count_quads, numbered};
+use block_machine::Entry;
+use book::Book;
+use numbering::Numbered;
+use pool::{Gate, run_book};
+use std::alloc::{AllocError, Global};
+use std::sync::atomic::{AtomicBool, Ordering};
+use std::sync::{Mutex, Wait};
+use std::test::Fail;
+use std::thread::Threads;
+
+/// Keeps a line of each entry that it sees, with its worker.
+#[derive(Drop)]
+struct Sees<'r, R: Wait> {
+    rt: &'r R,
+    lines: Mutex<Vec<(u32, Line)>>,
+    // Whether a growth was refused.
+    is_full: AtomicBool,
+}
+
+impl<'r, R: Wait> Gate for Sees<'r, R> {
+    fn after(&self, worker: u32, entry: &Entry) {
+        let mut lines = self.lines.lock(self.rt);
+        if lines.push((worker, line_of(entry))).is_err() {
+            self.is_full.store(true, Ordering::SeqCst);
+        }
+    }
+}
+
+// Whether the journal has of a worker what the gate saw of it, in that order.
+fn has_seen(book: &Book<'_>, lines: &[(u32, Line)], worker: u32) -> bool {
+    let seen = lines.iter().filter(|line| line.0 == worker);
+    let kept = book
+        .journal()
+        .iter()
+        .filter(|entry| entry.worker() == worker);
+    seen.map(|line| line.1).eq(kept.map(line_of_kept))
+}
+
+// Whether the journal has of each of four workers what the gate saw of it and nothing else.
+fn has_all(book: &Book<'_>, lines: &[(u32, Line)]) -> bool {
+    book.journal().len() == lines.len() && (0..4u32).all(|worker| has_seen(book, lines, worker))
+}
+
+// Whether the outcome of a book is that of the block.
+fn is_outcome(alloc: Global, book: &Book<'_>) -> Result<bool, AllocError> {
+    let outcome = book.outcome(alloc)?;
+    Ok(outcome.replies.len() == 64 && count_quads(&outcome.dataset) == 2)
+}
+
+// Whether four workers, watched by a gate, run the block so.
+fn is_run<'a, R: Threads + Wait + Sync>(
+    rt: &R,
+    alloc: Global,
+    numbered: &'a Numbered,
+    gate: &Sees<'_, R>,
+) -> Result<bool, AllocError> {
+    let block = numbered.block.as_slice();
+    if block.len() > 1000 || !are_short(block) {
+        return Ok(false);
+    }
+    let (terms, base) = (numbered.base.terms(), numbered.base.dataset());
+    let book = run_book(rt, alloc, terms, base, block, 4, gate)?;
+    let are_seen = has_all(&book, gate.lines.lock(rt).as_slice());
+    let is_outcome = is_outcome(alloc, &book);
+    drop(book);
+    Ok(are_seen && is_outcome?)
+}
+
+// Whether the gate sees all that they do.
+fn run_four<R: Threads + Wait + Sync>(
+    rt: &R,
+    alloc: Global,
+    numbered: &Numbered,
+) -> Result<bool, AllocError> {
+    let gate = Sees {
+        rt,
+        lines: Mutex::new(Vec::new(alloc)),
+        is_full: AtomicBool::new(false),
+    };
+    Ok(is_run(rt, alloc, numbered, &gate)? && !gate.is_full.load(Ordering::SeqCst))
+}
+
+const BLOCK: &str =
+    "INSERT DATA { <x:a> <x:p> <x:b> }\n----\nINSERT DATA { <x:a> <x:p> <x:b> , <x:c> }";
+
+// A block again and again, 32 times.
+fn long_block(alloc: Global, block: &str) -> Result<String, AllocError> {
+    let mut text = String::from_str(alloc, block)?;
+    for _ in 1..32 {
+        text.push_str("\n----\n")?;
+        text.push_str(block)?;
+    }
+    Ok(text)
+}
+
+// That block at its numbers.
+fn long_numbered(alloc: Global) -> Result<Numbered, Fail> {
+    let block = long_block(alloc, BLOCK)?;
+    numbered(alloc, "", block.as_str())
+}
+
+#[test]
+fn four_threads(rt: HostRuntime) -> Result<(), Fail> {
+    let numbered = long_numbered(rt.alloc())?;
+    let is_run = run_four(&rt, rt.alloc(), &numbered);
+    drop(numbered);
+    assert!(rt; is_run?);
+    Ok(())
+}

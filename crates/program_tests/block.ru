@@ -1,1 +1,0 @@
-INSERT DATA { <http://e/a> <http://e/p> <http://e/b> }

@@ -1,0 +1,2 @@
+PREFIX ex: <http://e/>
+ADD ex:h TO ex:k

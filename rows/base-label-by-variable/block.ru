@@ -1,0 +1,2 @@
+PREFIX ex: <http://e/>
+INSERT { ?s ex:q _:x } WHERE { ?s ex:p ?o FILTER isBlank(?s) }

@@ -1,0 +1,3 @@
+INSERT DATA { }
+----
+DELETE DATA { } ; INSERT DATA { } ;

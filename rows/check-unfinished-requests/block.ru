@@ -1,0 +1,5 @@
+INSERT
+----
+
+----
+INSERT DATA {

@@ -1,0 +1,2 @@
+PREFIX ex: <http://e/>
+CLEAR ALL

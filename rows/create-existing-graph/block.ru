@@ -1,0 +1,4 @@
+PREFIX ex: <http://e/>
+CREATE GRAPH ex:g
+----
+PREFIX ex: <http://e/>

@@ -1,0 +1,2 @@
+PREFIX ex: <http://e/>
+DELETE { ?s ex:p ?o } INSERT { ?o ex:p ?s } WHERE { ?s ex:p ?o }

@@ -1,0 +1,2 @@
+PREFIX ex: <http://e/>
+INSERT { ?g ex:n 1 } WHERE { GRAPH ?g { } }

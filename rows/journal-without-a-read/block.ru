@@ -1,0 +1,1 @@
+INSERT DATA { <x:a> <x:p> 1 }

@@ -1,0 +1,2 @@
+PREFIX ex: <http://e/>
+INSERT DATA { _:x ex:p 1 }

@@ -1,0 +1,8 @@
+PREFIX ex: <http://e/>
+INSERT { ?x ex:q ex:c } WHERE { ?x ex:p ?y }
+----
+PREFIX ex: <http://e/>
+INSERT DATA { ex:a ex:p ex:b }
+----
+PREFIX ex: <http://e/>
+DELETE { ?x ex:p ?y } INSERT { ?y ex:p ?x } WHERE { ?x ex:p ?y }

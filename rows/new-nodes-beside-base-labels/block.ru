@@ -1,0 +1,2 @@
+PREFIX ex: <http://e/>
+INSERT { _:x ex:of ?s } WHERE { ?s ex:p 1 }

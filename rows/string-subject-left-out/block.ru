@@ -1,0 +1,2 @@
+PREFIX ex: <http://e/>
+INSERT { ?o ex:q ?s } WHERE { ?s ex:p ?o }

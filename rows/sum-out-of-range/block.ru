@@ -1,0 +1,2 @@
+PREFIX ex: <http://e/>
+INSERT { ?s ex:q 1 } WHERE { ?s ex:p ?v FILTER(?v + 1 > 0) }

@@ -1,0 +1,2 @@
+PREFIX ex: <http://e/>
+INSERT { ?x ex:loop ?x . ?x ex:q ?y } WHERE { ?x ex:p ?x }

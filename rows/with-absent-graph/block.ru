@@ -1,0 +1,2 @@
+PREFIX ex: <http://e/>
+WITH ex:n DELETE { ?s ex:p ?o } WHERE { ?s ex:p ?o }
