@@ -13,7 +13,8 @@ from toolchain import KIT, ROOT, free, guarded, text_of, words_to_try
 BUILD = f"{ROOT}/build"
 # the program as the toolchain's own loader starts it, which has the C library that it was linked with
 START = """#!/bin/sh
-exec {kit}/toolchain/lib/ld-linux-x86-64.so.2 --inhibit-cache --library-path {kit}/toolchain/lib "{at}/program" "$@"
+lib={kit}/toolchain/lib
+exec $lib/ld-linux-x86-64.so.2 --inhibit-cache --library-path $lib --argv0 sparql-block "{at}/program" "$@"
 """
 # bytes that compiling a crate and all below it takes
 MEMORY = 3_500_000_000
