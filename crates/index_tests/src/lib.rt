@@ -1,4 +1,5 @@
-//! Worked examples of quads in sorted orders, of sets of quads and of hints, beside plain filters.
+//! Worked examples of quads in sorted orders, of sets of quads, of shards and of hints, beside plain
+//! filters.
 //! It has tests alone.
 #![tactic(auto)]
 
@@ -10,3 +11,5 @@ mod quads;
 mod scans;
 #[cfg(test)]
 mod set_walks;
+#[cfg(test)]
+mod shard_parts;
