@@ -45,9 +45,9 @@ fn filtered(alloc: Global, quads: &[Quad<Id>], shard: u32) -> Result<Vec<Quad<Id
 fn change_of(alloc: Global) -> Result<Delta, AllocError> {
     let mut gone = Vec::new(alloc);
     gone.push(Id::Known(7))?;
-    let present = set_between(alloc, 0, 200)?;
-    let absent = set_between(alloc, 202, 205)?;
-    Delta::from_sets(alloc, present, absent, Vec::new(alloc), gone)
+    let present = quads_of(alloc, 0, 200)?;
+    let absent = quads_of(alloc, 202, 205)?;
+    Delta::from_parts(alloc, present, absent, Vec::new(alloc), gone)
 }
 
 // Whether what the change says in a shard is what a filter leaves of it.
@@ -76,10 +76,13 @@ fn a_change_is_cut_by_its_predicates(rt: HostRuntime) -> Result<(), AllocError> 
 }
 
 // A change of one quad, whose predicate has a number.
-fn change_of_one(alloc: Global, predicate: usize) -> Result<Delta, AllocError> {
-    let present = set_between(alloc, predicate, predicate + 1)?;
-    let absent = QuadSet::new(alloc);
-    Delta::from_sets(alloc, present, absent, Vec::new(alloc), Vec::new(alloc))
+fn change_of_one(alloc: Global, predicate: u32) -> Result<Delta, AllocError> {
+    let mut quad = quad_of(0);
+    quad.predicate = Id::Known(predicate);
+    let mut present = Vec::new(alloc);
+    present.push(quad)?;
+    let none = Vec::new(alloc);
+    Delta::from_parts(alloc, present, none, Vec::new(alloc), Vec::new(alloc))
 }
 
 #[test]
