@@ -7,6 +7,7 @@ On this machine alone, beside the toolchain: for an edit, the sum over all that 
 which a change of one function leaves the edits of the others as they are.
 """
 import contextlib
+import fcntl
 import hashlib
 import os
 import subprocess
@@ -53,17 +54,22 @@ class Seen:
     """The lines of `wrong-bodies.seen`."""
 
     def __init__(self):
+        self.sums, self.lock = self.read(), threading.Lock()
+
+    def read(self):
         lines = (text_of(f"{ROOT}/{SEEN}") or "").split("\n")
-        self.sums, self.lock = dict(it.split() for it in lines if it and not it.startswith("#")), threading.Lock()
+        return dict(it.split() for it in lines if it and not it.startswith("#"))
 
     def has(self, crate):
         return self.sums.get(crate.name) == sum_of_all(crate)
 
     def put(self, crate, found):
         """Notes the sum of a crate whose edits were all just refused, or, without one, that it has no line."""
-        with self.lock:
-            self.sums.pop(crate.name, None)
-            self.sums.update({crate.name: found} if found else {})
+        with self.lock, open(f"{ROOT}/bin/lib/refusals.py", "rb") as alone:
+            # another run may have put lines there meanwhile
+            fcntl.flock(alone, fcntl.LOCK_EX)
+            sums = {name: it for name, it in self.read().items() if name != crate.name}
+            self.sums = {**sums, **({crate.name: found} if found else {})}
             lines = [HEAD, *(f"{name} {it}" for name, it in sorted(self.sums.items()))]
             with open(f"{ROOT}/{SEEN}.new", "w", encoding="utf-8") as it:
                 it.write("\n".join(lines) + "\n")
