@@ -25,14 +25,17 @@ def with_those_below(crates):
 
 
 def take_kept(crates):
-    """Gives these libraries, of which each comes after those below it, what `rt ci` proved of the same texts on this
-    machine and keeps."""
-    kept = Kept(crates)
+    """Gives these crates, of which each comes after those below it, what `rt ci` proved of the same texts on this
+    machine and keeps. Returns those that were given it."""
+    kept, given = Kept(crates), []
     for crate in crates:
-        if is_built(crate):
+        if crate.makes_rlib() and is_built(crate):
             kept.note(crate)
         elif kept.give(crate):
-            print(f"{crate.name} is kept: rt ci proved the same on this machine", file=sys.stderr)
+            given.append(crate)
+    if given:
+        print(f"rt ci proved {len(given)} of these crates on this machine, which are kept", file=sys.stderr)
+    return given
 
 
 class Work:
@@ -149,16 +152,17 @@ def prove(crates, keeps):
     return not lost
 
 
-def build_program(crate, to):
-    """Proves a program whose libraries are built, and links it. Returns whether that went well; what was said is in the
-    crate's out/log. The sum of what it is built of stands beside it, in a file that ends in .stamp."""
+def build_program(crate, to, is_given):
+    """Proves a program whose libraries are built, and links it, unless what `rt ci` linked is given. Returns whether
+    that went well; what was said is in the crate's out/log. The sum of what it is built of stands beside it, in a file
+    that ends in .stamp."""
     mark, stamp, made = f"{to}.stamp", crate.stamp(), f"out/{crate.name}"
     if text_of(mark) == stamp and os.path.isfile(to):
         return True
     os.makedirs(f"{crate.folder}/out", exist_ok=True)
     with open(f"{crate.folder}/out/log", "w", errors="replace") as crate.out:
         jobs = ["--jobs", str(min(processors(), 4))]
-        if crate.compile(jobs, f"{made}.o") or crate.link(f"{made}.o", made):
+        if not is_given and (crate.compile(jobs, f"{made}.o") or crate.link(f"{made}.o", made)):
             return False
     shutil.copy(f"{crate.folder}/{made}", to)
     with open(mark, "w", encoding="utf-8") as it:
