@@ -196,3 +196,22 @@ def counter(requests):
     """Requests that each read and write one counter."""
     change = "DELETE { ex:a ex:count ?o } INSERT { ex:a ex:count ?next }"
     return [f"{change} WHERE {{ ex:a ex:count ?o . ?o ex:next ?next }}"] * requests
+
+
+def own_graph(graph):
+    """A graph of 250 quads: 125 subjects with a neighbour and a number each."""
+    for s in range(125):
+        subject, end = f"<http://e/s{s}>", f"<http://e/g{graph}> .\n"
+        yield f"{subject} <http://e/next> <http://e/s{(s * 7 + graph) % 125}> {end}"
+        yield f'{subject} <http://e/size> "{s}"^^{INTEGER} {end}'
+
+
+def own_graphs(requests):
+    """A graph for each request."""
+    return (line for graph in range(requests) for line in own_graph(graph))
+
+
+def changes_of_graphs(requests):
+    """Requests that each join, filter, delete and insert in a graph of their own."""
+    what = "WHERE { ?s ex:next ?t . ?t ex:size ?n FILTER(?n < 20) }"
+    return (f"WITH ex:g{at} DELETE {{ ?s ex:next ?t }} INSERT {{ ?s ex:near ?t }} {what}" for at in range(requests))

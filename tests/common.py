@@ -6,11 +6,14 @@ import os
 ROOT = os.path.dirname(os.path.dirname(os.path.realpath(__file__)))
 
 
-def arguments(about):
-    """The command line: the program's path, and whether all is tried."""
+def arguments(about, **numbers):
+    """The command line: the program's path, whether all is tried, and for each of these names, with its help, a
+    number where it is given."""
     it = argparse.ArgumentParser(description=about, formatter_class=argparse.RawDescriptionHelpFormatter)
     it.add_argument("program", nargs="?", default=f"{ROOT}/build/sparql-block", help="its path, by default %(default)s")
     it.add_argument("--all", action="store_true", help="try all; by default a part of it, the same each time")
+    for name, text in numbers.items():
+        it.add_argument(f"--{name}", type=int, metavar="N", help=text)
     given = it.parse_args()
     given.program = os.path.realpath(given.program)
     if not os.access(given.program, os.X_OK):

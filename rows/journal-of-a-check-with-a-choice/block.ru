@@ -1,5 +1,8 @@
-DELETE DATA { <x:a> <x:p> <x:b> }
+PREFIX ex: <http://e/>
+DELETE DATA { ex:a ex:p ex:b }
 ----
-INSERT DATA { <x:a> <x:p> <x:b> }
+PREFIX ex: <http://e/>
+INSERT DATA { ex:a ex:p ex:b }
 ----
-INSERT { ?s <x:q> ?o } WHERE { ?s <x:p> ?o }
+PREFIX ex: <http://e/>
+INSERT { ?s ex:q ?o } WHERE { ?s ex:p ?o }

@@ -1,6 +1,6 @@
 -- Which reads are near a request: a run that reads only these conflicts with another only where
 -- their quads meet.
-use Rattle.std.specs.Prelude.{Bool, true, false, ◌&&◌, ◌||◌, List, Option, Some, None, is_none}
+use Rattle.std.specs.Prelude.{Bool, true, false, not, ◌&&◌, ◌||◌, List, Option, Some, None, is_none, is_some}
 use Rattle.std.specs.List.{list_any}
 use Rattle.std.specs.Option.{option_map, option_cmp}
 use Rattle.std.specs.declared.cmp.Ordering.{Ordering}
@@ -34,6 +34,26 @@ asks_names (Minus a b) = asks_names a || asks_names b
 asks_names (Filter es a) = asks_names a
 asks_names (InGraph (place.Term t) a) = asks_names a
 asks_names (InGraph (place.Variable v) a) = true
+
+-- whether the graph place is free
+abbrev pub is_any : {K : Type 0} → GraphPlace K → Bool
+is_any Any = true
+is_any (Only g) = false
+
+-- a scan of all quads: each of the four places is free
+abbrev pub is_free : {K : Type 0} → QuadPattern K → Bool
+is_free p = is_none p.subject && (is_none p.predicate && (is_none p.object && is_any p.graph))
+
+-- a question for one quad: each of the four places is bound
+abbrev pub is_bound : {K : Type 0} → QuadPattern K → Bool
+is_bound p = is_some p.subject && (is_some p.predicate && (is_some p.object && not (is_any p.graph)))
+
+-- a read for more graphs than one: of all quads, of all names, or whether one quad or one name is
+-- there
+abbrev pub is_of_graphs : {K : Type 0} → Read K → Bool
+is_of_graphs (Scan p) = is_free p || is_bound p
+is_of_graphs (GraphIs g) = true
+is_of_graphs Graphs = true
 
 module _ {K : Type 0} (R : K → K → Ordering) where
   -- whether the name of a graph is written where the pattern goes into a graph
@@ -105,7 +125,7 @@ module _ {K : Type 0} (R : K → K → Ordering) where
   is_near_inserted ts (GraphIs g) = list_any (λ t. is_graph_written t.graph (Only (Some g))) ts
   is_near_inserted ts Graphs = false
 
-  -- ---- operations on graphs: quads and the name of a graph, or any quads and all names
+  -- ---- operations on graphs: quads and the name of a graph, or all quads and all names
 
   abbrev pub is_only : Option K → GraphPlace K → Bool
   is_only g Any = false
@@ -119,8 +139,8 @@ module _ {K : Type 0} (R : K → K → Ordering) where
   abbrev pub is_near_target : Target K → Read K → Bool
   is_near_target (target.Graph g) read = is_of_graph (Some g) read
   is_near_target target.Default read = is_of_graph None read
-  is_near_target target.Named read = true
-  is_near_target target.All read = true
+  is_near_target target.Named read = is_of_graphs read
+  is_near_target target.All read = is_of_graphs read
 
   abbrev pub is_near_graphs : GraphOperation K → Read K → Bool
   is_near_graphs (graphs.Create g) read = is_of_graph (Some g) read

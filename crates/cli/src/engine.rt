@@ -6,7 +6,7 @@ ghost use Rattle.dict.specs.Dictionary.{term_of, is_known};
 ghost use Rattle.meaning_laws.specs.Renaming.{renamed, dataset_known};
 ghost use Rattle.engines.specs.Failures.{is_unread, is_unwritten, FailedIf, OneFailedIf};
 ghost use Rattle.engines.specs.Inputs.{IsFaultOf};
-ghost use Rattle.engines.specs.Outputs.{IfBoth, Wrote, WroteInPart, taken};
+ghost use Rattle.engines.specs.Outputs.{IfBoth, IfTouched, Wrote, WroteInPart, taken};
 
 use canonical_nquads::canonical_pieces_by;
 use command_line::{Fault, File};
@@ -111,10 +111,10 @@ impl<'r, T: Threads + Wait + Sync> Runs for Workers<'r, T> {
 
 /// Reads a base and a block, runs the block by this many workers, and writes the canonical text of
 /// the new dataset and one line a request. The base is read before the block, and all texts are
-/// made before a writer is touched; then the dataset and the replies are written in this order,
-/// each flushed, also where it is empty. Workers are from 1 to 64, each on a thread of its own
-/// where one can be had, and change nothing in the answer. A fault is the first that comes: of the
-/// base, of the block, want of memory, or of a writer.
+/// made before a writer is touched; then the dataset is written and flushed, and then the replies
+/// are, each also where it is empty. Workers are from 1 to 64, each on a thread of its own where
+/// one can be had, and change nothing in the answer. A fault is the first that comes: of the base,
+/// of the block, want of memory, or of a writer.
 pub fn run_engine<T: Threads + Wait + Sync, B: Read, K: Read, D: Write, A: Write>(
     rt: &T,
     alloc: Global,
@@ -137,6 +137,8 @@ pub fn run_engine<T: Threads + Wait + Sync, B: Read, K: Read, D: Write, A: Write
     // Both texts were flushed, also where they are empty.
     ensures flushed { OnOk result ((dataset.new.is_flushed ≡ true)
         × (replies.new.is_flushed ≡ true)) }
+    // The replies are touched only once the dataset is flushed.
+    ensures in_turn { IfTouched replies.old replies.new (dataset.new.is_flushed ≡ true) }
     // After a failed write the texts before it are whole, and of its own a beginning was written.
     ensures part { IsErrOf result (Fault.CannotWrite File.Answer)
         → IfBoth (B.remaining base.old.inner) (K.remaining block.old.inner)

@@ -13,4 +13,5 @@ mod recorded;
 pub use command_line::{Fault, File, Job, LineFault, Message, read_job};
 pub use engine::run_engine;
 pub use engines::{InFile, OutFile, check_engine, replay_engine, serial_engine};
+pub use pool::{Gate, Open};
 pub use recorded::run_with_journal_engine;

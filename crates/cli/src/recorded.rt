@@ -1,13 +1,13 @@
 //! The engine of the command `run` with a journal.
-ghost use Rattle.std.specs.Prelude.{◌≡◌, ◌≢◌, ◌<◌, ◌≤◌, ◌-◌, ◌^◌, ℕ, true, length, IfOk, IfErr, IfSome, OnOk, IsErrOf, string_bytes};
+ghost use Rattle.std.specs.Prelude.{◌≡◌, ◌≢◌, ◌<◌, ◌≤◌, ◌-◌, ◌^◌, true, length, IfOk, IfErr, IfSome, OnOk, IsErrOf, string_bytes};
 ghost use Rattle.canonical_nquads.specs.Canonical.{text_of_pieces};
 ghost use Rattle.engines.specs.Failures.{is_unread, is_unwritten, is_journal_unwritten, FailedIf, OneFailedIf};
 ghost use Rattle.update.specs.Asked.{AreShort};
-ghost use Rattle.engines.specs.Journals.{IsJournalAt, IsJournalOf};
-ghost use Rattle.cli.specs.Journals.{IsFaultWithJournal, WroteJournal, WroteJournalInPart};
-ghost use Rattle.engines.specs.Outputs.{IfBoth, IsAnswerTo, IsWhole, Wrote, WroteInPart, taken};
+ghost use Rattle.cli.specs.Journals.{IsFaultWithJournal, IsRecord, IsRecordAt, IsRecordOf, WroteJournal, WroteJournalInPart};
+ghost use Rattle.engines.specs.Outputs.{IfBoth, IfTouched, IsAnswerTo, Wrote, WroteInPart, taken};
 
 use crate::engine::Workers;
+use book::Book;
 use command_line::{Fault, File};
 use delta::Outcome;
 use devices::Watched;
@@ -17,7 +17,7 @@ use engines::{
 use journal::write_lines;
 use numbering::Numbered;
 use numbering::laws::carries_block;
-use pool::{Open, run_book};
+use pool::{Gate, run_book};
 use replay::lines_of;
 use rules::Block;
 use std::alloc::{AllocError, Global};
@@ -40,42 +40,52 @@ struct RecordTexts {
     journal: Vec<u8>,
 }
 
-/// Runs a block by this many workers, from 1 to 64, and makes the text of the journal.
-fn recorded<T: Threads + Wait + Sync>(
+/// What a book comes to, and the text of its journal, with the tag of its base. An `Err` is want of
+/// memory.
+fn record_of(alloc: Global, book: Book<'_>, tag: u32) -> Result<Record, AllocError>
+    ensures { IfOk result (λ r. IsRecordOf book.entry tag r.outcome r.journal.items) }
+{
+    let found = book.outcome(alloc);
+    let printed = lines_of(alloc, &book);
+    drop(book);
+    let (outcome, lines) = (found?, printed?);
+    let journal = write_lines(alloc, lines.as_slice(), tag)?;
+    Ok(Record { outcome, journal })
+}
+
+/// Runs a block by this many workers, from 1 to 64, and makes the text of the journal. The gate
+/// sees each event.
+fn recorded<T: Threads + Wait + Sync, G: Gate + Sync>(
     rt: &T,
     alloc: Global,
     numbered: &Numbered,
     workers: u32,
+    gate: &G,
 ) -> Result<Record, AllocError>
     requires some { 0 < workers }
     requires most { workers ≤ 64 }
     requires few { length numbered.now.block.items < 2 ^ 32 }
     requires short { AreShort numbered.now.block.items }
-    ensures outcome { IfOk result (λ r. IsWhole numbered.now.base.terms numbered.now.base.dataset
-        numbered.now.block.items r.outcome.dataset r.outcome.replies) }
-    ensures journal { IfOk result (λ r. (front : ℕ) × (length numbered.now.block.items ≤ front)
-        × IsJournalAt numbered.now.base numbered.now.block.items r.journal.items front) }
+    ensures { IfOk result (λ r. IsRecordAt numbered.now.base numbered.now.block.items r.outcome
+        r.journal.items) }
 {
     let (base, block) = (&numbered.base, numbered.block.as_slice());
     let (terms, dataset) = (base.terms(), base.dataset());
-    let book = run_book(rt, alloc, terms, dataset, block, workers, &Open)?;
+    let book = run_book(rt, alloc, terms, dataset, block, workers, gate)?;
     // (for the proof: it is a history)
     let _journal = book.journal();
-    let found = book.outcome(alloc);
-    let printed = lines_of(alloc, &book);
-    drop(book);
-    let (outcome, lines) = (found?, printed?);
-    let journal = write_lines(alloc, lines.as_slice(), base.tag())?;
-    Ok(Record { outcome, journal })
+    let pair = record_of(alloc, book, base.tag())?;
+    Ok(pair)
 }
 
 /// The texts of the answer to a base and a block, and that of the journal of their run.
-fn texts_with_journal<T: Threads + Wait + Sync>(
+fn texts_with_journal<T: Threads + Wait + Sync, G: Gate + Sync>(
     rt: &T,
     alloc: Global,
     base: DataSet,
     block: Block,
     workers: u32,
+    gate: &G,
 ) -> Result<RecordTexts, AllocError>
     requires some { 0 < workers }
     requires most { workers ≤ 64 }
@@ -83,24 +93,26 @@ fn texts_with_journal<T: Threads + Wait + Sync>(
     requires short { AreShort block }
     ensures answer { IfOk result (λ texts. IsAnswerTo base block
         (text_of_pieces texts.answer.dataset.items) (string_bytes texts.answer.replies)) }
-    ensures journal { IfOk result (λ texts. (front : ℕ) × (length block ≤ front)
-        × IsJournalOf base block texts.journal.items front) }
+    ensures history { IfOk result (λ texts. IsRecord base block
+        (text_of_pieces texts.answer.dataset.items) (string_bytes texts.answer.replies)
+        texts.journal.items) }
 {
     carries_block();
     let _parts = base.parts();
     let way = Workers { rt, count: workers };
     let numbered = way.number(alloc, base, block)?;
-    let Record { outcome, journal } = recorded(rt, alloc, &numbered, workers)?;
+    let Record { outcome, journal } = recorded(rt, alloc, &numbered, workers, gate)?;
     let answer = texts_of_outcome(&way, alloc, numbered, outcome)?;
     Ok(RecordTexts { answer, journal })
 }
 
 /// Reads a base and a block, runs the block by this many workers, and writes the canonical text of
 /// the new dataset, one line a request, and the journal of the run. The base is read before the
-/// block, and all texts are made before a writer is touched; then the dataset, the replies and the
-/// journal are written in this order, each flushed, also where it is empty. Workers are from 1 to
-/// 64, each on a thread of its own where one can be had, and change nothing in the answer. A fault
-/// is the first that comes: of the base, of the block, want of memory, or of a writer.
+/// block, and all texts are made before a writer is touched; then the dataset is written and
+/// flushed, then the replies are, and then the journal is, each also where it is empty. Workers are
+/// from 1 to 64, each on a thread of its own where one can be had, and change nothing in the
+/// answer. The gate sees each event of the run. A fault is the first that comes: of the base, of
+/// the block, want of memory, or of a writer.
 pub fn run_with_journal_engine<
     T: Threads + Wait + Sync,
     B: Read,
@@ -108,6 +120,7 @@ pub fn run_with_journal_engine<
     D: Write,
     A: Write,
     J: Write,
+    G: Gate + Sync,
 >(
     rt: &T,
     alloc: Global,
@@ -117,6 +130,7 @@ pub fn run_with_journal_engine<
     replies: &mut Watched<A>,
     journal: &mut Watched<J>,
     workers: u32,
+    gate: &G,
 ) -> Result<(), Fault>
     requires base { base.old.failures < 2 ^ 64 - 1 }
     requires block { block.old.failures < 2 ^ 64 - 1 }
@@ -129,12 +143,19 @@ pub fn run_with_journal_engine<
     ensures answer { OnOk result (IfBoth (B.remaining base.old.inner) (K.remaining block.old.inner)
         (λ b k. Wrote b k (taken D.contents dataset.old.inner dataset.new.inner)
         (taken A.contents replies.old.inner replies.new.inner))) }
-    // And the journal is of a run of the whole block.
+    // And the three texts are of one history, which commits the whole block.
     ensures journal { OnOk result (IfBoth (B.remaining base.old.inner) (K.remaining block.old.inner)
-        (λ b k. WroteJournal b k (taken J.contents journal.old.inner journal.new.inner))) }
+        (λ b k. WroteJournal b k (taken D.contents dataset.old.inner dataset.new.inner)
+        (taken A.contents replies.old.inner replies.new.inner)
+        (taken J.contents journal.old.inner journal.new.inner))) }
     // All texts were flushed, also where they are empty.
     ensures flushed { OnOk result ((dataset.new.is_flushed ≡ true) × (replies.new.is_flushed ≡ true)
         × (journal.new.is_flushed ≡ true)) }
+    // The replies are touched only once the dataset is flushed.
+    ensures in_turn { IfTouched replies.old replies.new (dataset.new.is_flushed ≡ true) }
+    // And the journal once both are.
+    ensures journal_in_turn { IfTouched journal.old journal.new
+        ((dataset.new.is_flushed ≡ true) × (replies.new.is_flushed ≡ true)) }
     // After a failed write the texts before it are whole, and of its own a beginning was written.
     ensures part { IsErrOf result (Fault.CannotWrite File.Answer)
         → IfBoth (B.remaining base.old.inner) (K.remaining block.old.inner)
@@ -146,7 +167,9 @@ pub fn run_with_journal_engine<
         (taken A.contents replies.old.inner replies.new.inner)) }
     ensures journal_part { IsErrOf result (Fault.CannotWrite File.Journal)
         → IfBoth (B.remaining base.old.inner) (K.remaining block.old.inner)
-        (λ b k. WroteJournalInPart b k (taken J.contents journal.old.inner journal.new.inner)) }
+        (λ b k. WroteJournalInPart b k (taken D.contents dataset.old.inner dataset.new.inner)
+        (taken A.contents replies.old.inner replies.new.inner)
+        (taken J.contents journal.old.inner journal.new.inner)) }
     // Any other fault comes before a writer is touched, and one of the answer's before that of the
     // journal is.
     ensures untouched { IfErr result (λ fault. fault ≢ Fault.CannotWrite File.Answer
@@ -169,7 +192,7 @@ pub fn run_with_journal_engine<
 {
     let read = read_base_by(rt, alloc, base, workers)?;
     let requests = read_block_by(rt, alloc, block, workers)?;
-    let Ok(texts) = texts_with_journal(rt, alloc, read, requests, workers) else {
+    let Ok(texts) = texts_with_journal(rt, alloc, read, requests, workers, gate) else {
         return Err(Fault::Memory);
     };
     let RecordTexts {

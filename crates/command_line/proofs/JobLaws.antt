@@ -1,7 +1,7 @@
 -- From what `clap` says of a parse to the answer of a command line.
-use Rattle.std.proofs.Common.{◌≡◌, ◌⊎◌, ◌∙◌, ◌<◌, ◌≤◌, ℕ, true, List, [], ◌∷◌, Option, Some, None, rules, refl, sym, ap, ap₂, subst, length, ◌^◌, inl, inr, arith, codes}
+use Rattle.std.proofs.Common.{◌≡◌, ◌⊎◌, ◌∙◌, ◌<◌, ◌≤◌, ℕ, true, List, [], ◌∷◌, Option, Some, None, refl, sym, ap, ap₂, subst, length, ◌^◌, inl, inr, arith, codes}
 use Rattle.std.specs.Box.{box_value}
-use Rattle.std.specs.Prelude.{◌≢◌, Box, option_map, Result, Ok, Err, string_bytes, unwrap_or}
+use Rattle.std.specs.Prelude.{◌≢◌, Box, option_map, Result, Ok, Err, unwrap_or}
 use Rattle.std.specs.Str.Parse.{ParsesUnsigned}
 use Rattle.clap.specs.Words.{App, Row, Text, first_of, one_of, first_value, one_text, found_of, rows_of, kind_of, is_simple, is_simple_and_free, subcommand_name_of, subcommand_of, subcommand_rows, subcommand_rows_of, fault_of, HasKind, IsAmong, Kinds, matches_of}
 use Rattle.clap.specs.Matches.{ReadsOne}
@@ -17,8 +17,10 @@ use Rattle.clap.proofs.WalkLemmas.{first_value-rows, one_text-rows}
 use Rattle.command_line.specs.declared.fault.LineFault.{LineFault}
 use Rattle.command_line.specs.declared.fault.LineFault.TheVariants.{Memory, Help, Wrong}
 use Rattle.command_line.specs.declared.job.Job.{Job}
-use Rattle.command_line.specs.declared.job.Job.TheVariants.{Run, Serial, Replay, Check}
-use Rattle.command_line.specs.CommandLine.{program, IsWorkers, IsAsked, IsFileAnswer, IsWorkersAnswer, IsJournalAnswer, IsCommandAnswer, IsToldAs, IsAnswer}
+use Rattle.command_line.specs.declared.words.JobWords.{JobWords}
+use Rattle.command_line.specs.declared.words.Mistake.{Mistake}
+use Rattle.command_line.specs.CommandLine as words
+use Rattle.command_line.specs.CommandLine.{program, Words, words_of, words_in, IsWorkers, IsAsked, IsFileAnswer, IsWorkersAnswer, IsCommandAnswer, IsMatchAnswer, IsToldAs, IsAnswer}
 
 simple : is_simple program ≡ true
 unfolding clap_on_literals
@@ -53,166 +55,124 @@ serial_is_not_replay e = let bad : 115 ≡ 114 = ap first_letter e in absurd (om
 replay_is_not_check : codes "replay" ≡ codes "check" → ⊥
 replay_is_not_check e = let bad : 6 ≡ 5 = ap length e in absurd (omega (arith, bad))
 
--- a file that is not named
-pub file_missing : (text : Option Text) (f : LineFault) → IsToldAs InvalidValue f → text ≡ None → IsFileAnswer text (Err f)
-file_missing text Memory told e = search rules
-file_missing text (Help m) told e = absurd (no_help told)
-file_missing text (Wrong m) told e = e
-
--- a number that is not read, or not from 1 to 64
-pub workers_wrong : (text : Option Text) (f : LineFault) → IsToldAs InvalidValue f → ((n : ℕ) → IsWorkers text n → ⊥) → IsWorkersAnswer text (Err f)
-workers_wrong text Memory told none = search rules
-workers_wrong text (Help m) told none = absurd (no_help told)
-workers_wrong text (Wrong m) told none = none
-
-pub base_fails : (rows : List Row) (f : LineFault) → IsFileAnswer (first_of (codes "BASE") rows) (Err f) → IsCommandAnswer (codes "run") rows (Err f)
-base_fails rows Memory a = search rules
-base_fails rows (Help m) a = absurd a
-base_fails rows (Wrong m) a = no
+pub base_fails : (rows : List Row) (m : Mistake) → IsFileAnswer (first_of (codes "BASE") rows) (Err m) → IsCommandAnswer (codes "run") rows (Err m)
+base_fails rows m a = no
   where
-    no : (j : Job) → IsAsked (codes "run") rows j → ⊥
-    no (Run b k o w l) h = let bad : None ≡ Some (string_bytes b) = sym a ∙ h.1 in cc
-    no (Serial b k o) h = absurd (run_is_not_serial h.0)
-    no (Replay b k l o) h = absurd (run_is_not_replay h.0)
-    no (Check k) h = absurd (run_is_not_check h.0)
+    no : (w : Words) → IsAsked (codes "run") rows w → ⊥
+    no (words.run b k o w l) h = let bad : None ≡ Some b = sym a ∙ h.1 in cc
+    no (words.serial b k o) h = absurd (run_is_not_serial h.0)
+    no (words.replay b k l o) h = absurd (run_is_not_replay h.0)
+    no (words.check k) h = absurd (run_is_not_check h.0)
 
-pub block_fails : (rows : List Row) (f : LineFault) → IsFileAnswer (first_of (codes "BLOCK") rows) (Err f) → IsCommandAnswer (codes "run") rows (Err f)
-block_fails rows Memory a = search rules
-block_fails rows (Help m) a = absurd a
-block_fails rows (Wrong m) a = no
+pub block_fails : (rows : List Row) (m : Mistake) → IsFileAnswer (first_of (codes "BLOCK") rows) (Err m) → IsCommandAnswer (codes "run") rows (Err m)
+block_fails rows m a = no
   where
-    no : (j : Job) → IsAsked (codes "run") rows j → ⊥
-    no (Run b k o w l) h = let bad : None ≡ Some (string_bytes k) = sym a ∙ h.2 in cc
-    no (Serial b k o) h = absurd (run_is_not_serial h.0)
-    no (Replay b k l o) h = absurd (run_is_not_replay h.0)
-    no (Check k) h = absurd (run_is_not_check h.0)
+    no : (w : Words) → IsAsked (codes "run") rows w → ⊥
+    no (words.run b k o w l) h = let bad : None ≡ Some k = sym a ∙ h.2 in cc
+    no (words.serial b k o) h = absurd (run_is_not_serial h.0)
+    no (words.replay b k l o) h = absurd (run_is_not_replay h.0)
+    no (words.check k) h = absurd (run_is_not_check h.0)
 
-pub out_fails : (rows : List Row) (f : LineFault) → IsFileAnswer (first_of (codes "OUT") rows) (Err f) → IsCommandAnswer (codes "run") rows (Err f)
-out_fails rows Memory a = search rules
-out_fails rows (Help m) a = absurd a
-out_fails rows (Wrong m) a = no
+pub out_fails : (rows : List Row) (m : Mistake) → IsFileAnswer (first_of (codes "OUT") rows) (Err m) → IsCommandAnswer (codes "run") rows (Err m)
+out_fails rows m a = no
   where
-    no : (j : Job) → IsAsked (codes "run") rows j → ⊥
-    no (Run b k o w l) h = let bad : None ≡ Some (string_bytes o) = sym a ∙ h.3 in cc
-    no (Serial b k o) h = absurd (run_is_not_serial h.0)
-    no (Replay b k l o) h = absurd (run_is_not_replay h.0)
-    no (Check k) h = absurd (run_is_not_check h.0)
+    no : (w : Words) → IsAsked (codes "run") rows w → ⊥
+    no (words.run b k o w l) h = let bad : None ≡ Some o = sym a ∙ h.3 in cc
+    no (words.serial b k o) h = absurd (run_is_not_serial h.0)
+    no (words.replay b k l o) h = absurd (run_is_not_replay h.0)
+    no (words.check k) h = absurd (run_is_not_check h.0)
 
-pub workers_fail : (rows : List Row) (f : LineFault) → IsWorkersAnswer (one_of (codes "workers") rows) (Err f) → IsCommandAnswer (codes "run") rows (Err f)
-workers_fail rows Memory a = search rules
-workers_fail rows (Help m) a = absurd a
-workers_fail rows (Wrong m) a = no
+pub workers_fail : (rows : List Row) (m : Mistake) → IsWorkersAnswer (one_of (codes "workers") rows) (Err m) → IsCommandAnswer (codes "run") rows (Err m)
+workers_fail rows m a = no
   where
-    no : (j : Job) → IsAsked (codes "run") rows j → ⊥
-    no (Run b k o w l) h = a w h.4
-    no (Serial b k o) h = absurd (run_is_not_serial h.0)
-    no (Replay b k l o) h = absurd (run_is_not_replay h.0)
-    no (Check k) h = absurd (run_is_not_check h.0)
+    no : (w : Words) → IsAsked (codes "run") rows w → ⊥
+    no (words.run b k o w l) h = a w h.4
+    no (words.serial b k o) h = absurd (run_is_not_serial h.0)
+    no (words.replay b k l o) h = absurd (run_is_not_replay h.0)
+    no (words.check k) h = absurd (run_is_not_check h.0)
 
-pub journal_fails : (rows : List Row) (f : LineFault) → IsJournalAnswer (first_of (codes "journal") rows) (Err f) → IsCommandAnswer (codes "run") rows (Err f)
-journal_fails rows Memory a = search rules
-journal_fails rows (Help m) a = absurd a
-journal_fails rows (Wrong m) a = absurd a
-
-pub serial_base_fails : (rows : List Row) (f : LineFault) → IsFileAnswer (first_of (codes "BASE") rows) (Err f) → IsCommandAnswer (codes "serial") rows (Err f)
-serial_base_fails rows Memory a = search rules
-serial_base_fails rows (Help m) a = absurd a
-serial_base_fails rows (Wrong m) a = no
+pub serial_base_fails : (rows : List Row) (m : Mistake) → IsFileAnswer (first_of (codes "BASE") rows) (Err m) → IsCommandAnswer (codes "serial") rows (Err m)
+serial_base_fails rows m a = no
   where
-    no : (j : Job) → IsAsked (codes "serial") rows j → ⊥
-    no (Run b k o w l) h = absurd (run_is_not_serial (sym h.0))
-    no (Serial b k o) h = let bad : None ≡ Some (string_bytes b) = sym a ∙ h.1 in cc
-    no (Replay b k l o) h = absurd (serial_is_not_replay h.0)
-    no (Check k) h = absurd (serial_is_not_check h.0)
+    no : (w : Words) → IsAsked (codes "serial") rows w → ⊥
+    no (words.run b k o w l) h = absurd (run_is_not_serial (sym h.0))
+    no (words.serial b k o) h = let bad : None ≡ Some b = sym a ∙ h.1 in cc
+    no (words.replay b k l o) h = absurd (serial_is_not_replay h.0)
+    no (words.check k) h = absurd (serial_is_not_check h.0)
 
-pub serial_block_fails : (rows : List Row) (f : LineFault) → IsFileAnswer (first_of (codes "BLOCK") rows) (Err f) → IsCommandAnswer (codes "serial") rows (Err f)
-serial_block_fails rows Memory a = search rules
-serial_block_fails rows (Help m) a = absurd a
-serial_block_fails rows (Wrong m) a = no
+pub serial_block_fails : (rows : List Row) (m : Mistake) → IsFileAnswer (first_of (codes "BLOCK") rows) (Err m) → IsCommandAnswer (codes "serial") rows (Err m)
+serial_block_fails rows m a = no
   where
-    no : (j : Job) → IsAsked (codes "serial") rows j → ⊥
-    no (Run b k o w l) h = absurd (run_is_not_serial (sym h.0))
-    no (Serial b k o) h = let bad : None ≡ Some (string_bytes k) = sym a ∙ h.2 in cc
-    no (Replay b k l o) h = absurd (serial_is_not_replay h.0)
-    no (Check k) h = absurd (serial_is_not_check h.0)
+    no : (w : Words) → IsAsked (codes "serial") rows w → ⊥
+    no (words.run b k o w l) h = absurd (run_is_not_serial (sym h.0))
+    no (words.serial b k o) h = let bad : None ≡ Some k = sym a ∙ h.2 in cc
+    no (words.replay b k l o) h = absurd (serial_is_not_replay h.0)
+    no (words.check k) h = absurd (serial_is_not_check h.0)
 
-pub serial_out_fails : (rows : List Row) (f : LineFault) → IsFileAnswer (first_of (codes "OUT") rows) (Err f) → IsCommandAnswer (codes "serial") rows (Err f)
-serial_out_fails rows Memory a = search rules
-serial_out_fails rows (Help m) a = absurd a
-serial_out_fails rows (Wrong m) a = no
+pub serial_out_fails : (rows : List Row) (m : Mistake) → IsFileAnswer (first_of (codes "OUT") rows) (Err m) → IsCommandAnswer (codes "serial") rows (Err m)
+serial_out_fails rows m a = no
   where
-    no : (j : Job) → IsAsked (codes "serial") rows j → ⊥
-    no (Run b k o w l) h = absurd (run_is_not_serial (sym h.0))
-    no (Serial b k o) h = let bad : None ≡ Some (string_bytes o) = sym a ∙ h.3 in cc
-    no (Replay b k l o) h = absurd (serial_is_not_replay h.0)
-    no (Check k) h = absurd (serial_is_not_check h.0)
+    no : (w : Words) → IsAsked (codes "serial") rows w → ⊥
+    no (words.run b k o w l) h = absurd (run_is_not_serial (sym h.0))
+    no (words.serial b k o) h = let bad : None ≡ Some o = sym a ∙ h.3 in cc
+    no (words.replay b k l o) h = absurd (serial_is_not_replay h.0)
+    no (words.check k) h = absurd (serial_is_not_check h.0)
 
-pub replay_base_fails : (rows : List Row) (f : LineFault) → IsFileAnswer (first_of (codes "BASE") rows) (Err f) → IsCommandAnswer (codes "replay") rows (Err f)
-replay_base_fails rows Memory a = search rules
-replay_base_fails rows (Help m) a = absurd a
-replay_base_fails rows (Wrong m) a = no
+pub replay_base_fails : (rows : List Row) (m : Mistake) → IsFileAnswer (first_of (codes "BASE") rows) (Err m) → IsCommandAnswer (codes "replay") rows (Err m)
+replay_base_fails rows m a = no
   where
-    no : (j : Job) → IsAsked (codes "replay") rows j → ⊥
-    no (Run b k o w l) h = absurd (run_is_not_replay (sym h.0))
-    no (Serial b k o) h = absurd (serial_is_not_replay (sym h.0))
-    no (Replay b k l o) h = let bad : None ≡ Some (string_bytes b) = sym a ∙ h.1 in cc
-    no (Check k) h = absurd (replay_is_not_check h.0)
+    no : (w : Words) → IsAsked (codes "replay") rows w → ⊥
+    no (words.run b k o w l) h = absurd (run_is_not_replay (sym h.0))
+    no (words.serial b k o) h = absurd (serial_is_not_replay (sym h.0))
+    no (words.replay b k l o) h = let bad : None ≡ Some b = sym a ∙ h.1 in cc
+    no (words.check k) h = absurd (replay_is_not_check h.0)
 
-pub replay_block_fails : (rows : List Row) (f : LineFault) → IsFileAnswer (first_of (codes "BLOCK") rows) (Err f) → IsCommandAnswer (codes "replay") rows (Err f)
-replay_block_fails rows Memory a = search rules
-replay_block_fails rows (Help m) a = absurd a
-replay_block_fails rows (Wrong m) a = no
+pub replay_block_fails : (rows : List Row) (m : Mistake) → IsFileAnswer (first_of (codes "BLOCK") rows) (Err m) → IsCommandAnswer (codes "replay") rows (Err m)
+replay_block_fails rows m a = no
   where
-    no : (j : Job) → IsAsked (codes "replay") rows j → ⊥
-    no (Run b k o w l) h = absurd (run_is_not_replay (sym h.0))
-    no (Serial b k o) h = absurd (serial_is_not_replay (sym h.0))
-    no (Replay b k l o) h = let bad : None ≡ Some (string_bytes k) = sym a ∙ h.2 in cc
-    no (Check k) h = absurd (replay_is_not_check h.0)
+    no : (w : Words) → IsAsked (codes "replay") rows w → ⊥
+    no (words.run b k o w l) h = absurd (run_is_not_replay (sym h.0))
+    no (words.serial b k o) h = absurd (serial_is_not_replay (sym h.0))
+    no (words.replay b k l o) h = let bad : None ≡ Some k = sym a ∙ h.2 in cc
+    no (words.check k) h = absurd (replay_is_not_check h.0)
 
-pub replay_journal_fails : (rows : List Row) (f : LineFault) → IsFileAnswer (first_of (codes "JOURNAL") rows) (Err f) → IsCommandAnswer (codes "replay") rows (Err f)
-replay_journal_fails rows Memory a = search rules
-replay_journal_fails rows (Help m) a = absurd a
-replay_journal_fails rows (Wrong m) a = no
+pub replay_journal_fails : (rows : List Row) (m : Mistake) → IsFileAnswer (first_of (codes "JOURNAL") rows) (Err m) → IsCommandAnswer (codes "replay") rows (Err m)
+replay_journal_fails rows m a = no
   where
-    no : (j : Job) → IsAsked (codes "replay") rows j → ⊥
-    no (Run b k o w l) h = absurd (run_is_not_replay (sym h.0))
-    no (Serial b k o) h = absurd (serial_is_not_replay (sym h.0))
-    no (Replay b k l o) h = let bad : None ≡ Some (string_bytes l) = sym a ∙ h.3 in cc
-    no (Check k) h = absurd (replay_is_not_check h.0)
+    no : (w : Words) → IsAsked (codes "replay") rows w → ⊥
+    no (words.run b k o w l) h = absurd (run_is_not_replay (sym h.0))
+    no (words.serial b k o) h = absurd (serial_is_not_replay (sym h.0))
+    no (words.replay b k l o) h = let bad : None ≡ Some l = sym a ∙ h.3 in cc
+    no (words.check k) h = absurd (replay_is_not_check h.0)
 
-pub replay_out_fails : (rows : List Row) (f : LineFault) → IsFileAnswer (first_of (codes "OUT") rows) (Err f) → IsCommandAnswer (codes "replay") rows (Err f)
-replay_out_fails rows Memory a = search rules
-replay_out_fails rows (Help m) a = absurd a
-replay_out_fails rows (Wrong m) a = no
+pub replay_out_fails : (rows : List Row) (m : Mistake) → IsFileAnswer (first_of (codes "OUT") rows) (Err m) → IsCommandAnswer (codes "replay") rows (Err m)
+replay_out_fails rows m a = no
   where
-    no : (j : Job) → IsAsked (codes "replay") rows j → ⊥
-    no (Run b k o w l) h = absurd (run_is_not_replay (sym h.0))
-    no (Serial b k o) h = absurd (serial_is_not_replay (sym h.0))
-    no (Replay b k l o) h = let bad : None ≡ Some (string_bytes o) = sym a ∙ h.4 in cc
-    no (Check k) h = absurd (replay_is_not_check h.0)
+    no : (w : Words) → IsAsked (codes "replay") rows w → ⊥
+    no (words.run b k o w l) h = absurd (run_is_not_replay (sym h.0))
+    no (words.serial b k o) h = absurd (serial_is_not_replay (sym h.0))
+    no (words.replay b k l o) h = let bad : None ≡ Some o = sym a ∙ h.4 in cc
+    no (words.check k) h = absurd (replay_is_not_check h.0)
 
-pub checked_block_fails : (rows : List Row) (f : LineFault) → IsFileAnswer (first_of (codes "BLOCK") rows) (Err f) → IsCommandAnswer (codes "check") rows (Err f)
-checked_block_fails rows Memory a = search rules
-checked_block_fails rows (Help m) a = absurd a
-checked_block_fails rows (Wrong m) a = no
+pub checked_block_fails : (rows : List Row) (m : Mistake) → IsFileAnswer (first_of (codes "BLOCK") rows) (Err m) → IsCommandAnswer (codes "check") rows (Err m)
+checked_block_fails rows m a = no
   where
-    no : (j : Job) → IsAsked (codes "check") rows j → ⊥
-    no (Run b k o w l) h = absurd (run_is_not_check (sym h.0))
-    no (Serial b k o) h = absurd (serial_is_not_check (sym h.0))
-    no (Replay b k l o) h = absurd (replay_is_not_check (sym h.0))
-    no (Check k) h = let bad : None ≡ Some (string_bytes k) = sym a ∙ h.1 in cc
+    no : (w : Words) → IsAsked (codes "check") rows w → ⊥
+    no (words.run b k o w l) h = absurd (run_is_not_check (sym h.0))
+    no (words.serial b k o) h = absurd (serial_is_not_check (sym h.0))
+    no (words.replay b k l o) h = absurd (replay_is_not_check (sym h.0))
+    no (words.check k) h = let bad : None ≡ Some k = sym a ∙ h.1 in cc
 
 -- a name of no command
-pub no_command : (name : Text) (rows : List Row) (f : LineFault) → (name ≡ codes "run" → ⊥) → (name ≡ codes "serial" → ⊥) → (name ≡ codes "replay" → ⊥) → (name ≡ codes "check" → ⊥) → IsToldAs InvalidValue f → IsCommandAnswer name rows (Err f)
-no_command name rows Memory run serial replay check told = search rules
-no_command name rows (Help m) run serial replay check told = absurd (no_help told)
-no_command name rows (Wrong m) run serial replay check told = no
+pub no_command : (name : Text) (rows : List Row) → (name ≡ codes "run" → ⊥) → (name ≡ codes "serial" → ⊥) → (name ≡ codes "replay" → ⊥) → (name ≡ codes "check" → ⊥)
+    → (w : Words) → IsAsked name rows w → ⊥
+no_command name rows is_run is_serial is_replay is_check = no
   where
-    no : (j : Job) → IsAsked name rows j → ⊥
-    no (Run b k o w l) h = run h.0
-    no (Serial b k o) h = serial h.0
-    no (Replay b k l o) h = replay h.0
-    no (Check k) h = check h.0
+    no : (w : Words) → IsAsked name rows w → ⊥
+    no (words.run b k o w l) h = is_run h.0
+    no (words.serial b k o) h = is_serial h.0
+    no (words.replay b k l o) h = is_replay h.0
+    no (words.check k) h = is_check h.0
 
 not_help : (ks : Kinds) → ks ≡ [] → ks ≢ DisplayHelp ∷ []
 not_help ks e h = let bad : [] ≡ DisplayHelp ∷ [] = sym e ∙ h in cc
@@ -236,7 +196,7 @@ parse_fails app is words e f kinds told = go f told
     has = subst (λ (a : App). is_simple_and_free a ≡ true → HasKind (fault_of a words) e) is kinds simple_and_free
 
     go : (f : LineFault) → IsToldAs (kind_of e) f → IsAnswer words (Err f)
-    go Memory t = search rules
+    go Memory t = absurd t
     go (Help m) t = elim has [
       | inl o ↦ let bad : OutOfMemory ≡ DisplayHelp = sym o ∙ t in cc
       | inr h ↦ subst (λ (k : ErrorKind). IsAmong k (fault_of program words)) t h
@@ -275,58 +235,49 @@ name_of_rows m = go (out-ArgMatches m).subcommand
     go None = refl
     go (Some b) = refl
 
+-- the command that is named
+pub match_named : (m : ArgMatches) (name : Text) (rows : List Row) (r : Result JobWords Mistake) → Some name ≡ subcommand_name_of m
+    → Some rows ≡ option_map (λ p. p.1) (subcommand_rows_of m) → IsCommandAnswer name rows r → IsMatchAnswer (subcommand_rows_of m) r
+match_named m name rows r called found a = go r a
+  where
+    own : subcommand_rows_of m ≡ Some (name, rows)
+    own = named (subcommand_rows_of m) name rows (called ∙ name_of_rows m) found
+
+    go : (r : Result JobWords Mistake) → IsCommandAnswer name rows r → IsMatchAnswer (subcommand_rows_of m) r
+    go (Ok w) h = (name, rows, own, h)
+    go (Err e) h = λ n rs w is asked. h w (
+        subst (λ (x : Text). IsAsked x rows w) (same_names _ name n rows rs own is)
+        (subst (λ (x : List Row). IsAsked n x w) (same_rows _ name n rows rs own is) asked)
+        )
+
 none_some : (o : Option (Text × List Row)) (x : Text × List Row) → o ≡ None → o ≡ Some x → ⊥
 none_some o x e h = let bad : None ≡ Some x = sym e ∙ h in cc
 
--- a parse that enters a command
-pub parse_enters : (app : App) → app ≡ program → (words : List Text) (m : ArgMatches) (name : Text) (rows : List Row) (r : Result Job LineFault)
-    → (is_simple_and_free app ≡ true → fault_of app words ≡ [])
-    → (is_simple app ≡ true → (rows_of (found_of m) ≡ matches_of app words) × (subcommand_rows_of m ≡ subcommand_of app words))
-    → Some name ≡ subcommand_name_of m
-    → Some rows ≡ option_map (λ p. p.1) (subcommand_rows_of m) → IsCommandAnswer name rows r → IsAnswer words r
-parse_enters app is words m name rows r kinds matches called found a = go r a
-  where
-    free : fault_of program words ≡ []
-    free = subst (λ (x : App). is_simple_and_free x ≡ true → fault_of x words ≡ []) is kinds simple_and_free
+-- and where none is
+pub match_unnamed : (m : ArgMatches) (e : Mistake) → None ≡ option_map (λ p. p.1) (subcommand_rows_of m) → IsMatchAnswer (subcommand_rows_of m) (Err e)
+match_unnamed m e found n rs w is asked = none_some (subcommand_rows_of m) (n, rs) (unnamed (subcommand_rows_of m) found) is
 
-    entered : subcommand_rows_of m ≡ subcommand_of program words
-    entered = (matches (ap is_simple is ∙ simple)).1 ∙ ap (λ (x : App). subcommand_of x words) is
+module _ (app : App) (is : app ≡ program) (words : List Text) (m : ArgMatches)
+    (kinds : is_simple_and_free app ≡ true → fault_of app words ≡ [])
+    (matches : is_simple app ≡ true → (rows_of (found_of m) ≡ matches_of app words) × (subcommand_rows_of m ≡ subcommand_of app words)) where
+  free : fault_of program words ≡ []
+  free = subst (λ (x : App). is_simple_and_free x ≡ true → fault_of x words ≡ []) is kinds simple_and_free
 
-    own : subcommand_of program words ≡ Some (name, rows)
-    own = named (subcommand_of program words) name rows
-        (called ∙ name_of_rows m ∙ ap (option_map (λ p. p.0)) entered)
-        (found ∙ ap (option_map (λ p. p.1)) entered)
+  entered : subcommand_rows_of m ≡ subcommand_of program words
+  entered = (matches (ap is_simple is ∙ simple)).1 ∙ ap (λ (x : App). subcommand_of x words) is
 
-    go : (r : Result Job LineFault) → IsCommandAnswer name rows r → IsAnswer words r
-    go (Ok j) h = (free, (name, rows, own, h))
-    go (Err Memory) h = search rules
-    go (Err (Help t)) h = absurd h
-    go (Err (Wrong t)) h = (
-      not_help (fault_of program words) free,
-      λ none j job. h j (subst (λ (n : Text). IsAsked n rows j) (same_names _ name job.0 rows job.1 own job.2)
-          (subst (λ (x : List Row). IsAsked job.0 x j) (same_rows _ name job.0 rows job.1 own job.2) job.3)),
-    )
+  -- a parse that gives the words of a job
+  pub parse_gives : (w : JobWords) (j : Job) → IsMatchAnswer (subcommand_rows_of m) (Ok w) → words_of j ≡ words_in w → IsAnswer words (Ok j)
+  parse_gives w j a same = (free, (a.0, a.1, sym entered ∙ a.2, subst (λ (x : Words). IsAsked a.0 a.1 x) (sym same) a.3))
 
--- a parse that enters none
-pub parse_enters_none : (app : App) → app ≡ program → (words : List Text) (m : ArgMatches) (f : LineFault)
-    → (is_simple_and_free app ≡ true → fault_of app words ≡ [])
-    → (is_simple app ≡ true → (rows_of (found_of m) ≡ matches_of app words) × (subcommand_rows_of m ≡ subcommand_of app words))
-    → None ≡ option_map (λ p. p.1) (subcommand_rows_of m) → IsToldAs InvalidValue f → IsAnswer words (Err f)
-parse_enters_none app is words m f kinds matches found told = go f told
-  where
-    entered : subcommand_rows_of m ≡ subcommand_of program words
-    entered = (matches (ap is_simple is ∙ simple)).1 ∙ ap (λ (x : App). subcommand_of x words) is
-
-    free : fault_of program words ≡ []
-    free = subst (λ (x : App). is_simple_and_free x ≡ true → fault_of x words ≡ []) is kinds simple_and_free
-
-    nothing : subcommand_of program words ≡ None
-    nothing = unnamed (subcommand_of program words) (found ∙ ap (option_map (λ p. p.1)) entered)
-
-    go : (f : LineFault) → IsToldAs InvalidValue f → IsAnswer words (Err f)
-    go Memory t = search rules
-    go (Help m) t = absurd (no_help t)
-    go (Wrong m) t = (not_help (fault_of program words) free, λ none j job. none_some (subcommand_of program words) (job.0, job.1) nothing job.2)
+  -- and one that gives none
+  pub parse_lacks : (e : Mistake) (f : LineFault) → IsMatchAnswer (subcommand_rows_of m) (Err e) → IsToldAs InvalidValue f → IsAnswer words (Err f)
+  parse_lacks e f a told = go f told
+    where
+      go : (f : LineFault) → IsToldAs InvalidValue f → IsAnswer words (Err f)
+      go Memory t = absurd t
+      go (Help n) t = absurd (no_help t)
+      go (Wrong n) t = (not_help (fault_of program words) free, λ none j job. a job.0 job.1 (words_of j) (entered ∙ job.2) job.3)
 
 pub word_is : (f : Found) (id : Text) → first_value f id ≡ first_of id (rows_of f)
 word_is f id = first_value-rows f id

@@ -1,8 +1,8 @@
 -- The command line, as `clap` reads it: `sparql-block run BASE BLOCK OUT [--workers N] [--journal
 -- FILE]`, `sparql-block serial BASE BLOCK OUT`, `sparql-block replay BASE BLOCK JOURNAL OUT` or
 -- `sparql-block check BLOCK`.
-use Rattle.std.specs.Prelude.{◌≡◌, ◌≢◌, ◌≤◌, ⊤, true, ℕ, List, [], ◌∷◌, Option, Some, None, Result, Ok, Err, codes, pos, option_map, String, string_bytes}
-use Rattle.std.specs.declared.alloc.Global.{Global}
+use Rattle.std.specs.Prelude.{◌≡◌, ◌≢◌, ◌≤◌, ⊤, true, ℕ, List, [], ◌∷◌, Option, Some, None, Result, Ok, Err, codes, pos, option_map, string_bytes}
+use Rattle.std.specs.Borrow.{Bor}
 use Rattle.std.specs.Str.Parse.{IsNumeral, digits_value, without_leading_plus}
 use Rattle.clap.specs.Words.{App, Row, Rule, Shape, Text, new_app, new_rule, with_rule, with_subcommand, first_of, one_of, subcommand_of, fault_of, IsAmong}
 use Rattle.clap.specs.declared.builder.value_parser.ValueParser.TheVariants.{Signed}
@@ -12,6 +12,9 @@ use Rattle.command_line.specs.declared.fault.LineFault.{LineFault}
 use Rattle.command_line.specs.declared.fault.LineFault.TheVariants.{Memory, Help, Wrong}
 use Rattle.command_line.specs.declared.job.Job.{Job}
 use Rattle.command_line.specs.declared.job.Job.TheVariants.{Run, Serial, Replay, Check}
+use Rattle.command_line.specs.declared.words.JobWords.{JobWords}
+use Rattle.command_line.specs.declared.words.JobWords.TheVariants as job_words
+use Rattle.command_line.specs.declared.words.Mistake.{Mistake}
 
 -- a file is a word that must be there
 abbrev pub file_rule : Text → Rule
@@ -67,63 +70,76 @@ IsNumber t n = IsNumeral 10 (without_leading_plus t) × (n ≡ digits_value 10 (
 abbrev pub IsWorkers : Option Text → ℕ → Type 0
 IsWorkers text n = ((t : Text) × (text ≡ Some t) × IsNumber t n) × (1 ≤ n) × (n ≤ 64)
 
--- the command of this name and its rows give this job: its files are the words of the rows, and its
--- workers their number; a journal is written where a file is named for it
-abbrev pub IsAsked : Text → List Row → Job → Type 0
-IsAsked name rows (Run base block out workers journal) = (name ≡ codes "run")
-    × (first_of (codes "BASE") rows ≡ Some (string_bytes base))
-    × (first_of (codes "BLOCK") rows ≡ Some (string_bytes block))
-    × (first_of (codes "OUT") rows ≡ Some (string_bytes out))
+-- the words that a job is made of: its files, its workers, and the file of its journal, if one is
+-- written
+pub data Words : Type 0 where
+  run : (base block out : Text) (workers : ℕ) (journal : Option Text) → Words
+  serial : (base block out : Text) → Words
+  replay : (base block journal out : Text) → Words
+  check : (block : Text) → Words
+
+-- the words of a job, and words where they are in the command line
+abbrev pub words_of : Job → Words
+words_of (Run base block out workers journal) = run (string_bytes base) (string_bytes block) (string_bytes out) workers (option_map string_bytes journal)
+words_of (Serial base block out) = serial (string_bytes base) (string_bytes block) (string_bytes out)
+words_of (Replay base block journal out) = replay (string_bytes base) (string_bytes block) (string_bytes journal) (string_bytes out)
+words_of (Check block) = check (string_bytes block)
+
+abbrev pub words_in : JobWords → Words
+words_in (job_words.Run base block out workers journal) = run base.now block.now out.now workers (option_map (λ path. path.now) journal)
+words_in (job_words.Serial base block out) = serial base.now block.now out.now
+words_in (job_words.Replay base block journal out) = replay base.now block.now journal.now out.now
+words_in (job_words.Check block) = check block.now
+
+-- the command of this name and its rows give these words: the files are words of the rows, and the
+-- workers their number
+abbrev pub IsAsked : Text → List Row → Words → Type 0
+IsAsked name rows (run base block out workers journal) = (name ≡ codes "run")
+    × (first_of (codes "BASE") rows ≡ Some base)
+    × (first_of (codes "BLOCK") rows ≡ Some block)
+    × (first_of (codes "OUT") rows ≡ Some out)
     × IsWorkers (one_of (codes "workers") rows) workers
-    × (first_of (codes "journal") rows ≡ option_map string_bytes journal)
-IsAsked name rows (Serial base block out) = (name ≡ codes "serial")
-    × (first_of (codes "BASE") rows ≡ Some (string_bytes base))
-    × (first_of (codes "BLOCK") rows ≡ Some (string_bytes block))
-    × (first_of (codes "OUT") rows ≡ Some (string_bytes out))
-IsAsked name rows (Replay base block journal out) = (name ≡ codes "replay")
-    × (first_of (codes "BASE") rows ≡ Some (string_bytes base))
-    × (first_of (codes "BLOCK") rows ≡ Some (string_bytes block))
-    × (first_of (codes "JOURNAL") rows ≡ Some (string_bytes journal))
-    × (first_of (codes "OUT") rows ≡ Some (string_bytes out))
-IsAsked name rows (Check block) = (name ≡ codes "check") × (first_of (codes "BLOCK") rows ≡ Some (string_bytes block))
+    × (first_of (codes "journal") rows ≡ journal)
+IsAsked name rows (serial base block out) = (name ≡ codes "serial")
+    × (first_of (codes "BASE") rows ≡ Some base)
+    × (first_of (codes "BLOCK") rows ≡ Some block)
+    × (first_of (codes "OUT") rows ≡ Some out)
+IsAsked name rows (replay base block journal out) = (name ≡ codes "replay")
+    × (first_of (codes "BASE") rows ≡ Some base)
+    × (first_of (codes "BLOCK") rows ≡ Some block)
+    × (first_of (codes "JOURNAL") rows ≡ Some journal)
+    × (first_of (codes "OUT") rows ≡ Some out)
+IsAsked name rows (check block) = (name ≡ codes "check") × (first_of (codes "BLOCK") rows ≡ Some block)
 
 -- what a file's word comes to
-abbrev pub IsFileAnswer : Option Text → Result (String Global) LineFault → Type 0
-IsFileAnswer text (Ok s) = text ≡ Some (string_bytes s)
-IsFileAnswer text (Err Memory) = ⊤
-IsFileAnswer text (Err (Help message)) = ⊥
-IsFileAnswer text (Err (Wrong message)) = text ≡ None
+abbrev pub IsFileAnswer : Option Text → Result (Bor Text) Mistake → Type 0
+IsFileAnswer text (Ok path) = text ≡ Some path.now
+IsFileAnswer text (Err mistake) = text ≡ None
 
 -- what the text of `--workers` comes to
-abbrev pub IsWorkersAnswer : Option Text → Result ℕ LineFault → Type 0
+abbrev pub IsWorkersAnswer : Option Text → Result ℕ Mistake → Type 0
 IsWorkersAnswer text (Ok n) = IsWorkers text n
-IsWorkersAnswer text (Err Memory) = ⊤
-IsWorkersAnswer text (Err (Help message)) = ⊥
-IsWorkersAnswer text (Err (Wrong message)) = (n : ℕ) → IsWorkers text n → ⊥
-
--- what the file behind `--journal` comes to, which need not be there
-abbrev pub IsJournalAnswer : Option Text → Result (Option (String Global)) LineFault → Type 0
-IsJournalAnswer text (Ok path) = text ≡ option_map string_bytes path
-IsJournalAnswer text (Err Memory) = ⊤
-IsJournalAnswer text (Err (Help message)) = ⊥
-IsJournalAnswer text (Err (Wrong message)) = ⊥
+IsWorkersAnswer text (Err mistake) = (n : ℕ) → IsWorkers text n → ⊥
 
 -- what the command of this name and its rows come to
-abbrev pub IsCommandAnswer : Text → List Row → Result Job LineFault → Type 0
-IsCommandAnswer name rows (Ok j) = IsAsked name rows j
-IsCommandAnswer name rows (Err Memory) = ⊤
-IsCommandAnswer name rows (Err (Help text)) = ⊥
-IsCommandAnswer name rows (Err (Wrong text)) = (j : Job) → IsAsked name rows j → ⊥
+abbrev pub IsCommandAnswer : Text → List Row → Result JobWords Mistake → Type 0
+IsCommandAnswer name rows (Ok words) = IsAsked name rows (words_in words)
+IsCommandAnswer name rows (Err mistake) = (words : Words) → IsAsked name rows words → ⊥
 
--- what an error of this kind is told as
+-- what the command that is named comes to, with its rows, if one is named
+abbrev pub IsMatchAnswer : Option (Text × List Row) → Result JobWords Mistake → Type 0
+IsMatchAnswer command (Ok words) = (name : Text) × (rows : List Row) × (command ≡ Some (name, rows)) × IsAsked name rows (words_in words)
+IsMatchAnswer command (Err mistake) = (name : Text) (rows : List Row) (words : Words) → command ≡ Some (name, rows) → IsAsked name rows words → ⊥
+
+-- what an error of this kind tells; where memory ran out it tells nothing
 abbrev pub IsToldAs : ErrorKind → LineFault → Type 0
-IsToldAs k Memory = ⊤
+IsToldAs k Memory = ⊥
 IsToldAs k (Help text) = k ≡ DisplayHelp
 IsToldAs k (Wrong text) = (k ≢ OutOfMemory) × (k ≢ DisplayHelp)
 
 -- the words, of which the first is the program's name, give this job
 abbrev pub IsJob : List Text → Job → Type 0
-IsJob words j = (name : Text) × (rows : List Row) × (subcommand_of program words ≡ Some (name, rows)) × IsAsked name rows j
+IsJob words j = (name : Text) × (rows : List Row) × (subcommand_of program words ≡ Some (name, rows)) × IsAsked name rows (words_of j)
 
 -- a job where the words are free of faults and give it; help where they ask for it; else they have
 -- another fault or give no job

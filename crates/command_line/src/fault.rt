@@ -3,9 +3,9 @@ ghost use Rattle.std.specs.Prelude.{◌≡◌, IfOk, string_bytes};
 ghost use Rattle.command_line.specs.Faults.{status_of, line_of};
 
 use std::alloc::{AllocError, Global};
-use std::error::Error;
 use std::fmt;
 use std::marker::Model;
+use thiserror::Error;
 
 /// A file of the command line.
 #[derive(Clone, Copy, Debug, Drop, PartialEq, Eq)]
@@ -51,7 +51,9 @@ impl Message {
 }
 
 /// Why a command line gives no job.
-#[derive(Debug, Drop)]
+// Its texts and those of `Fault` are written by hand: what the derive writes has no contract, and
+// `told` says exactly what is told.
+#[derive(Debug, Drop, Error)]
 pub enum LineFault {
     /// Memory ran out.
     Memory,
@@ -62,7 +64,7 @@ pub enum LineFault {
 }
 
 /// Why the program ends without an answer.
-#[derive(Debug, Drop)]
+#[derive(Debug, Drop, Error)]
 pub enum Fault {
     /// The command line gives no job.
     Line(LineFault),
@@ -141,10 +143,6 @@ impl fmt::Display for Fault {
         }
     }
 }
-
-impl Error for LineFault {}
-
-impl Error for Fault {}
 
 impl Fault {
     /// The exit status of the process.

@@ -1,16 +1,14 @@
 //! The command line and the job that it asks for.
-ghost use Rattle.std.specs.Prelude.{◌≡◌, codes, false, map, IfOk, string_bytes};
+ghost use Rattle.std.specs.Prelude.{◌≡◌, codes, false, map, option_map, IfOk, IsErrOf, string_bytes};
 ghost use Rattle.clap.specs.declared.builder.command.Command.TheViews.{out-Command as fields_of};
-ghost use Rattle.clap.specs.Words.{app_of, first_of, found_of, kind_of, new_app, one_of, rows_of, rule_of, with_rule};
-ghost use Rattle.command_line.specs.CommandLine.{IsAnswer, IsCommandAnswer, IsFileAnswer, IsToldAs, IsWorkersAnswer, IsJournalAnswer, file_rule, journal_rule, workers_option_rule, workers_rule, check_app, replay_app, run_app, serial_app, app_of_block, bare_program, program_of_runs, program as the_program};
+ghost use Rattle.clap.specs.Words.{app_of, kind_of, new_app, rule_of, with_rule};
+ghost use Rattle.command_line.specs.CommandLine.{IsAnswer, IsToldAs, words_of, words_in, file_rule, journal_rule, workers_option_rule, workers_rule, check_app, replay_app, run_app, serial_app, app_of_block, bare_program, program_of_runs, program as the_program};
 
 use crate::fault::{LineFault, Message};
+use crate::words::{JobWords, Mistake, words_of};
 use clap::error::ErrorKind;
-use clap::{Arg, ArgMatches, Command, value_parser};
+use clap::{Arg, Command, value_parser};
 use std::alloc::{AllocError, Global};
-
-/// The most workers that a run may have.
-const MAX_WORKERS: u32 = 64;
 
 const BLOCK_HELP: &str = "The block, requests that lines ---- part";
 
@@ -214,121 +212,93 @@ fn program<'a>(alloc: Global) -> Result<Command<'a>, AllocError>
         .subcommand(check_command(alloc)?)
 }
 
-fn wrong(alloc: Global, text: &str) -> LineFault
-    ensures { IsToldAs ErrorKind.InvalidValue result }
-{
-    match String::from_str(alloc, text) {
-        Ok(text) => LineFault::Wrong(Message::new(text)),
-        Err(_) => LineFault::Memory,
-    }
-}
-
-/// What a command line's error tells.
+/// What a command line's error tells. An `Err` comes where a growth was refused, here or to `clap`.
 fn line_fault(alloc: Global, error: &clap::Error) -> Result<LineFault, AllocError>
     ensures { IfOk result (IsToldAs (kind_of error.now)) }
 {
+    if error.kind() == ErrorKind::OutOfMemory {
+        return Err(AllocError);
+    }
     let text = error.to_string(alloc)?;
     let message = Message::new(String::from_str(alloc, text.trim_end())?);
     Ok(match error.kind() {
         ErrorKind::DisplayHelp => LineFault::Help(message),
-        ErrorKind::OutOfMemory => LineFault::Memory,
         _ => LineFault::Wrong(message),
     })
 }
 
-/// The path of a file that must be named.
-#[tactic(auto, using(crate::proofs::JobLaws::file_missing, crate::proofs::JobLaws::word_is))]
-fn file_named(alloc: Global, command: &ArgMatches<'_>, id: &str) -> Result<String, LineFault>
-    ensures { IsFileAnswer (first_of id.now (rows_of (found_of command.now))) result }
+/// What a mistake tells.
+fn mistake_fault(alloc: Global, mistake: Mistake) -> Result<LineFault, AllocError>
+    ensures { IfOk result (IsToldAs ErrorKind.InvalidValue) }
 {
-    match command.get_str(id) {
-        Some(path) => Ok(String::from_str(alloc, path)?),
-        None => Err(wrong(alloc, "error: a file is missing")),
-    }
+    let text = String::from_str(alloc, mistake.text())?;
+    Ok(LineFault::Wrong(Message::new(text)))
 }
 
-/// The path of a file behind `--journal`, if it is there.
-#[tactic(auto, using(crate::proofs::JobLaws::word_is))]
-fn journal_named(alloc: Global, run: &ArgMatches<'_>) -> Result<Option<String>, LineFault>
-    ensures { IsJournalAnswer (first_of (codes "journal") (rows_of (found_of run.now))) result }
+/// A file that need not be named, in memory of its own.
+fn path_of(alloc: Global, path: Option<&str>) -> Result<Option<String>, AllocError>
+    ensures { IfOk result (λ copy. option_map string_bytes copy
+        ≡ option_map (λ text. text.now) path.entry) }
 {
-    match run.get_str("journal") {
+    match path {
         Some(path) => Ok(Some(String::from_str(alloc, path)?)),
         None => Ok(None),
     }
 }
 
-fn worker_count(alloc: Global, run: &ArgMatches<'_>) -> Result<u32, LineFault>
-    ensures { IsWorkersAnswer (one_of (codes "workers") (rows_of (found_of run.now))) result }
+/// The job of these words, in memory of its own.
+fn job_of(alloc: Global, words: JobWords<'_>) -> Result<Job, AllocError>
+    ensures { IfOk result (λ job. words_of job ≡ words_in words.entry) }
 {
-    // 0 is no number of workers.
-    let workers = run.get_one::<u32>("workers").unwrap_or(0);
-    if workers < 1 || MAX_WORKERS < workers {
-        return Err(wrong(alloc, "error: --workers takes a number from 1 to 64"));
-    }
-    Ok(workers)
-}
-
-/// The job of the command `run`.
-#[tactic(auto, using(crate::proofs::JobLaws::base_fails, crate::proofs::JobLaws::block_fails, crate::proofs::JobLaws::out_fails, crate::proofs::JobLaws::workers_fail, crate::proofs::JobLaws::journal_fails))]
-fn run_job(alloc: Global, run: &ArgMatches<'_>) -> Result<Job, LineFault>
-    ensures { IsCommandAnswer (codes "run") (rows_of (found_of run.now)) result }
-{
-    Ok(Job::Run {
-        base: file_named(alloc, run, "BASE")?,
-        block: file_named(alloc, run, "BLOCK")?,
-        out: file_named(alloc, run, "OUT")?,
-        workers: worker_count(alloc, run)?,
-        journal: journal_named(alloc, run)?,
+    Ok(match words {
+        JobWords::Run {
+            base,
+            block,
+            out,
+            workers,
+            journal,
+        } => Job::Run {
+            base: String::from_str(alloc, base)?,
+            block: String::from_str(alloc, block)?,
+            out: String::from_str(alloc, out)?,
+            workers,
+            journal: path_of(alloc, journal)?,
+        },
+        JobWords::Serial { base, block, out } => Job::Serial {
+            base: String::from_str(alloc, base)?,
+            block: String::from_str(alloc, block)?,
+            out: String::from_str(alloc, out)?,
+        },
+        JobWords::Replay {
+            base,
+            block,
+            journal,
+            out,
+        } => Job::Replay {
+            base: String::from_str(alloc, base)?,
+            block: String::from_str(alloc, block)?,
+            journal: String::from_str(alloc, journal)?,
+            out: String::from_str(alloc, out)?,
+        },
+        JobWords::Check { block } => Job::Check {
+            block: String::from_str(alloc, block)?,
+        },
     })
 }
 
-/// The job of the command `serial`.
-#[tactic(auto, using(crate::proofs::JobLaws::serial_base_fails, crate::proofs::JobLaws::serial_block_fails, crate::proofs::JobLaws::serial_out_fails))]
-fn serial_job(alloc: Global, serial: &ArgMatches<'_>) -> Result<Job, LineFault>
-    ensures { IsCommandAnswer (codes "serial") (rows_of (found_of serial.now)) result }
+/// What a command line comes to. An `Err` comes only where a growth was refused, and `Memory` is
+/// none of its answers.
+fn answer(alloc: Global, words: &[String]) -> Result<Result<Job, LineFault>, AllocError>
+    ensures answer { IfOk result (IsAnswer (map string_bytes words.now)) }
+    ensures memory { IfOk result (λ answer. IsErrOf answer LineFault.Memory → ⊥) }
 {
-    Ok(Job::Serial {
-        base: file_named(alloc, serial, "BASE")?,
-        block: file_named(alloc, serial, "BLOCK")?,
-        out: file_named(alloc, serial, "OUT")?,
-    })
-}
-
-/// The job of the command `replay`.
-#[tactic(auto, using(crate::proofs::JobLaws::replay_base_fails, crate::proofs::JobLaws::replay_block_fails, crate::proofs::JobLaws::replay_journal_fails, crate::proofs::JobLaws::replay_out_fails))]
-fn replay_job(alloc: Global, replay: &ArgMatches<'_>) -> Result<Job, LineFault>
-    ensures { IsCommandAnswer (codes "replay") (rows_of (found_of replay.now)) result }
-{
-    Ok(Job::Replay {
-        base: file_named(alloc, replay, "BASE")?,
-        block: file_named(alloc, replay, "BLOCK")?,
-        journal: file_named(alloc, replay, "JOURNAL")?,
-        out: file_named(alloc, replay, "OUT")?,
-    })
-}
-
-/// The job of the command `check`.
-#[tactic(auto, using(crate::proofs::JobLaws::checked_block_fails))]
-fn check_job(alloc: Global, check: &ArgMatches<'_>) -> Result<Job, LineFault>
-    ensures { IsCommandAnswer (codes "check") (rows_of (found_of check.now)) result }
-{
-    Ok(Job::Check {
-        block: file_named(alloc, check, "BLOCK")?,
-    })
-}
-
-/// The job of the command of this name.
-#[tactic(auto, using(crate::proofs::JobLaws::no_command))]
-fn command_job(alloc: Global, name: &str, command: &ArgMatches<'_>) -> Result<Job, LineFault>
-    ensures { IsCommandAnswer name.now (rows_of (found_of command.now)) result }
-{
-    match name {
-        "run" => run_job(alloc, command),
-        "serial" => serial_job(alloc, command),
-        "replay" => replay_job(alloc, command),
-        "check" => check_job(alloc, command),
-        _ => Err(wrong(alloc, "error: there is no such command")),
+    let matches = match program(alloc)?.try_get_matches_from(words) {
+        Ok(matches) => matches,
+        Err(error) => return Ok(Err(line_fault(alloc, &error)?)),
+    };
+    match words_of(&matches) {
+        Ok(words) => Ok(Ok(job_of(alloc, words)?)),
+        Err(mistake) => Ok(Err(mistake_fault(alloc, mistake)?)),
     }
 }
 
@@ -338,11 +308,5 @@ fn command_job(alloc: Global, name: &str, command: &ArgMatches<'_>) -> Result<Jo
 pub fn read_job(alloc: Global, words: &[String]) -> Result<Job, LineFault>
     ensures { IsAnswer (map string_bytes words.now) result }
 {
-    match program(alloc)?.try_get_matches_from(words) {
-        Err(error) => Err(line_fault(alloc, &error)?),
-        Ok(matches) => match matches.subcommand() {
-            Some((name, command)) => command_job(alloc, name, command),
-            None => Err(wrong(alloc, "error: a command is missing")),
-        },
-    }
+    answer(alloc, words)?
 }

@@ -9,6 +9,7 @@
 mod fault;
 mod job;
 mod replies;
+mod words;
 
 pub use fault::{Fault, File, LineFault, Message, told};
 pub use job::{Job, read_job};

@@ -52,6 +52,10 @@ abbrev pub IsPart : (first second : Taken) → (text later : List ℕ) → Type 
 IsPart first second text later =
     (GrewInPart first text × Keeps second.before second.after) ⊎ (Grew first text × GrewInPart second later)
 
+-- what holds where a writer isn't as it was
+abbrev pub IfTouched : {W : Type 0} → (old new : W) → Type 0 → Type 0
+IfTouched old new P = (new ≡ old) ⊎ P
+
 -- what is said of a base and a block where what is left to read of both is known
 abbrev pub IfBoth : Option (List ℕ) → Option (List ℕ) → (List ℕ → List ℕ → Type 0) → Type 0
 IfBoth base block P = IfSome base (λ b. IfSome block (λ k. P b k))

@@ -9,7 +9,7 @@ ghost use Rattle.command_line.specs.Replies.{reply_lines};
 ghost use Rattle.engines.specs.Failures.{is_unread, is_unwritten, FailedIf, OneFailedIf};
 ghost use Rattle.engines.specs.Inputs.{IsFaultOf};
 ghost use Rattle.update.specs.Asked.{AreShort};
-ghost use Rattle.engines.specs.Outputs.{IfBoth, IsAnswerTo, Wrote, WroteInPart, taken};
+ghost use Rattle.engines.specs.Outputs.{IfBoth, IfTouched, IsAnswerTo, Wrote, WroteInPart, taken};
 
 use crate::outputs::{Texts, write_texts};
 use command_line::{Fault, File, replies_text};
@@ -169,7 +169,7 @@ fn texts_of<W: Runs>(
 
 /// Reads a base and a block, runs the block in this way, and writes the canonical text of the new
 /// dataset and one line a request. The base is read before the block, and all texts are made before
-/// a writer is touched; then the dataset and the replies are written in this order, each flushed,
+/// a writer is touched; then the dataset is written and flushed, and then the replies are, each
 /// also where it is empty. A fault is the first that comes: of the base, of the block, want of
 /// memory, or of a writer.
 pub fn run_by<W: Runs, B: Read, K: Read, D: Write, A: Write>(
@@ -192,6 +192,8 @@ pub fn run_by<W: Runs, B: Read, K: Read, D: Write, A: Write>(
     // Both texts were flushed, also where they are empty.
     ensures flushed { OnOk result ((dataset.new.is_flushed ≡ true)
         × (replies.new.is_flushed ≡ true)) }
+    // The replies are touched only once the dataset is flushed.
+    ensures in_turn { IfTouched replies.old replies.new (dataset.new.is_flushed ≡ true) }
     // After a failed write the texts before it are whole, and of its own a beginning was written.
     ensures part { IsErrOf result (Fault.CannotWrite File.Answer)
         → IfBoth (B.remaining base.old.inner) (K.remaining block.old.inner)

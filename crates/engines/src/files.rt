@@ -1,5 +1,7 @@
 //! Files that are opened or made when they are first used.
-ghost use Rattle.std.specs.Prelude.{◌≡◌, None, OnOk, IsSome};
+ghost use Rattle.std.specs.Prelude.{◌≡◌, None, OnOk, OnErr, IsSome};
+ghost use Rattle.std.specs.Io.{ReadsAtMost, WritesAtMost};
+ghost use Rattle.std.specs.Io.KnownBytes.{Keeps, ReadConsumes, WriteAppends};
 
 use std::io::{Read, Write};
 use std::marker::Model;
@@ -34,10 +36,12 @@ impl<'a, R: Files> InFile<'a, R> {
         }
     }
 
-    /// Opens the file, unless it is open.
+    /// Opens the file, unless it is open. Where it can't be opened, it is tried again later.
     fn opened(&mut self) -> io::Result<()>
         ensures open { OnOk result (IsSome self.new.file) }
+        ensures path { self.new.path ≡ self.old.path }
         ensures kept { IsSome self.old.file → self.new ≡ self.old }
+        ensures err { OnErr result (self.new ≡ self.old) }
     {
         if self.file.is_none() {
             self.file = Some(fs::open(self.files, self.path)?);
@@ -51,7 +55,13 @@ impl<R: Files> Read for InFile<'_, R> {
 
     ghost remaining = { λ f. known_bytes R.File.remaining f };
 
-    fn read(&mut self, buf: &mut [u8]) -> io::Result<usize> {
+    fn read(&mut self, buf: &mut [u8]) -> io::Result<usize>
+        ensures bound { ReadsAtMost result buf.new }
+        ensures bytes { ReadConsumes (known_bytes R.File.remaining self.old)
+            (known_bytes R.File.remaining self.new) result buf.new }
+        ensures open { OnOk result (IsSome self.new.file) }
+        ensures path { self.new.path ≡ self.old.path }
+    {
         self.opened()?;
         match &mut self.file {
             Some(file) => file.read(buf),
@@ -89,10 +99,12 @@ impl<'a, R: Files> OutFile<'a, R> {
         }
     }
 
-    /// Makes the file, unless it is made.
+    /// Makes the file, unless it is made. Where it can't be made, it is tried again later.
     fn made(&mut self) -> io::Result<()>
         ensures there { OnOk result (IsSome self.new.file) }
+        ensures path { self.new.path ≡ self.old.path }
         ensures kept { IsSome self.old.file → self.new ≡ self.old }
+        ensures err { OnErr result (self.new ≡ self.old) }
     {
         if self.file.is_none() {
             self.file = Some(fs::create(self.files, self.path)?);
@@ -106,7 +118,13 @@ impl<R: Files> Write for OutFile<'_, R> {
 
     ghost contents = { λ f. known_bytes R.File.contents f };
 
-    fn write(&mut self, buf: &[u8]) -> io::Result<usize> {
+    fn write(&mut self, buf: &[u8]) -> io::Result<usize>
+        ensures bound { WritesAtMost result buf.now }
+        ensures bytes { WriteAppends (known_bytes R.File.contents self.old)
+            (known_bytes R.File.contents self.new) result buf.now }
+        ensures there { OnOk result (IsSome self.new.file) }
+        ensures path { self.new.path ≡ self.old.path }
+    {
         self.made()?;
         match &mut self.file {
             Some(file) => file.write(buf),
@@ -114,8 +132,13 @@ impl<R: Files> Write for OutFile<'_, R> {
         }
     }
 
-    fn flush(&mut self) -> io::Result<()> {
-        self.made()?;
+    fn flush(&mut self) -> io::Result<()>
+        ensures bytes { Keeps (known_bytes R.File.contents self.old)
+            (known_bytes R.File.contents self.new) }
+        ensures there { OnOk result (IsSome self.new.file) }
+        ensures path { self.new.path ≡ self.old.path }
+    {
+        self.made()?; // also where no byte was written
         match &mut self.file {
             Some(file) => file.flush(),
             None => unreachable!(),

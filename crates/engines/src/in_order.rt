@@ -2,7 +2,7 @@
 ghost use Rattle.std.specs.Prelude.{◌≡◌, ◌≢◌, ◌<◌, ◌-◌, ◌^◌, true, IfErr, IfSome, OnOk, IsErrOf};
 ghost use Rattle.engines.specs.Failures.{is_unread, is_unwritten, FailedIf, OneFailedIf};
 ghost use Rattle.engines.specs.Inputs.{IsFaultOf};
-ghost use Rattle.engines.specs.Outputs.{IfBoth, Wrote, WroteInPart, taken};
+ghost use Rattle.engines.specs.Outputs.{IfBoth, IfTouched, Wrote, WroteInPart, taken};
 
 use crate::engine::{Runs, named_with, run_by};
 use crate::inputs::{read_base, read_block};
@@ -71,9 +71,9 @@ impl Runs for OneByOne {
 
 /// Reads a base and a block, runs the block by one thread, one request after another, and writes
 /// the canonical text of the new dataset and one line a request. The base is read before the block,
-/// and all texts are made before a writer is touched; then the dataset and the replies are written
-/// in this order, each flushed, also where it is empty. A fault is the first that comes: of the
-/// base, of the block, want of memory, or of a writer.
+/// and all texts are made before a writer is touched; then the dataset is written and flushed, and
+/// then the replies are, each also where it is empty. A fault is the first that comes: of the base,
+/// of the block, want of memory, or of a writer.
 pub fn serial_engine<B: Read, K: Read, D: Write, A: Write>(
     alloc: Global,
     base: &mut Watched<B>,
@@ -92,6 +92,8 @@ pub fn serial_engine<B: Read, K: Read, D: Write, A: Write>(
     // Both texts were flushed, also where they are empty.
     ensures flushed { OnOk result ((dataset.new.is_flushed ≡ true)
         × (replies.new.is_flushed ≡ true)) }
+    // The replies are touched only once the dataset is flushed.
+    ensures in_turn { IfTouched replies.old replies.new (dataset.new.is_flushed ≡ true) }
     // After a failed write the texts before it are whole, and of its own a beginning was written.
     ensures part { IsErrOf result (Fault.CannotWrite File.Answer)
         → IfBoth (B.remaining base.old.inner) (K.remaining block.old.inner)

@@ -2,7 +2,7 @@
 ghost use Rattle.std.specs.Prelude.{◌≡◌, ◌<◌, ◌+◌, ◌-◌, ◌^◌, ◌⊎◌, true, is_ok, if◌then◌else◌, OnOk, OnErr, IfErr, string_bytes};
 ghost use Rattle.engines.specs.Failures.{is_unwritten, is_journal_unwritten, FailedIf, OneFailedIf};
 ghost use Rattle.canonical_nquads.specs.Canonical.{text_of_pieces};
-ghost use Rattle.engines.specs.Outputs.{Grew, GrewInPart, IsPart, taken};
+ghost use Rattle.engines.specs.Outputs.{Grew, GrewInPart, IfTouched, IsPart, taken};
 ghost use Rattle.command_line.specs.declared.fault.Fault.TheVariants.{CannotWrite};
 ghost use Rattle.command_line.specs.declared.fault.File.TheVariants.{Answer, Journal};
 
@@ -138,8 +138,8 @@ fn write_dataset<Y: Runs, W: Write>(
     }
 }
 
-/// Writes the dataset, then the replies, each flushed, also where it is empty. An `Err` comes where
-/// a write or a flush failed.
+/// Writes the dataset and flushes it, and then the replies, each also where it is empty. An `Err`
+/// comes where a write or a flush failed.
 pub fn write_texts<Y: Runs, D: Write, A: Write>(
     way: &Y,
     texts: Texts,
@@ -159,6 +159,8 @@ pub fn write_texts<Y: Runs, D: Write, A: Write>(
         (text_of_pieces texts.dataset.items) (string_bytes texts.replies)) }
     ensures flushed { OnOk result ((dataset.new.is_flushed ≡ true)
         × (replies.new.is_flushed ≡ true)) }
+    // The replies are touched only once the dataset is flushed.
+    ensures in_turn { IfTouched replies.old replies.new (dataset.new.is_flushed ≡ true) }
     ensures failures { OneFailedIf (is_unwritten result) dataset.old.failures dataset.new.failures
         replies.old.failures replies.new.failures }
     ensures fault { IfErr result (λ fault. fault ≡ CannotWrite Answer) }

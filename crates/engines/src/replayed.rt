@@ -5,7 +5,7 @@ ghost use Rattle.update.specs.Asked.{AreShort};
 ghost use Rattle.canonical_nquads.specs.Canonical.{text_of_pieces};
 ghost use Rattle.engines.specs.Failures.{is_unread, is_unwritten, FailedIf, OneFailedIf};
 ghost use Rattle.engines.specs.Journals.{IsFaultOfLines, IsFaultOfReplay, IsFrontOf, IsReplay, IsReplayFault, WroteReplay, WroteReplayInPart, journal_fault as the_journal_fault};
-ghost use Rattle.engines.specs.Outputs.{IfBoth, taken};
+ghost use Rattle.engines.specs.Outputs.{IfBoth, IfTouched, taken};
 
 use crate::engine::{Runs, texts_of_outcome};
 use crate::in_order::OneByOne;
@@ -92,9 +92,9 @@ fn texts_of_journal(
 /// Reads a base, a block and a journal, replays the journal, and writes the canonical text of the
 /// dataset that its committed requests end with and one line for each of them, also where they are
 /// not the whole block. The base is read before the block and the block before the journal, and all
-/// texts are made before a writer is touched; then the dataset and the replies are written in this
-/// order, each flushed, also where it is empty. A fault is the first that comes: of the base, of
-/// the block, of the journal, want of memory, or of a writer.
+/// texts are made before a writer is touched; then the dataset is written and flushed, and then the
+/// replies are, each also where it is empty. A fault is the first that comes: of the base, of the
+/// block, of the journal, want of memory, or of a writer.
 pub fn replay_engine<B: Read, K: Read, J: Read, D: Write, A: Write>(
     alloc: Global,
     base: &mut Watched<B>,
@@ -116,6 +116,8 @@ pub fn replay_engine<B: Read, K: Read, J: Read, D: Write, A: Write>(
     // Both texts were flushed, also where they are empty.
     ensures flushed { OnOk result ((dataset.new.is_flushed ≡ true)
         × (replies.new.is_flushed ≡ true)) }
+    // The replies are touched only once the dataset is flushed.
+    ensures in_turn { IfTouched replies.old replies.new (dataset.new.is_flushed ≡ true) }
     // After a failed write the texts before it are whole, and of its own a beginning was written.
     ensures part { IsErrOf result (Fault.CannotWrite File.Answer)
         → IfBoth (B.remaining base.old.inner) (K.remaining block.old.inner)

@@ -1,10 +1,7 @@
-//! Worked examples of quads in sorted orders, of sets of quads, of shards and of hints, beside plain
-//! filters.
+//! Worked examples of quads in sorted orders, of sets of quads and of shards, beside plain filters.
 //! It has tests alone.
 #![tactic(auto)]
 
-#[cfg(test)]
-mod hints;
 #[cfg(test)]
 mod quads;
 #[cfg(test)]

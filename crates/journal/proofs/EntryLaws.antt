@@ -1,6 +1,6 @@
 -- Entries and lines.
 use Rattle.std.specs.Prelude.{ℕ, ◌==◌, ◌≢◌, ◌+◌, nat_eq, All, Result, Ok, Err, IfOk, MatchResult}
-use Rattle.std.proofs.Common.{◌≡◌, true, cond, List, [], ◌∷◌, ◌++◌, Some, None, refl, sym, ap, ◌∙◌, subst, length, take, drop, append_assoc, arith, inl, inr}
+use Rattle.std.proofs.Common.{◌≡◌, Bool, true, false, cond, List, [], ◌∷◌, ◌++◌, Some, None, refl, sym, ap, ◌∙◌, subst, length, take, drop, append_assoc, arith, inl, inr}
 use Rattle.std.specs.List.{flat_map, starts_with, AllByRecursion}
 use Rattle.std.specs.Cmp.Lexicographic.{pointwise, same_text}
 use Rattle.std.proofs.lemmas.Bool.{eqb-true}
@@ -20,7 +20,7 @@ use Rattle.journal.specs.Text.{line_body, line_text, first_line}
 use Rattle.journal.specs.Lines.{IsLine}
 use Rattle.journal.specs.Journal.{IsJournal, IsBad, IsBadBehind, IsFirstBad}
 use Rattle.journal.specs.Reading.{line_of}
-use Rattle.journal.specs.Entry.{after_lf, line_at, entry_at, Faults}
+use Rattle.journal.specs.Entry.{after_lf, line_at, entry_at, has_line, Faults, IsCutShort}
 use Rattle.journal.proofs.LineLaws.{TermsArePieces, body_piece}
 
 -- a line's text and what follows it
@@ -147,6 +147,33 @@ bad_here tag text rest before number (fault.BadEntry m) n cut each more count wh
   here = why.1;
 }
 bad_here tag text rest before number (fault.Illegal m) n cut each more count why same = absurd why
+
+-- memory ran out behind some lines
+cut_short : (tag : ℕ) (text rest : List ℕ) (before : List Line) → text ≡ flat_map (line_text tag) before ++ rest → All (IsLine (mark_of tag)) before → has_line rest ≡ true
+    → IsCutShort tag (first_line ++ text)
+cut_short tag text rest before cut each here = record {
+  before = before;
+  rest = rest;
+  text = ap (λ (t : List ℕ). first_line ++ t) cut ∙ sym (append_assoc first_line (flat_map (line_text tag) before) rest);
+  each = each;
+  here = here;
+}
+
+-- while the entry there was read
+pub cut_short_there : (tag : ℕ) (text rest : List ℕ) (before : List Line) (number : ℕ) (e : JournalFault) → text ≡ flat_map (line_text tag) before ++ rest → All (IsLine (mark_of tag)) before
+    → Faults tag rest number e → e ≡ fault.OutOfMemory → IsCutShort tag (first_line ++ text)
+cut_short_there tag text rest before number fault.OutOfMemory cut each why same = cut_short tag text rest before cut each why
+cut_short_there tag text rest before number (fault.BadEntry m) cut each why same = absurd cc
+cut_short_there tag text rest before number (fault.Illegal m) cut each why same = absurd cc
+
+-- as the entry there was put to the others
+pub cut_short_behind : {A : Type 0} (tag : ℕ) (text rest : List ℕ) (before : List Line) (number : ℕ) (read : Result A JournalFault) (x : A) → text ≡ flat_map (line_text tag) before ++ rest
+    → All (IsLine (mark_of tag)) before → (has_line rest ≡ false → read ≡ Err (fault.BadEntry number)) → read ≡ Ok x → IsCutShort tag (first_line ++ text)
+cut_short_behind tag text rest before number read x cut each none is = cut_short tag text rest before cut each (by (has_line rest) none)
+  where
+    by : (b : Bool) → (b ≡ false → read ≡ Err (fault.BadEntry number)) → b ≡ true
+    by true none = refl
+    by false none = absurd (let both : Ok x ≡ Err (fault.BadEntry number) = sym is ∙ none refl in cc)
 
 -- what begins with the first line
 pub begun : (bytes rest : List ℕ) → starts_with nat_eq bytes first_line ≡ true → rest ≡ drop (length first_line) bytes → first_line ++ rest ≡ bytes

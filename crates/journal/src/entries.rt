@@ -1,5 +1,5 @@
 //! What a line says.
-ghost use Rattle.std.specs.Prelude.{◌≡◌, ℕ, List, IfOk, IfSome, MatchOption, None, Some};
+ghost use Rattle.std.specs.Prelude.{◌≡◌, ℕ, List, false, IfOk, IfSome, IsErrOf, MatchOption, None, Some};
 ghost use Rattle.std.specs.Str.{is_utf8};
 ghost use Rattle.nquads_lines.specs.Reading.{Gives};
 ghost use Rattle.journal.specs.Lines.{IsRequest, IsCount, IsEvent, IsReply, IsLine};
@@ -154,11 +154,13 @@ fn body_at(alloc: Global, mark: &[u8], text: &str) -> Result<Line, Stop>
     })
 }
 
-/// The one line that these bytes may be the text of.
+/// The one line that these bytes may be the text of. What is no UTF-8 is none, and never want of
+/// memory.
 #[tactic(auto, using(iris::proofs::TextLaws::text_laws), unfolding(crate::specs::Reading::line_of))]
 pub fn line_of(alloc: Global, mark: &[u8], bytes: &[u8]) -> Result<Line, Stop>
     ensures read { Gives (λ x. x) result (line_of mark.now bytes.now) }
     ensures form { IfOk result (λ l. IsLine mark.now l) }
+    ensures encoded { is_utf8 bytes.now ≡ false → IsErrOf result Stop.Bad }
 {
     match str::from_utf8(bytes) {
         Ok(text) => body_at(alloc, mark, text),

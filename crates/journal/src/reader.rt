@@ -1,6 +1,7 @@
 //! The lines of a journal, from its bytes.
 ghost use Rattle.std.specs.Prelude.{◌≡◌, ◌≤◌, ◌<◌, ◌++◌, ℕ, List, length, drop, nat_eq, true, false, IfOk, IfErr, IsErrOf, MatchOption, MatchResult, None, Some};
 ghost use Rattle.std.specs.List.{prefix_len, starts_with};
+ghost use Rattle.std.specs.Str.{is_utf8};
 ghost use Rattle.std.specs.Cmp.Lexicographic.{pointwise};
 ghost use Rattle.iris.specs.Runs.{run_of, rest_of};
 ghost use Rattle.nquads_lines.specs.Lines.{is_inner};
@@ -9,8 +10,8 @@ ghost use Rattle.canonical_nquads.specs.Tag.{mark_of};
 ghost use Rattle.journal.specs.declared.lines.Line.{Line};
 ghost use Rattle.journal.specs.Text.{line_body, line_text, first_line};
 ghost use Rattle.journal.specs.Lines.{IsLine};
-ghost use Rattle.journal.specs.Journal.{IsJournal, IsBadBehind, IsFirstBad};
-ghost use Rattle.journal.specs.Entry.{after_lf, line_at, entry_at, Faults};
+ghost use Rattle.journal.specs.Journal.{IsJournal, IsForeign, IsBadBehind, IsFirstBad};
+ghost use Rattle.journal.specs.Entry.{after_lf, line_at, entry_at, has_line, Faults, IsCutShort};
 
 use crate::entries::line_of;
 use crate::fault::JournalFault;
@@ -61,6 +62,7 @@ fn is_body(alloc: Global, line: &Line, tag: u32, bytes: &[u8]) -> Result<bool, A
 fn line_at(alloc: Global, tag: u32, mark: &[u8], bytes: &[u8]) -> Result<Line, Stop>
     ensures read { Gives (λ x. x) result (line_at tag mark.now bytes.now) }
     ensures form { IfOk result (λ l. IsLine mark.now l) }
+    ensures encoded { is_utf8 bytes.now ≡ false → IsErrOf result Stop.Bad }
 {
     let line = line_of(alloc, mark, bytes)?;
     if !is_body(alloc, &line, tag, bytes)? {
@@ -69,7 +71,8 @@ fn line_at(alloc: Global, tag: u32, mark: &[u8], bytes: &[u8]) -> Result<Line, S
     Ok(line)
 }
 
-/// The line at the front of a text, and what follows it.
+/// The line at the front of a text, and what follows it. Where it has no end, or is no UTF-8, it is
+/// bad, and never want of memory.
 #[tactic(auto, unfolding(crate::specs::Entry::entry_at))]
 fn entry_at<'a>(
     alloc: Global,
@@ -79,6 +82,7 @@ fn entry_at<'a>(
 ) -> Result<(Line, &'a [u8]), Stop>
     ensures read { Gives (λ x. (x.0, x.1.now)) result (entry_at tag mark.now text.entry.now) }
     ensures form { IfOk result (λ x. IsLine mark.now x.0) }
+    ensures none { has_line text.entry.now ≡ false → IsErrOf result Stop.Bad }
 {
     run_by_length();
     let (line, rest) = text.split_at(line_len(text));
@@ -100,6 +104,8 @@ fn next_entry<'a>(
     ensures text { IfOk result (λ x. text.entry.now ≡ line_text tag x.0 ++ x.1.now) }
     ensures form { IfOk result (λ x. IsLine mark.now x.0) }
     ensures bad { IfErr result (λ e. Faults tag text.entry.now number e) }
+    ensures none { has_line text.entry.now ≡ false
+        → IsErrOf result (JournalFault.BadEntry number) }
 {
     entries_are_lines();
     match entry_at(alloc, tag, mark, text) {
@@ -116,6 +122,8 @@ fn read_lines(alloc: Global, tag: u32, mark: &[u8], text: &[u8]) -> Result<Vec<L
     ensures bad { (n : ℕ) → IsErrOf result (JournalFault.BadEntry n)
         → IsBadBehind tag (first_line ++ text.now) n }
     ensures legal { (n : ℕ) → IsErrOf result (JournalFault.Illegal n) → ⊥ }
+    ensures memory { IsErrOf result JournalFault.OutOfMemory
+        → IsCutShort tag (first_line ++ text.now) }
 {
     let mut lines = Vec::new(alloc);
     let mut rest = text;
@@ -148,21 +156,25 @@ fn read_bytes(alloc: Global, bytes: &[u8], tag: u32) -> Result<Vec<Line>, Journa
     ensures lines { IfOk result (λ v. IsJournal tag bytes.now v.items) }
     ensures bad { (n : ℕ) → IsErrOf result (JournalFault.BadEntry n) → IsFirstBad tag bytes.now n }
     ensures legal { (n : ℕ) → IsErrOf result (JournalFault.Illegal n) → ⊥ }
+    ensures foreign { IsForeign bytes.now → IsErrOf result (JournalFault.BadEntry 0) }
 {
-    let mark = mark_of(alloc, tag)?;
     let Some(text) = after_first_line(bytes) else {
         return Err(JournalFault::BadEntry(0));
     };
+    let mark = mark_of(alloc, tag)?;
     read_lines(alloc, tag, mark.as_slice(), text)
 }
 
 /// The lines that these bytes are the text of, with the base's tag in the labels of made nodes.
 /// `BadEntry` tells of the first entry whose line is no line's text, counted from 1, or 0 where the
-/// first line is another; `OutOfMemory` may come at any bytes, and `Illegal` never.
+/// first line is another. `OutOfMemory` may come at any bytes behind the first line, and `Illegal`
+/// never.
 pub fn read_journal(alloc: Global, bytes: &[u8], tag: u32) -> Result<Vec<Line>, JournalFault>
     ensures lines { IfOk result (λ v. IsJournal tag bytes.now v.items) }
     ensures bad { (n : ℕ) → IsErrOf result (JournalFault.BadEntry n) → IsFirstBad tag bytes.now n }
     ensures legal { (n : ℕ) → IsErrOf result (JournalFault.Illegal n) → ⊥ }
+    // Another first line is bad, whatever the memory.
+    ensures foreign { IsForeign bytes.now → IsErrOf result (JournalFault.BadEntry 0) }
     // What is a journal is read, unless memory runs out.
     ensures only { (lines : List Line) → IsJournal tag bytes.now lines
         → MatchResult result (λ v. v.items ≡ lines) (λ e. e ≡ JournalFault.OutOfMemory) }

@@ -1,3 +1,4 @@
 pub mod NumberLaws
 pub mod JoinLaws
 pub mod MadeLaws
+pub mod AppearanceLaws

@@ -2,10 +2,12 @@
 //! numbers of variables and blank node labels.
 //!
 //! Stands on `syntax_trees` and `terms`. Used above: `Prefixes` gives the term of a node,
-//! `Variables` and `Labels` numbers. All are looked up in sorted orders.
+//! `Variables` and `Labels` numbers. All are looked up in sorted orders. `laws` says in other words
+//! which number a label has, and which IRI a prefix.
 #![tactic(auto)]
 
 mod key;
+pub mod laws;
 mod numbers;
 mod prefixes;
 mod whole;

@@ -1,6 +1,6 @@
 //! The numbers of variables and of blank node labels.
 ghost use Rattle.std.specs.List.Sorted.{IsStrictlySortedBy};
-ghost use Rattle.std.specs.Prelude.{◌≡◌, ◌≤◌, [], length, filter_map, IfOk, OnOk};
+ghost use Rattle.std.specs.Prelude.{◌≡◌, ◌≤◌, [], length, filter_map, IfOk, OnErr, OnOk};
 ghost use Rattle.terms.specs.Term.{text_cmp};
 ghost use Rattle.names.specs.Numbers.{variable_of, variables_of, number_of, label_of, labels_of, is_label_in, with_label, with_labels, label_number};
 
@@ -120,9 +120,10 @@ impl<'a> Labels<'a> {
     }
 
     /// The next number for a label, if it has none. An error comes only where a growth was refused,
-    /// or where there are 2^32 labels.
+    /// or where there are 2^32 labels, and leaves the labels as they are.
     pub fn add(&mut self, label: &Label<'a>) -> Result<(), AllocError>
-        ensures { OnOk result (self.new ≡ with_label label.now self.old) }
+        ensures ok { OnOk result (self.new ≡ with_label label.now self.old) }
+        ensures err { OnErr result (self.new ≡ self.old) }
     {
         if self.has(label) {
             return Ok(());

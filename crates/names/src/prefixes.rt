@@ -1,5 +1,5 @@
 //! Declared prefixes, and what names and literals stand for.
-ghost use Rattle.std.specs.Prelude.{◌≡◌, ◌++◌, IfOk, OnOk, Some, [], bytes_eq, is_none, string_bytes, true};
+ghost use Rattle.std.specs.Prelude.{◌≡◌, ◌++◌, IfOk, OnErr, OnOk, Some, [], bytes_eq, is_none, string_bytes, true};
 ghost use Rattle.std.specs.Option.{ForSome, option_map};
 ghost use Rattle.iris.specs.Iri.{IsIri};
 ghost use Rattle.iris.specs.Forms.{is_tag};
@@ -120,9 +120,10 @@ impl<'a> Prefixes<'a> {
     }
 
     /// One prefix more, which takes the place of an earlier one of the same name. An error comes
-    /// only where a growth was refused.
+    /// only where a growth was refused, and leaves the prefixes as they are.
     pub fn declare(&mut self, prefix: &Piece<'a>, iri: &IriText<'a>) -> Result<(), AllocError>
-        ensures { OnOk result (self.new ≡ declare prefix.now iri.now self.old) }
+        ensures ok { OnOk result (self.new ≡ declare prefix.now iri.now self.old) }
+        ensures err { OnErr result (self.new ≡ self.old) }
     {
         self.named.clear();
         self.map.insert(Key::new(prefix.as_bytes()), iri.again())?;

@@ -1,5 +1,5 @@
 //! A text that is read in pieces, by several threads.
-ghost use Rattle.std.specs.Prelude.{◌≡◌, ◌≤◌, ◌<◌, ◌+◌, ◌-◌, ◌^◌, ℕ, List, length, slice_index, IfOk, IfErr, IfSome, MatchOption};
+ghost use Rattle.std.specs.Prelude.{◌≡◌, ◌≤◌, ◌<◌, ◌+◌, ◌-◌, ◌^◌, ◌&&◌, is_none, ℕ, List, length, slice_index, IfOk, IfErr, IfSome, MatchOption};
 ghost use Rattle.std.specs.Thread.{IsSync};
 ghost use Rattle.nquads.specs.Pieces.{ArePieces};
 ghost use Rattle.nquads.specs.Portions.{IsReadText, AreRead, ends_of, ends_in, behind, all_behind, as_one};
@@ -70,7 +70,9 @@ impl ReadLines {
     }
 
     /// Whether none were read.
-    pub fn are_none(&self) -> bool {
+    pub fn are_none(&self) -> bool
+        ensures { result ≡ (is_none self.now.front && is_none self.now.behind) }
+    {
         self.front.is_none() && self.behind.is_none()
     }
 }

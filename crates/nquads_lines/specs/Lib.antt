@@ -6,3 +6,4 @@ pub mod Undone
 pub mod ReadTerms
 pub mod Reading
 pub mod Cut
+pub mod TagPlaces

@@ -1,7 +1,7 @@
 //! The terms of a statement (RDF 1.1 N-Quads, productions 3 to 7).
-ghost use Rattle.std.specs.Prelude.{◌≡◌, ◌≤◌, length, map, Some, None, IfOk, string_bytes};
+ghost use Rattle.std.specs.Prelude.{◌≡◌, ◌≤◌, length, map, true, Some, None, IfOk, IsErrOf, string_bytes};
 ghost use Rattle.std.specs.Char.{to_ascii_lowercase};
-ghost use Rattle.std.specs.List.{prefix_len};
+ghost use Rattle.std.specs.List.{list_all, prefix_len};
 ghost use Rattle.iris.specs.Iri.{IsIri};
 ghost use Rattle.iris.specs.Forms.{is_label_byte};
 ghost use Rattle.iris.specs.Runs.{run_of, rest_of};
@@ -13,8 +13,9 @@ ghost use Rattle.nquads_lines.specs.Reading.{Gives};
 use crate::escapes::{Quote, after};
 use crate::quoted::{iri_at, quoted_at};
 use crate::stop::Stop;
+use crate::tags::is_tag;
 use iris::Iri;
-use iris::laws::run_by_length;
+use iris::laws::{run_by_length, runs_are_longest};
 use std::alloc::{AllocError, Global};
 use terms::vocabulary::{RDF_LANG_STRING, XSD_STRING};
 use terms::{Blank, Literal, Term, TermCow};
@@ -42,20 +43,29 @@ fn label_run(text: &str) -> (&str, &str)
     text.split_at(label_len(text.as_bytes()))
 }
 
+/// The label of letters, digits and `_`. Where there are none it takes no memory.
 fn label_of(alloc: Global, label: &str) -> Result<Blank, Stop>
-    ensures { Gives (λ blank. blank) result (label_of label.now) }
+    requires { list_all is_label_byte label.now ≡ true }
+    ensures label { Gives (λ blank. blank) result (label_of label.now) }
+    ensures bad { label_of label.now ≡ None → IsErrOf result Stop.Bad }
 {
+    if label.is_empty() {
+        return Err(Stop::Bad);
+    }
     match Blank::check(alloc, label)? {
         Some(blank) => Ok(blank),
         None => Err(Stop::Bad),
     }
 }
 
-/// The label of a blank node behind `_:`, and what follows it.
+/// The label of a blank node behind `_:`, and what follows it. Where none is there it takes no
+/// memory.
 #[tactic(auto, unfolding(crate::specs::ReadTerms::blank_at))]
 fn blank_at(alloc: Global, text: &str) -> Result<(Blank, &str), Stop>
-    ensures { Gives (λ x. (x.0, x.1.now)) result (blank_at text.now) }
+    ensures label { Gives (λ x. (x.0, x.1.now)) result (blank_at text.now) }
+    ensures bad { blank_at text.now ≡ None → IsErrOf result Stop.Bad }
 {
+    runs_are_longest();
     let Some(text) = after(text, b'_') else {
         return Err(Stop::Bad);
     };
@@ -127,11 +137,16 @@ fn simple(alloc: Global, lexical: String) -> Result<Term, Stop>
     }
 }
 
-/// A string with this tag.
+/// A string with this tag. Where it is no tag it takes no memory.
 fn tagged(alloc: Global, lexical: String, tag: &str) -> Result<Term, Stop>
-    ensures { Gives (λ x. x) result (tagged (string_bytes lexical)
+    ensures term { Gives (λ x. x) result (tagged (string_bytes lexical)
         (map to_ascii_lowercase tag.now)) }
+    ensures bad { tagged (string_bytes lexical) (map to_ascii_lowercase tag.now) ≡ None
+        → IsErrOf result Stop.Bad }
 {
+    if !is_tag(tag.as_bytes()) {
+        return Err(Stop::Bad);
+    }
     let datatype = lang_string(alloc)?;
     let lower = lowered(alloc, tag)?;
     match Literal::new(alloc, lexical, datatype, Some(lower))? {
@@ -140,10 +155,14 @@ fn tagged(alloc: Global, lexical: String, tag: &str) -> Result<Term, Stop>
     }
 }
 
-/// A string with this datatype.
+/// A string with this datatype. Where it is rdf:langString it takes no memory.
 fn typed(alloc: Global, lexical: String, datatype: Iri) -> Result<Term, Stop>
-    ensures { Gives (λ x. x) result (typed (string_bytes lexical) datatype) }
+    ensures term { Gives (λ x. x) result (typed (string_bytes lexical) datatype) }
+    ensures bad { typed (string_bytes lexical) datatype ≡ None → IsErrOf result Stop.Bad }
 {
+    if datatype.as_str() == RDF_LANG_STRING {
+        return Err(Stop::Bad);
+    }
     match Literal::new(alloc, lexical, datatype, None)? {
         Some(literal) => Ok(Term::Literal(literal)),
         None => Err(Stop::Bad),

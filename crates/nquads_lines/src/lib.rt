@@ -12,6 +12,7 @@ mod line;
 mod lines;
 mod quoted;
 mod stop;
+mod tags;
 
 pub use forms::object_at;
 pub use line::line_of;

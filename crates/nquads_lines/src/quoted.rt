@@ -1,6 +1,6 @@
 //! What stands between quotes and between angle brackets, with its escapes undone (RDF 1.1 N-Quads,
 //! productions 8 and 9).
-ghost use Rattle.std.specs.Prelude.{◌≡◌, ◌+◌, ◌≤◌, length, true, IfOk, IfSome, string_bytes};
+ghost use Rattle.std.specs.Prelude.{◌≡◌, ◌+◌, ◌≤◌, length, true, IfOk, IfSome, IsErrOf, None, string_bytes};
 ghost use Rattle.std.specs.List.{list_all, prefix_len};
 ghost use Rattle.iris.specs.Iri.{is_iri_byte};
 ghost use Rattle.iris.specs.Runs.{run_of, rest_of};
@@ -12,7 +12,7 @@ ghost use Rattle.nquads_lines.specs.Reading.{Gives};
 use crate::escapes::{Quote, after, escape_at};
 use crate::stop::Stop;
 use iris::laws::{run_by_length, runs_are_longest};
-use iris::{Iri, IriCow};
+use iris::{Iri, IriCow, is_iri};
 use std::alloc::Global;
 
 fn is_plain(b: u8) -> bool
@@ -118,11 +118,16 @@ fn iri_of(text: &str) -> Result<IriCow<'_>, Stop>
     }
 }
 
-/// The IRI of any text, if it is one, in memory of its own.
+/// The IRI of any text, if it is one, in memory of its own. Of a text that is none it takes no
+/// memory.
 #[tactic(auto, using(iris::proofs::TextLaws::text_laws), unfolding(iris::specs::Bracketed::iri_of))]
 fn owned_iri_of<'a>(alloc: Global, text: &str) -> Result<IriCow<'a>, Stop>
-    ensures { Gives (λ iri. iri) result (iri_of text.now) }
+    ensures iri { Gives (λ iri. iri) result (iri_of text.now) }
+    ensures bad { iri_of text.now ≡ None → IsErrOf result Stop.Bad }
 {
+    if !is_iri(text.as_bytes()) {
+        return Err(Stop::Bad);
+    }
     match Iri::check(alloc, text)? {
         Some(iri) => Ok(IriCow::owned(iri)),
         None => Err(Stop::Bad),

@@ -1,3 +1,4 @@
 mod AskingAll
 mod Passes
 mod Sent
+mod Seen

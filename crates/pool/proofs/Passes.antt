@@ -1,5 +1,5 @@
 -- A pass that made a call is still for its duty.
-use Rattle.std.proofs.Common.{◌≡◌, ◌<◌, ◌≤◌, ℕ, List, [], ◌∷◌, ◌++◌, ◌+◌, length, length-append, take, drop, All, Bool, Option, Some, None, ◌⊎◌, inl, inr, Result, Ok, Err, refl, sym, ap, ◌∙◌, subst, arith}
+use Rattle.std.proofs.Common.{◌≡◌, ◌<◌, ◌≤◌, ℕ, List, [], ◌∷◌, ◌++◌, ◌+◌, length, length-append, take, drop, All, Bool, Option, Some, None, inl, inr, Result, Ok, Err, refl, sym, ap, ◌∙◌, subst, arith}
 use Rattle.std.proofs.lemmas.List.{take_all}
 use Rattle.std.proofs.lemmas.List.Elements.{All-append, All-take, All-drop}
 use Rattle.datasets.specs.declared.id.Id.{Id}
@@ -25,8 +25,13 @@ use Rattle.asking.specs.Goes.{Ends, Stops}
 use Rattle.asking.proofs.Notes.{asked_all}
 use Rattle.reads.specs.declared.note.Note.{Note}
 use Rattle.reads.specs.declared.source.Stop.{Stop}
+use Rattle.reads.specs.declared.source.Stop.TheVariants.{Blocked, Memory, Stale}
 use Rattle.pool.proofs.AskingAll.{sees_in_turn}
+use Rattle.datasets.specs.Id.{id_order}
+use Rattle.asking.specs.Near.{is_near_request}
+use Rattle.update.specs.Asked.{operations_of}
 use Rattle.pool.specs.Duty.{MayBegin, IsDone, AreDone}
+use Rattle.pool.specs.Stopped.{HasStopped, IsUnanswered}
 
 -- a pass that has seen more is still for its duty
 seen_for : (d : Duty) (old new : Viewed) → IsPassFor d old → new ≡ record old { seen = new.seen } → IsPassFor d new
@@ -90,6 +95,33 @@ stopped_for d allowed stop a a' h stops =
     ended b k (inl (short, same)) = subst (λ z. IsPassFor d z.pass) same k
     ended b k (inr (r, near, asks)) = asked_for d b a' r (Err stop) k asks
 
+-- asking changes of what answers only its pass
+stopped_as : (allowed : Read → Bool) (stop : Stop) (a a' : Asker) → Stops Asks allowed a a' stop → a' ≡ record a { pass = a'.pass }
+stopped_as allowed stop a a' stops =
+    let went = stops.1 in
+    ended went.last (asked_all Asks (λ b. b ≡ record a { pass = b.pass }) (λ r x. Unit {0}) (λ b b' r x k asks. (asks.0 ∙ ap (λ (c : Asker). record c { pass = b'.pass }) k, tt)) went.more a went.last refl went.asked).0 went.ends
+  where
+    ended : (b : Asker) → b ≡ record a { pass = b.pass } → Ends Asks allowed b (Some stop) a' → a' ≡ record a { pass = a'.pass }
+    ended b k (inl (short, same)) = subst (λ (z : Asker). z ≡ record a { pass = z.pass }) same k
+    ended b k (inr (r, near, asks)) = asks.0 ∙ ap (λ (c : Asker). record c { pass = a'.pass }) k
+
+module _ (request : Request Id) (i n : ℕ) (old new : Viewed) (a a' : Asker) (is : a ≡ record { pass = old; place = i; incarnation = n }) (end : new ≡ a'.pass) (stop : Stop)
+    (stops : Stops Asks (is_near_request id_order (operations_of request)) a a' stop) where
+  has_stopped : HasStopped request i n old new stop
+  has_stopped =
+      let whole : a' ≡ record { pass = new; place = i; incarnation = n } =
+      stopped_as _ stop a a' stops ∙ (λ z. record { pass = sym end z; place = (is z).place; incarnation = (is z).incarnation }) in
+      subst (λ (t : Asker × Asker). Stops Asks (is_near_request id_order (operations_of request)) t.0 t.1 stop) (λ z. (is z, whole z)) stops
+
+  pub short_stopped : stop ≡ Memory → HasStopped request i n old new Memory
+  short_stopped e = subst (HasStopped request i n old new) e has_stopped
+
+  pub blocked_unanswered : (j : ℕ) → stop ≡ Blocked j → IsUnanswered request i n old new
+  blocked_unanswered j e = record { stop = stop; other = λ short. absurd (let both : Blocked j ≡ Memory = sym e ∙ short in cc); stopped = has_stopped }
+
+  pub stale_unanswered : stop ≡ Stale → IsUnanswered request i n old new
+  stale_unanswered e = record { stop = stop; other = λ short. absurd (let both : Stale ≡ Memory = sym e ∙ short in cc); stopped = has_stopped }
+
 -- ---- the book that is closed with passes that are done
 
 pub subject_is : (d : Duty) (book : Run) (before ps : List Viewed) (n : ℕ) → length before ≡ n → 0 < n → AreDone d before ps → All (λ p. Includes owner p (history_of book)) ps
@@ -107,12 +139,12 @@ front_is d book before (p ∷ ps) n is some done fronts =
 
 -- ---- two crews
 
-pub first_may_begin : (d e : Duty) (n : ℕ) (all some : List Viewed) → e ≡ d → some ≡ take n all → MayBegin d all → MayBegin e some
-first_may_begin d e n all some same is h =
+pub front_may_begin : (d e : Duty) (n : ℕ) (all some : List Viewed) → e ≡ d → some ≡ take n all → MayBegin d all → MayBegin e some
+front_may_begin d e n all some same is h =
     subst (λ (x : Duty). MayBegin x some) (sym same) (record { passes = subst (All (IsPassFor d)) (sym is) (All-take (IsPassFor d) n all h.passes); size = h.size; short = h.short })
 
-pub others_may_begin : (d e : Duty) (n : ℕ) (all some : List Viewed) → e ≡ d → some ≡ drop n all → MayBegin d all → MayBegin e some
-others_may_begin d e n all some same is h =
+pub rest_may_begin : (d e : Duty) (n : ℕ) (all some : List Viewed) → e ≡ d → some ≡ drop n all → MayBegin d all → MayBegin e some
+rest_may_begin d e n all some same is h =
     subst (λ (x : Duty). MayBegin x some) (sym same) (record { passes = subst (All (IsPassFor d)) (sym is) (All-drop (IsPassFor d) n all h.passes); size = h.size; short = h.short })
 
 pub both_done : (d e f : Duty) (before first second left right all : List Viewed) → e ≡ d → f ≡ d → length first + length second ≡ length before

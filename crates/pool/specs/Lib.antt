@@ -1,1 +1,3 @@
 pub mod Duty
+pub mod Shown
+pub mod Stopped

@@ -4,6 +4,7 @@ ghost use Rattle.reads.specs.Asking.{AsksAll};
 ghost use Rattle.shared.specs.Asks.{Asks};
 ghost use Rattle.shared.specs.Calls.{Viewed};
 ghost use Rattle.shared.specs.InTurn.{InTurn, questions, reading};
+ghost use Rattle.pool.specs.Shown.{AreSeen};
 
 use crate::gate::Gate;
 use crate::worker::{Turn, Workers};
@@ -77,7 +78,9 @@ impl<'w, 's, 'a, R: Wait, G: Gate> Asking<'w, 's, 'a, R, G> {
         made: Result<bool, AllocError>,
         notes: &mut Vec<Note>,
     ) -> Result<(), Stop>
-        requires { vec_len notes.old + length reads.now ≤ vec_capacity notes.old }
+        requires room { vec_len notes.old + length reads.now ≤ vec_capacity notes.old }
+        requires seen { AreSeen self.now.pass replies.items
+            (reading self.now.place self.now.incarnation reads.now) }
         ensures { (old : Viewed) → InTurn old (reading self.now.place self.now.incarnation
             reads.now) replies.items made self.now.pass
             → AsksAll Asks (record self.now { pass = old }) reads.now notes.old.items

@@ -1,5 +1,5 @@
 //! Workers on threads of their own.
-ghost use Rattle.std.specs.Prelude.{◌≡◌, ◌≤◌, ◌<◌, ◌+◌, min, length, take, drop, vec_len, IfOk};
+ghost use Rattle.std.specs.Prelude.{◌≡◌, ◌≤◌, ◌<◌, ◌+◌, ◌-◌, length, take, drop, vec_len, IfOk};
 ghost use Rattle.std.specs.Thread.{IsSync};
 ghost use Rattle.pool.specs.Duty.{MayBegin, AreDone};
 
@@ -36,46 +36,46 @@ impl<'s, 'a, R: Threads + Wait + Sync, G: Gate + Sync> Crew<'s, 'a, R, G> {
         Ok(done)
     }
 
-    // Two crews, with the first pass and the others.
+    // Two crews, with the last pass and the others.
     fn split(self) -> Result<(Self, Self), AllocError>
         ensures workers { IfOk result (λ r. (r.0.workers ≡ self.entry.workers)
             × (r.1.workers ≡ self.entry.workers)) }
-        ensures first { IfOk result (λ r. r.0.passes.items
-            ≡ take (min (length self.entry.passes.items) 1) self.entry.passes.items) }
+        ensures last { IfOk result (λ r. r.0.passes.items
+            ≡ drop (length self.entry.passes.items - 1) self.entry.passes.items) }
         ensures others { IfOk result (λ r. r.1.passes.items
-            ≡ drop (min (length self.entry.passes.items) 1) self.entry.passes.items) }
+            ≡ take (length self.entry.passes.items - 1) self.entry.passes.items) }
     {
         let Crew {
             workers,
             mut passes,
         } = self;
-        let others = passes.split_off(passes.len().min(1))?;
-        let second = Crew {
+        let last = passes.split_off(passes.len().saturating_sub(1))?;
+        let first = Crew {
             workers: workers.again(),
-            passes: others,
+            passes: last,
         };
-        Ok((Crew { workers, passes }, second))
+        Ok((first, Crew { workers, passes }))
     }
 
-    // Two crews, of one worker and of the others.
+    // Two crews, of the last worker and of the others.
     fn parted(self) -> Result<(Self, Self), AllocError>
         requires { MayBegin self.workers self.passes.items }
         ensures count { IfOk result (λ r. length r.0.passes.items + length r.1.passes.items
             ≡ length self.entry.passes.items) }
         ensures some { 2 ≤ length self.entry.passes.items
             → IfOk result (λ r. (0 < length r.0.passes.items) × (0 < length r.1.passes.items)) }
-        ensures first { IfOk result (λ r. (r.0.workers ≡ self.entry.workers)
+        ensures last { IfOk result (λ r. (r.0.workers ≡ self.entry.workers)
             × MayBegin r.0.workers r.0.passes.items) }
-        ensures second { IfOk result (λ r. (r.1.workers ≡ self.entry.workers)
+        ensures others { IfOk result (λ r. (r.1.workers ≡ self.entry.workers)
             × MayBegin r.1.workers r.1.passes.items) }
     {
-        let (first, second) = self.split()?;
-        Ok((first, second))
+        let (last, others) = self.split()?;
+        Ok((last, others))
     }
 
     /// All do tasks until all requests are committed, each on a thread of its own where one can be
-    /// had. The thread that calls makes all others: of those that new ones make, two often share a
-    /// processor at first. An error comes only where a growth was refused.
+    /// had. The thread that calls makes all others, and is the first worker: of those that new ones
+    /// make, two often share a processor at first. An error comes only where a growth was refused.
     pub fn work(self) -> Result<Vec<Pass<'a>>, AllocError>
         requires shared { IsSync R.row × IsSync G.row }
         requires begin { MayBegin self.workers self.passes.items }
@@ -86,24 +86,24 @@ impl<'s, 'a, R: Threads + Wait + Sync, G: Gate + Sync> Crew<'s, 'a, R, G> {
             return self.work_alone();
         }
         let rt = self.workers.rt;
-        let (first, second) = self.parted()?;
-        let (low, high) = join(
+        let (last, others) = self.parted()?;
+        let (alone, together) = join(
             rt,
             move || -> Result<Vec<Pass<'_>>, AllocError>
-                requires { IsSync R.row × IsSync G.row × MayBegin first.workers first.passes.items }
-                ensures { IfOk result (λ done. AreDone first.entry.workers first.entry.passes.items
+                requires { IsSync R.row × IsSync G.row × MayBegin last.workers last.passes.items }
+                ensures { IfOk result (λ done. AreDone last.entry.workers last.entry.passes.items
                     done.items) }
-            { first.work() },
+            { last.work() },
             move || -> Result<Vec<Pass<'_>>, AllocError>
                 requires { IsSync R.row × IsSync G.row
-                    × MayBegin second.workers second.passes.items }
-                ensures { IfOk result (λ done. AreDone second.entry.workers
-                    second.entry.passes.items done.items) }
-            { second.work() },
+                    × MayBegin others.workers others.passes.items }
+                ensures { IfOk result (λ done. AreDone others.entry.workers
+                    others.entry.passes.items done.items) }
+            { others.work() },
         );
-        let mut done = low?;
-        let mut others = high?;
-        done.append(&mut others)?;
+        let mut done = together?;
+        let mut last_done = alone?;
+        done.append(&mut last_done)?;
         Ok(done)
     }
 }

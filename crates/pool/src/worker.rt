@@ -1,9 +1,12 @@
 //! What one worker does until all requests are committed.
-ghost use Rattle.std.specs.Prelude.{◌≡◌, ◌<◌, ◌^◌, Some, length, slice_get, IfOk, IfSome};
+ghost use Rattle.std.specs.Prelude.{◌≡◌, ◌<◌, ◌^◌, ◌++◌, Some, length, replicate, drop, slice_get, IfOk, IfSome, IfNone, OnErr};
 ghost use Rattle.update.specs.Asked.{AreShort, IsShort};
 ghost use Rattle.shared.specs.Calls.{IsSoundAt};
 ghost use Rattle.shared.specs.Duty.{IsPassFor};
+ghost use Rattle.shared.specs.InTurn.{checking, committing};
 ghost use Rattle.pool.specs.Duty.{IsDone};
+ghost use Rattle.pool.specs.Shown.{HasSeen, IsShown, FirstIsSeen, AreSeen, StaysSeen, TakeIsSeen};
+ghost use Rattle.pool.specs.Stopped.{HasStopped, IsUnanswered};
 
 use crate::asker::Asking;
 use crate::gate::Gate;
@@ -19,6 +22,7 @@ use reads::{IndexedView, Stop};
 use scheduler::Task;
 use shared::{Next, Pass, SharedBlock};
 use std::alloc::{AllocError, Global};
+use std::collections::VecDeque;
 use std::marker::Model;
 use std::sync::Wait;
 use std::sync::atomic::{AtomicBool, Ordering};
@@ -64,9 +68,22 @@ impl<'s, 'a, R: Wait, G: Gate> Model for Workers<'s, 'a, R, G> {
     ghost view = { λ w. record { table = w.shared.now; subject = record { terms = w.terms.now; base = w.base.now; block = w.block.now } } };
 }
 
+// Whether something was committed.
+fn is_commit(reply: Option<Reply>) -> bool {
+    matches!(reply, Some(Reply::Committed))
+}
+
 impl<'s, 'a, R: Wait, G: Gate> Workers<'s, 'a, R, G> {
-    /// Shows an answered event to the gate, and gives its reply again.
+    // Shows the gate an entry. The gate is called here alone.
+    fn show(&self, pass: &Pass<'a>, worker: u32, entry: &Entry)
+        requires { IsShown pass.now worker entry.now }
+    {
+        self.gate.after(worker, entry);
+    }
+
+    /// Shows the gate an answered event that the pass has seen, and gives its reply again.
     pub fn shown(&self, pass: &Pass<'a>, event: Event, reply: Reply) -> Reply
+        requires { HasSeen pass.now event reply }
         ensures { result ≡ reply }
     {
         let worker = pass.worker();
@@ -75,40 +92,65 @@ impl<'s, 'a, R: Wait, G: Gate> Workers<'s, 'a, R, G> {
             event,
             reply,
         };
-        self.gate.after(worker, &entry);
+        self.show(pass, worker, &entry);
         entry.reply
     }
 
+    // Shows the gate an event with the first of some replies, if there is one.
+    fn show_next(
+        &self,
+        pass: &Pass<'a>,
+        event: Event,
+        replies: &mut VecDeque<Reply>,
+    ) -> Option<Reply>
+        requires { FirstIsSeen pass.now event replies.old.items }
+        ensures { replies.new.items ≡ drop 1 replies.old.items }
+    {
+        match replies.pop_front() {
+            Some(reply) => Some(self.shown(pass, event, reply)),
+            None => None,
+        }
+    }
+
     // The finished run of a request, or nothing where a read was not answered, and the pass again.
+    // An error comes only where the run stopped for want of memory.
     fn executed(
         &self,
         pass: Pass<'a>,
         turn: Turn,
         request: &Request<Id>,
-    ) -> Result<(Pass<'a>, Option<Finished>), AllocError>
+    ) -> (Pass<'a>, Result<Option<Finished>, AllocError>)
         requires pass { IsPassFor self.now pass }
         requires place { turn.place < 2 ^ 32 }
         requires is { slice_get self.now.subject.block turn.place ≡ Some request.now }
         requires short { IsShort request.now }
-        ensures pass { IfOk result (λ r. IsPassFor self.now r.0) }
-        ensures sound { IfOk result (λ r. IfSome r.1
+        ensures pass { IsPassFor self.now result.0 }
+        ensures sound { IfOk result.1 (λ found. IfSome found
             (λ run. IsSoundAt self.now.subject turn.place run)) }
+        ensures none { IfOk result.1 (λ found. IfNone found
+            (IsUnanswered request.now turn.place turn.incarnation pass.entry result.0)) }
+        ensures memory { OnErr result.1 (HasStopped request.now turn.place turn.incarnation
+            pass.entry result.0 Stop.Memory) }
     {
         let mut asking = Asking::new(self, pass, turn);
         let place = turn.place as u32;
         let execution = execute(self.alloc, self.terms, place, request, &mut asking);
         let pass = asking.into_pass();
         match execution {
-            Ok(execution) => Ok((pass, Some(execution.into_finished()))),
-            Err(Stop::Memory) => Err(AllocError),
-            Err(_) => Ok((pass, None)),
+            Ok(execution) => (pass, Ok(Some(execution.into_finished()))),
+            Err(stop) => match stop {
+                Stop::Memory => (pass, Err(AllocError)),
+                Stop::Blocked(_) => (pass, Ok(None)),
+                Stop::Stale => (pass, Ok(None)),
+            },
         }
     }
 
-    // Leaves a request.
+    // Leaves a request. What the pass has seen stays seen.
     fn give_up(&self, pass: &mut Pass<'a>, turn: Turn) -> Result<(), AllocError>
         requires { IsPassFor self.now pass.old }
-        ensures { IsPassFor self.now pass.new }
+        ensures pass { IsPassFor self.now pass.new }
+        ensures seen { StaysSeen pass.old pass.new }
     {
         let Turn { place, incarnation } = turn;
         let reply = self
@@ -118,34 +160,65 @@ impl<'s, 'a, R: Wait, G: Gate> Workers<'s, 'a, R, G> {
         Ok(())
     }
 
-    // Shows the gate the replies of a settling, in order, before which a publication may stand.
+    // Shows the gate the replies of a pass of checks of so many notes, as far as there are any.
+    fn show_checks(
+        &self,
+        pass: &Pass<'a>,
+        turn: Turn,
+        notes: usize,
+        until: usize,
+        replies: &mut VecDeque<Reply>,
+    )
+        requires { AreSeen pass.now replies.old.items
+            (replicate notes (Event.Check turn.place turn.incarnation)
+            ++ committing turn.place until) }
+        ensures { AreSeen pass.now replies.new.items (committing turn.place until) }
+    {
+        let Turn { place, incarnation } = turn;
+        let mut left = notes;
+        while left > 0 && !replies.is_empty() {
+            let reply = self.show_next(pass, Event::Check(place, incarnation), replies);
+            if let Some(Reply::Aborted) = reply {
+                self.pace.slow_down();
+            }
+            left -= 1;
+        }
+    }
+
+    // Shows the gate the replies of the commits from a place on, as far as there are any.
+    fn show_commits(
+        &self,
+        pass: &Pass<'a>,
+        place: usize,
+        until: usize,
+        replies: &mut VecDeque<Reply>,
+    )
+        requires { AreSeen pass.now replies.old.items (committing place until) }
+    {
+        let mut next = place;
+        while next < until && !replies.is_empty() {
+            let reply = self.show_next(pass, Event::Commit(next), replies);
+            self.pace.commit_if(is_commit(reply));
+            next += 1;
+        }
+    }
+
+    // Shows the gate the replies of a settling, in order.
     fn show_settled(
         &self,
         pass: &Pass<'a>,
         turn: Turn,
         notes: usize,
-        is_published: bool,
-        replies: Vec<Reply>,
-    ) {
+        until: usize,
+        replies: &mut VecDeque<Reply>,
+    )
+        requires { AreSeen pass.now replies.old.items
+            (checking turn.place turn.incarnation notes ++ committing turn.place until) }
+    {
         let Turn { place, incarnation } = turn;
-        let mut front = place;
-        let skipped = if is_published { 0 } else { 1 };
-        for (k, reply) in replies.into_iter().enumerate() {
-            let event = match k.saturating_add(skipped) {
-                0 => Event::Publish(place, incarnation, None),
-                1 => Event::Begin(place, incarnation),
-                k if k <= notes.saturating_add(1) => Event::Check(place, incarnation),
-                _ => Event::Commit(front),
-            };
-            match self.shown(pass, event, reply) {
-                Reply::Aborted => self.pace.slow_down(),
-                Reply::Committed => {
-                    self.pace.commit();
-                    front = front.saturating_add(1);
-                }
-                _ => {}
-            }
-        }
+        self.show_next(pass, Event::Begin(place, incarnation), replies);
+        self.show_checks(pass, turn, notes, until, replies);
+        self.show_commits(pass, place, until, replies);
     }
 
     // Below which place a worker commits while it holds the book once: from a place on those whose
@@ -170,10 +243,12 @@ impl<'s, 'a, R: Wait, G: Gate> Workers<'s, 'a, R, G> {
     ) -> Result<(bool, Next), AllocError>
         requires pass { IsPassFor self.now pass.old }
         requires sound { IsSoundAt self.now.subject turn.place run }
-        ensures { IsPassFor self.now pass.new }
+        ensures pass { IsPassFor self.now pass.new }
+        ensures seen { IfOk result (λ r. TakeIsSeen pass.new r.1) }
     {
         let Turn { place, incarnation } = turn;
         let notes = run.transcript.len();
+        let until = self.until(place);
         let mut replies = Vec::new(self.alloc);
         // Most often there are so many; the book is not held yet.
         replies.reserve(notes.saturating_add(3))?;
@@ -185,12 +260,14 @@ impl<'s, 'a, R: Wait, G: Gate> Workers<'s, 'a, R, G> {
             incarnation,
             run,
             notes,
-            self.until(place),
+            until,
             self.pace.until_behind(place),
             &mut replies,
         );
         let is_published = matches!(replies.first(), Some(Reply::Published));
-        self.show_settled(pass, turn, notes, true, replies);
+        let mut replies = VecDeque::from(replies);
+        self.show_next(pass, Event::Publish(place, incarnation, None), &mut replies);
+        self.show_settled(pass, turn, notes, until, &mut replies);
         let (_, next) = made?;
         Ok((is_published, next))
     }
@@ -206,13 +283,15 @@ impl<'s, 'a, R: Wait, G: Gate> Workers<'s, 'a, R, G> {
     ) -> Result<(bool, Next), AllocError>
         requires pass { IsPassFor self.now pass.old }
         requires sound { IsSoundAt self.now.subject turn.place run }
-        ensures { IsPassFor self.now pass.new }
+        ensures pass { IsPassFor self.now pass.new }
+        ensures seen { IfOk result (λ r. TakeIsSeen pass.new r.1) }
     {
         let (is_published, next) = self.published(pass, turn, run)?;
-        if !is_published {
-            self.give_up(pass, turn)?;
+        if is_published {
+            return Ok((true, next));
         }
-        Ok((is_published, next))
+        self.give_up(pass, turn)?;
+        Ok((false, next))
     }
 
     // Settles a published run of so many notes while the book is held once: its checks, as long as
@@ -223,6 +302,7 @@ impl<'s, 'a, R: Wait, G: Gate> Workers<'s, 'a, R, G> {
         ensures { IsPassFor self.now pass.new }
     {
         let Turn { place, incarnation } = turn;
+        let until = self.until(place);
         let mut replies = Vec::new(self.alloc);
         let settled = self.shared.settle(
             self.rt,
@@ -231,11 +311,11 @@ impl<'s, 'a, R: Wait, G: Gate> Workers<'s, 'a, R, G> {
             place,
             incarnation,
             notes,
-            self.until(place),
+            until,
             &mut replies,
         );
         let is_begun = matches!(replies.first(), Some(Reply::Begun));
-        self.show_settled(pass, turn, notes, false, replies);
+        self.show_settled(pass, turn, notes, until, &mut VecDeque::from(replies));
         settled?;
         Ok(is_begun)
     }
@@ -252,10 +332,11 @@ impl<'s, 'a, R: Wait, G: Gate> Workers<'s, 'a, R, G> {
         requires place { turn.place < 2 ^ 32 }
         requires is { slice_get self.now.subject.block turn.place ≡ Some request.now }
         requires short { IsShort request.now }
-        ensures { IfOk result (λ r. IsPassFor self.now r.0) }
+        ensures pass { IfOk result (λ r. IsPassFor self.now r.0) }
+        ensures seen { IfOk result (λ r. TakeIsSeen r.0 r.2) }
     {
-        let (mut pass, found) = self.executed(pass, turn, request)?;
-        let Some(run) = found else {
+        let (mut pass, found) = self.executed(pass, turn, request);
+        let Some(run) = found? else {
             self.pace.slow_down();
             self.give_up(&mut pass, turn)?;
             return Ok((pass, false, Next::nothing()));
@@ -277,9 +358,11 @@ impl<'s, 'a, R: Wait, G: Gate> Workers<'s, 'a, R, G> {
         reply: Reply,
     ) -> Result<(Pass<'a>, bool, Next), AllocError>
         requires pass { IsPassFor self.now pass }
+        requires seen { HasSeen pass (Event.Take place) reply }
         requires size { length self.now.subject.block < 2 ^ 32 }
         requires short { AreShort self.now.subject.block }
-        ensures { IfOk result (λ r. IsPassFor self.now r.0) }
+        ensures pass { IfOk result (λ r. IsPassFor self.now r.0) }
+        ensures seen { IfOk result (λ r. TakeIsSeen r.0 r.2) }
     {
         let Some(request) = self.block.get(place) else {
             return Ok((pass, false, Next::nothing()));
@@ -343,9 +426,11 @@ impl<'s, 'a, R: Wait, G: Gate> Workers<'s, 'a, R, G> {
     // block got on by it, and what can be done then.
     fn follow(&self, pass: Pass<'a>, next: Next) -> Result<(Pass<'a>, bool, Next), AllocError>
         requires pass { IsPassFor self.now pass }
+        requires seen { TakeIsSeen pass next }
         requires size { length self.now.subject.block < 2 ^ 32 }
         requires short { AreShort self.now.subject.block }
-        ensures { IfOk result (λ r. IsPassFor self.now r.0) }
+        ensures pass { IfOk result (λ r. IsPassFor self.now r.0) }
+        ensures seen { IfOk result (λ r. TakeIsSeen r.0 r.2) }
     {
         match (next.task, next.taken) {
             (Some(Task::Take(place)), Some(reply)) => self.run_next(pass, place, reply),
@@ -363,7 +448,8 @@ impl<'s, 'a, R: Wait, G: Gate> Workers<'s, 'a, R, G> {
         requires pass { IsPassFor self.now pass }
         requires size { length self.now.subject.block < 2 ^ 32 }
         requires short { AreShort self.now.subject.block }
-        ensures { IfOk result (λ r. IsPassFor self.now r.0) }
+        ensures pass { IfOk result (λ r. IsPassFor self.now r.0) }
+        ensures seen { IfOk result (λ r. TakeIsSeen r.0 r.2) }
     {
         let mut pass = pass;
         let until = self.pace.until();
@@ -382,9 +468,11 @@ impl<'s, 'a, R: Wait, G: Gate> Workers<'s, 'a, R, G> {
         patience: &mut Patience,
     ) -> Result<(Pass<'a>, bool, Next), AllocError>
         requires pass { IsPassFor self.now pass }
+        requires seen { TakeIsSeen pass next }
         requires size { length self.now.subject.block < 2 ^ 32 }
         requires short { AreShort self.now.subject.block }
-        ensures { IfOk result (λ r. IsPassFor self.now r.0) }
+        ensures pass { IfOk result (λ r. IsPassFor self.now r.0) }
+        ensures seen { IfOk result (λ r. TakeIsSeen r.0 r.2) }
     {
         if next.taken.is_some() {
             return self.follow(pass, next);

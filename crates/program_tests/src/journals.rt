@@ -2,7 +2,7 @@
 ghost use Rattle.std.specs.Prelude.{◌<◌, ◌≤◌};
 
 use crate::failing_devices::{Narrow, Slow};
-use cli::{Fault, File, replay_engine, run_with_journal_engine};
+use cli::{Fault, File, Open, replay_engine, run_with_journal_engine};
 use devices::Watched;
 use std::alloc::Global;
 use std::sync::Wait;
@@ -97,6 +97,7 @@ fn recorded<T: Threads + Wait + Sync>(
         &mut replies,
         &mut journal,
         workers,
+        &Open,
     );
     let answer = Answer {
         outcome,

@@ -50,6 +50,10 @@ pub says-quads : (r : Read) (p : QuadPattern Id) (quads : List (Quad Id)) (d : V
 unfolding says
 says-quads r p quads d e is = ap Quads e ∙ ap (λ z. says z d) (sym is)
 
+pub says-has : (r : Read) (g : Id) (b : Bool) (names : List Id) (d : View) → b ≡ has id_order names g → names ≡ d.names → r ≡ GraphIs g → Is b ≡ says r d
+unfolding says
+says-has r g b names d e f is = ap Is (e ∙ ap (λ (ns : List Id). has id_order ns g) f) ∙ ap (λ z. says z d) (sym is)
+
 -- ---- what is told of a dataset
 
 pub told-scan : (o : Option (List (Quad Id))) (a : Answer) (r : Read) (d : View) (p : QuadPattern Id) → o ≡ told_quads a → a ≡ says r d → r ≡ Scan p → o ≡ Some (filter (matches id_order p) d.quads)

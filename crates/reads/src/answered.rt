@@ -1,7 +1,7 @@
 //! Answers to reads.
-ghost use Rattle.std.specs.Prelude.{◌≡◌, ◌↔◌, IsTrue, IfOk, option_copied};
+ghost use Rattle.std.specs.Prelude.{◌≡◌, ◌↔◌, IsTrue, IsOk, IfOk, option_copied};
 ghost use Rattle.datasets.specs.Dataset.{Quads, Is, Names};
-ghost use Rattle.reads.specs.Kept.{told_by};
+ghost use Rattle.reads.specs.Kept.{told_by, IsTruth};
 ghost use Rattle.reads.specs.Reads.{told_quads, told_names, told_is};
 ghost use Rattle.reads.specs.Same.{answer_eq};
 
@@ -23,39 +23,50 @@ pub enum KeptAnswer {
     Names(Vec<Id>),
 }
 
-/// An answer to a read, which is shared and not copied. Contracts see what it tells.
+// A list has several owners. A truth value needs no memory of its own.
+#[derive(Drop)]
+enum Form {
+    Quads(Arc<QuadList, Global>),
+    Is(bool),
+    Names(Arc<Vec<Id>, Global>),
+}
+
+/// An answer to a read, whose list is shared and not copied. Contracts see what it tells.
 #[derive(Drop)]
 pub struct Answered {
-    answer: Arc<KeptAnswer, Global>,
+    form: Form,
 }
 
 impl Model for Answered {
     ghost use Rattle.datasets.specs.Dataset.{Told};
     ghost use Rattle.datasets.specs.declared.id.Id.{Id};
-    ghost use Rattle.std.specs.Arc.{arc_value};
-    ghost use Rattle.reads.specs.Kept.{told_by};
+    ghost use Rattle.reads.specs.Kept.{answer_of};
 
     ghost Value = { Told Id };
 
-    ghost view = { λ a. told_by (arc_value a.answer) };
+    ghost view = { λ a. answer_of a.form };
 }
 
 impl Answered {
-    /// This answer.
+    /// This answer. A truth value takes no memory.
     pub fn new(alloc: Global, answer: KeptAnswer) -> Result<Answered, AllocError>
-        ensures { IfOk result (λ shared. shared ≡ told_by answer) }
+        ensures same { IfOk result (λ shared. shared ≡ told_by answer) }
+        ensures truth { IsTruth answer → IsOk result }
     {
-        Ok(Answered {
-            answer: Arc::new(alloc, answer)?,
-        })
+        let form = match answer {
+            KeptAnswer::Quads(quads) => Form::Quads(Arc::new(alloc, quads)?),
+            KeptAnswer::Is(so) => Form::Is(so),
+            KeptAnswer::Names(names) => Form::Names(Arc::new(alloc, names)?),
+        };
+        Ok(Answered { form })
     }
 
     /// The quads, if it is the answer to a scan.
     pub fn quads(&self) -> Option<&QuadList>
         ensures { option_copied result ≡ told_quads self.now }
     {
-        match &*self.answer {
-            KeptAnswer::Quads(quads) => Some(quads),
+        match &self.form {
+            Form::Quads(quads) => Some(&**quads),
             _ => None,
         }
     }
@@ -64,8 +75,8 @@ impl Answered {
     pub fn is(&self) -> Option<bool>
         ensures { result ≡ told_is self.now }
     {
-        match &*self.answer {
-            KeptAnswer::Is(so) => Some(*so),
+        match &self.form {
+            Form::Is(so) => Some(*so),
             _ => None,
         }
     }
@@ -74,8 +85,8 @@ impl Answered {
     pub fn names(&self) -> Option<&[Id]>
         ensures { option_copied result ≡ told_names self.now }
     {
-        match &*self.answer {
-            KeptAnswer::Names(names) => Some(names.as_slice()),
+        match &self.form {
+            Form::Names(names) => Some(names.as_slice()),
             _ => None,
         }
     }
@@ -85,18 +96,22 @@ impl Answered {
     pub fn copied(&self, _alloc: Global) -> Result<Self, AllocError>
         ensures { IfOk result (λ copy. copy ≡ self.now) }
     {
-        let answer = Arc::try_clone(&self.answer)?;
-        Ok(Answered { answer })
+        let form = match &self.form {
+            Form::Quads(quads) => Form::Quads(Arc::try_clone(quads)?),
+            Form::Is(so) => Form::Is(*so),
+            Form::Names(names) => Form::Names(Arc::try_clone(names)?),
+        };
+        Ok(Answered { form })
     }
 
     // The test, as the definition has it.
     fn equals(&self, other: &Answered) -> bool
         ensures { result ≡ answer_eq self.now other.now }
     {
-        match (&*self.answer, &*other.answer) {
-            (KeptAnswer::Quads(x), KeptAnswer::Quads(y)) => same_quads(x, y),
-            (KeptAnswer::Is(x), KeptAnswer::Is(y)) => same_bool(*x, *y),
-            (KeptAnswer::Names(x), KeptAnswer::Names(y)) => same_names(x, y),
+        match (&self.form, &other.form) {
+            (Form::Quads(x), Form::Quads(y)) => same_quads(x, y),
+            (Form::Is(x), Form::Is(y)) => same_bool(*x, *y),
+            (Form::Names(x), Form::Names(y)) => same_names(x, y),
             _ => false,
         }
     }

@@ -1,10 +1,11 @@
 //! Datasets whose quads are kept in several orders.
-ghost use Rattle.std.specs.Prelude.{◌≡◌, IfOk, [], filter};
+ghost use Rattle.std.specs.Prelude.{◌≡◌, IsOk, IfOk, [], filter};
 ghost use Rattle.datasets.specs.Id.{id_order};
 ghost use Rattle.datasets.specs.Dataset.{matches, quad_order};
 ghost use Rattle.sets.specs.Sets.{set_of};
 ghost use Rattle.change_laws.specs.Laws.{IsRising};
 ghost use Rattle.reads.specs.Reads.{says};
+ghost use Rattle.reads.specs.Tells.{IsForName};
 
 use crate::answered::{Answered, KeptAnswer};
 use crate::compact::CompactView;
@@ -14,6 +15,7 @@ use datasets::{Id, QuadPattern, Read};
 use quad_index::Index;
 use quad_lists::{Arrangement, QuadList};
 use quad_sets::{QuadSet, QuadSlice};
+use sets::is_member;
 use std::alloc::{AllocError, Global};
 use std::marker::Model;
 use std::thread::Threads;
@@ -160,16 +162,21 @@ impl IndexedView {
         }
     }
 
-    /// What the read says of the dataset.
+    /// What the read says of the dataset. To say whether a name is there takes no memory.
     pub fn answer(&self, alloc: Global, read: &Read<Id>) -> Result<Answered, AllocError>
-        ensures { IfOk result (λ answer. answer ≡ says read.now self.now) }
+        ensures same { IfOk result (λ answer. answer ≡ says read.now self.now) }
+        ensures name { IsForName read.now → IsOk result }
     {
         match read {
             Read::Scan(pattern) => {
                 let quads = self.quads.scan(alloc, pattern)?;
                 Answered::new(alloc, KeptAnswer::Quads(quads))
             }
-            Read::GraphIs(_) => self.named.answer(alloc, read),
+            Read::GraphIs(name) => {
+                self.rises();
+                let is_there = is_member(self.names(), name);
+                Answered::new(alloc, KeptAnswer::Is(is_there))
+            }
             Read::Graphs => self.named.answer(alloc, read),
         }
     }

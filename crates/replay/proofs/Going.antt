@@ -1,10 +1,7 @@
 -- A journal's lines, one more at a time.
-use Rattle.std.proofs.Common.{◌≡◌, ℕ, ◌+◌, ◌<◌, ◌≤◌, true, List, [], ◌∷◌, ◌++◌, length, map, take, Some, get_or, refl, sym, ap, ◌∙◌, subst, arith}
+use Rattle.std.proofs.Common.{◌≡◌, ℕ, ◌+◌, ◌<◌, List, length, take, get_or, refl, sym, ap, ◌∙◌, subst, arith}
 use Rattle.std.specs.Prelude.{slice_get}
-use Rattle.std.specs.List.{list_all}
-use Rattle.std.specs.Cmp.Derive.{both_true}
-use Rattle.std.proofs.lemmas.List.{take_more, map-append, length-take-le, length-map}
-use Rattle.std.proofs.lemmas.List.Folds.{list_all-append}
+use Rattle.std.proofs.lemmas.List.{length-take-le, length-map}
 use Rattle.std.proofs.lemmas.Option.{slice_get_read}
 use Rattle.terms.specs.declared.term.Term.{Term}
 use Rattle.datasets.specs.declared.id.Id.{Id}
@@ -14,9 +11,8 @@ use Rattle.incarnations.specs.declared.state.Entry.{Entry}
 use Rattle.block_machine.specs.Serial.{IsHistory}
 use Rattle.book.specs.Run.{Run, setting_of}
 use Rattle.journal.specs.declared.lines.Line.{Line}
-use Rattle.replay.specs.Lines.{line_of, entry_known, IsEntryOf, HasLines}
+use Rattle.replay.specs.Lines.{line_of, HasLines}
 use Rattle.replay.specs.Replays.{IsUnlawful, StopsAt}
-use Rattle.replay.specs.Following.{GoesOnBy}
 
 module _ (terms : List Term) (lines : List Line) (i : ℕ) (lt : i < length lines) where
   -- a journal of the first i lines has i entries

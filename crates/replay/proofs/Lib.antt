@@ -3,3 +3,4 @@ pub mod Printed
 pub mod Replies
 pub mod Steps
 pub mod Going
+pub mod Again

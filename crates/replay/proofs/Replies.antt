@@ -1,5 +1,5 @@
 -- Where a machine may reply one thing alone.
-use Rattle.std.proofs.Common.{◌≡◌, ℕ, Bool, true, false, List, Option, Some, None, refl, sym, ap, ◌∙◌, subst}
+use Rattle.std.proofs.Common.{◌≡◌, ℕ, Bool, List, Option, Some, None, refl, sym, ap, ◌∙◌, subst}
 use Rattle.std.specs.Prelude.{◌≢◌}
 use Rattle.std.proofs.lemmas.Option.{same_Some}
 use Rattle.reads.specs.Reads.{View, Read, Answer, says}
@@ -11,7 +11,7 @@ use Rattle.incarnations.specs.declared.state.Event.{Event}
 use Rattle.incarnations.specs.declared.state.Event.TheVariants as event
 use Rattle.incarnations.specs.declared.state.Reply.{Reply}
 use Rattle.incarnations.specs.declared.state.Reply.TheVariants.{Answered, Blocked, Published, Passed, Aborted, NotYet}
-use Rattle.incarnations.specs.Slots.{Noted, Slot}
+use Rattle.incarnations.specs.Slots.{Noted, transcript_of}
 use Rattle.incarnations.specs.Statuses.{execution_refusal, executed_refusal}
 use Rattle.validate.specs.Below.{slot_at, blocker, view_at}
 use Rattle.slots.specs.Slots.{status_of}
@@ -73,6 +73,16 @@ module _ (base : View) (s : State) (w : ℕ) where
   pub refused_one : (i n : ℕ) (f : Option Finished) (r r' : Reply) → r' ≢ Published → IsAllowed base s w (event.Publish i n None) r → IsAllowed base s w (event.Publish i n f) r' → r' ≡ r
   refused_one i n f r r' other a a' =
       unless_one (execution_refusal (status_of s.slots i) n w) r r' _ _ (refused (slot_at s.slots i).notes f r r' other) a a'
+
+  published : (notes : List Noted) (f : Finished) (r : Reply) → f.transcript ≡ transcript_of notes → PublishReply notes (Some f) r → r ≡ Published
+  published notes f Published is h = refl
+  published notes f NotYet is h = absurd (h is)
+  published notes f _ is h = absurd h
+
+  pub published_one : (i n : ℕ) (f : Finished) (o : Option Finished) (r r' : Reply) → f.transcript ≡ transcript_of (slot_at s.slots i).notes → r' ≡ Published
+      → IsAllowed base s w (event.Publish i n (Some f)) r → IsAllowed base s w (event.Publish i n o) r' → r' ≡ r
+  published_one i n f o r r' is told a a' =
+      unless_one (execution_refusal (status_of s.slots i) n w) r r' _ _ (λ x y. told ∙ sym (published (slot_at s.slots i).notes f r is x)) a a'
 
   -- CHECKS
 

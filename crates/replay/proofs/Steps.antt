@@ -1,6 +1,6 @@
 -- A step of the book follows a line.
-use Rattle.std.proofs.Common.{◌≡◌, ℕ, Bool, true, false, List, [], ◌∷◌, ◌++◌, Option, Some, None, Ok, Err, IfOk, refl, sym, ap, ◌∙◌, subst}
-use Rattle.std.specs.Prelude.{◌≢◌, Result}
+use Rattle.std.proofs.Common.{◌≡◌, ℕ, Bool, true, List, [], ◌∷◌, Option, Some, None, Ok, Err, IfOk, ◌⊎◌, inl, inr, refl, sym, ap, ◌∙◌, subst, append-nil}
+use Rattle.std.specs.Prelude.{◌≢◌, Result, IfSome, IfNone}
 use Rattle.std.proofs.lemmas.Option.{same_Some}
 use Rattle.terms.specs.declared.term.Term.{Term}
 use Rattle.datasets.specs.declared.read.Read as reading
@@ -21,9 +21,10 @@ use Rattle.journal.specs.declared.lines.Event.TheVariants.{Take, Read as ReadOf,
 use Rattle.journal.specs.declared.lines.Reply.TheVariants as told
 use Rattle.replay.specs.Lines.{renamed_read, read_known, line_event, line_reply, event_known, IsEntryOf}
 use Rattle.replay.specs.Found.{IsFound}
-use Rattle.replay.specs.Replays.{tells_publication, NoneIsLawful}
-use Rattle.replay.specs.Following.{whole_event, tells_pass, with_entry, Follows}
-use Rattle.replay.proofs.Replies.{whole_one, read_one, refused_one, check_one}
+use Rattle.replay.specs.Noted.{BeginsWith}
+use Rattle.replay.specs.Replays.{notes_at, NoneIsLawful, HasOtherNotes, IsOfOtherNotes, IsUnlawful}
+use Rattle.replay.specs.Following.{whole_event, tells_pass, with_entry, IsSoundAt, OnlyReply, Follows}
+use Rattle.replay.proofs.Replies.{whole_one, read_one, refused_one, published_one, check_one}
 
 pub both_ok : {A E : Type 0} (r : Result A E) (P Q R : A → Type 0) → ((a : A) → P a → Q a → R a) → IfOk r P → IfOk r Q → IfOk r R
 both_ok (Ok a) P Q R f p q = f a p q
@@ -140,9 +141,9 @@ module _ (old new : Run) (line : Line) where
         printed = whole_line old.terms line.event e whole;
         known = (whole_kept old.terms line.event e whole).0;
         entry = is ∙ ap (λ (k : Event). with_entry old (entry_with k r)) ((whole_kept old.terms line.event e whole).1 r);
-        only = λ _ x of lawful.
+        only = inl (λ x of lawful.
             whole_one old.base (state_of old) line.worker line.event e whole r x.reply allowed
-            (allowed_of x e of (whole_back old.terms e x.event (ap whole_event (event_of x of) ∙ whole)) lawful);
+            (allowed_of x e of (whole_back old.terms e x.event (ap whole_event (event_of x of) ∙ whole)) lawful));
       }
 
   module _ (i n : ℕ) where
@@ -153,9 +154,9 @@ module _ (old new : Run) (line : Line) where
           printed = ap (ReadOf i n) found.stands ∙ sym told;
           known = found.is_known;
           entry = is;
-          only = λ _ x of lawful.
+          only = inl (λ x of lawful.
               read_one old.base (state_of old) line.worker i q n r x.reply allowed
-              (allowed_of x (event.Read i n q) of (read_of old.terms i n t q found x.event (event_of x of ∙ told) of.known) lawful);
+              (allowed_of x (event.Read i n q) of (read_of old.terms i n t q found x.event (event_of x of ∙ told) of.known) lawful));
         }
 
     pub read_lacks : (t : reading.Read Term) → line.event ≡ ReadOf i n t → IsFoundRead old.terms t None → NoneIsLawful old line
@@ -164,22 +165,61 @@ module _ (old new : Run) (line : Line) where
         let none : None ≡ Some back.0 = back.1 in
         absurd (cc)
 
-    not_published : (r : Reply) → line.event ≡ Publish i n → line_reply r ≡ line.reply → tells_publication line.event line.reply ≡ false → r ≢ Published
-    not_published r told reply refused is =
-        let tells : tells_publication line.event line.reply ≡ true = (λ z. tells_publication (told z) (sym reply z)) ∙ (λ z. tells_publication (Publish i n) (line_reply (is z))) in
-        (cc)
+    -- its reply is what the line says
+    reply_of : (x : Entry) → IsEntryOf old.terms line x → line_reply x.reply ≡ line.reply
+    reply_of x of = ap (λ (l : Line). l.reply) of.printed
 
-    pub follows_refused : (r : Reply) → line.event ≡ Publish i n → Allowed (event.Publish i n None) r → new ≡ with_entry old (entry_with (kept (event.Publish i n None) r) r) → Follows old line r new
-    follows_refused r told allowed is =
+    not_published : (r : Reply) → line_reply r ≡ line.reply → line.reply ≢ told.Published → r ≢ Published
+    not_published r is other published = other (sym is ∙ ap line_reply published)
+
+    is_published : (r : Reply) → line_reply r ≡ told.Published → r ≡ Published
+    is_published Published is = refl
+    is_published _ is = absurd (cc)
+
+    kept_publication : (o : Option Finished) (r : Reply) → (line_event old.terms (kept (event.Publish i n o) r) ≡ Publish i n) × (event_known old.terms (kept (event.Publish i n o) r) ≡ true)
+    kept_publication o Published = (refl, refl)
+    kept_publication o _ = (refl, refl)
+
+    -- the only reply, or notes of another run
+    only_published : (r : Reply) (o : Option Finished) → line.event ≡ Publish i n → line.reply ≡ told.Published → IfNone o (HasOtherNotes old i) → IfSome o (IsSoundAt old i)
+        → IfSome o (λ f. BeginsWith (notes_at old i) f.transcript) → Allowed (event.Publish i n o) r → OnlyReply old line r ⊎ IsOfOtherNotes old line
+    only_published r None told said none sound notes allowed = inr (record { request = i; incarnation = n; event = told; reply = said; notes = none })
+    only_published r (Some f) told said none sound ([], are) allowed =
+        inl (λ x of lawful.
+        let back = publish_back old.terms i n x.event (event_of x of ∙ told) in
+        published_one old.base (state_of old) line.worker i n f back.0 r x.reply (sym (append-nil f.transcript) ∙ sym are) (is_published x.reply (reply_of x of ∙ said)) allowed
+        (allowed_of x (event.Publish i n back.0) of back.1 lawful))
+    only_published r (Some f) told said none sound (m ∷ ms, are) allowed =
+        inr (record {
+          request = i;
+          incarnation = n;
+          event = told;
+          reply = said;
+          notes = λ q at. inr (record { finished = f; sound = sound q at; left = m ∷ ms; some = λ e. absurd (cc); are = are });
+        })
+
+    pub follows_published : (r : Reply) (o : Option Finished) → line.event ≡ Publish i n → line.reply ≡ told.Published → IfNone o (HasOtherNotes old i) → IfSome o (IsSoundAt old i)
+        → IfSome o (λ f. BeginsWith (notes_at old i) f.transcript) → Allowed (event.Publish i n o) r → new ≡ with_entry old (entry_with (kept (event.Publish i n o) r) r) → Follows old line r new
+    follows_published r o told said none sound notes allowed is =
+        record {
+          event = kept (event.Publish i n o) r;
+          printed = (kept_publication o r).0 ∙ sym told;
+          known = (kept_publication o r).1;
+          entry = is;
+          only = only_published r o told said none sound notes allowed;
+        }
+
+    pub follows_refused : (r : Reply) → line.event ≡ Publish i n → line.reply ≢ told.Published → Allowed (event.Publish i n None) r → new ≡ with_entry old (entry_with (kept (event.Publish i n None) r) r) → Follows old line r new
+    follows_refused r told other allowed is =
         record {
           event = event.Publish i n None;
           printed = sym told;
           known = refl;
           entry = is ∙ ap (λ (k : Event). with_entry old (entry_with k r)) (kept_none r);
-          only = λ refused x of lawful.
+          only = inl (λ x of lawful.
               let back = publish_back old.terms i n x.event (event_of x of ∙ told) in
               refused_one old.base (state_of old) line.worker i n back.0 r x.reply
-              (not_published x.reply told (ap (λ (l : Line). l.reply) of.printed) refused) allowed (allowed_of x (event.Publish i n back.0) of back.1 lawful);
+              (not_published x.reply (reply_of x of) other) allowed (allowed_of x (event.Publish i n back.0) of back.1 lawful));
         }
       where
         kept_none : (r : Reply) → kept (event.Publish i n None) r ≡ event.Publish i n None
@@ -193,7 +233,15 @@ module _ (old new : Run) (line : Line) where
           printed = sym told;
           known = refl;
           entry = is;
-          only = λ _ x of lawful.
-              check_one old.base (state_of old) line.worker i n passed r x.reply (wants ∙ ap tells_pass (sym (ap (λ (l : Line). l.reply) of.printed))) wanted allowed
-              (allowed_of x (event.Check i n) of (check_back old.terms i n x.event (event_of x of ∙ told)) lawful);
+          only = inl (λ x of lawful.
+              check_one old.base (state_of old) line.worker i n passed r x.reply (wants ∙ ap tells_pass (sym (reply_of x of))) wanted allowed
+              (allowed_of x (event.Check i n) of (check_back old.terms i n x.event (event_of x of ∙ told)) lawful));
         }
+
+  -- where its reply is another, the line is unlawful
+  pub unlawful : (r : Reply) → Follows old line r new → line_reply r ≢ line.reply → IsUnlawful old line
+  unlawful r follows other = by follows.only
+    where
+      by : OnlyReply old line r ⊎ IsOfOtherNotes old line → IsUnlawful old line
+      by (inl only) = inl (λ x of lawful. other (ap line_reply (sym (only x of lawful)) ∙ ap (λ (l : Line). l.reply) of.printed))
+      by (inr notes) = inr notes

@@ -1,5 +1,5 @@
 -- One line of a journal as the next event of a book.
-use Rattle.std.specs.Prelude.{◌≡◌, ℕ, Bool, true, false, List, [], ◌∷◌, ◌++◌, Option, Some, None, slice_get}
+use Rattle.std.specs.Prelude.{◌≡◌, ◌⊎◌, ℕ, Bool, true, false, [], ◌∷◌, ◌++◌, Option, Some, None, slice_get}
 use Rattle.datasets.specs.declared.id.Id.{Id}
 use Rattle.dict.specs.Dictionary.{numbers}
 use Rattle.meaning.specs.Run.{Request, answer_of}
@@ -17,7 +17,7 @@ use Rattle.journal.specs.declared.lines.Event.TheVariants.{Take, Read, Publish, 
 use Rattle.journal.specs.declared.lines.Reply as told_reply
 use Rattle.journal.specs.declared.lines.Reply.TheVariants.{Passed}
 use Rattle.replay.specs.Lines.{line_event, event_known, IsEntryOf}
-use Rattle.replay.specs.Replays.{tells_publication}
+use Rattle.replay.specs.Replays.{IsOfOtherNotes}
 
 -- the event of a line that tells all of it, and that may be replied one thing alone
 abbrev pub whole_event : told_event.Event → Option Event
@@ -37,14 +37,18 @@ tells_pass reply = false
 abbrev pub with_entry : Run → Entry → Run
 with_entry run e = record run { history = run.history ++ e ∷ [] }
 
+-- a lawful entry of the line has this reply
+abbrev pub OnlyReply : Run → Line → Reply → Type 0
+OnlyReply run line reply = (e : Entry) → IsEntryOf run.terms line e → IsLawful (setting_of run) (state_of run) e → e.reply ≡ reply
+
 -- The event of the line was the next one, with this reply: the journal has its entry at its end. A
--- lawful entry of the line, but for a publication, has this reply.
+-- lawful entry of the line has this reply, or the line is a publication of a run that is not found.
 pub record Follows (old : Run) (line : Line) (reply : Reply) (new : Run) : Type 0 where
   pub event : Event
   pub printed : line_event old.terms event ≡ line.event
   pub known : event_known old.terms event ≡ true
   pub entry : new ≡ with_entry old (record { worker = line.worker; event = event; reply = reply })
-  pub only : tells_publication line.event line.reply ≡ false → (e : Entry) → IsEntryOf old.terms line e → IsLawful (setting_of old) (state_of old) e → e.reply ≡ reply
+  pub only : OnlyReply old line reply ⊎ IsOfOtherNotes old line
 
 -- the journal has an entry of the line at its end
 pub record GoesOnBy (old : Run) (line : Line) (new : Run) : Type 0 where

@@ -1,5 +1,5 @@
 //! One line of a journal as the next event of a book.
-ghost use Rattle.std.specs.Prelude.{◌≡◌, ◌<◌, ◌^◌, length, Some, true, false, IfOk, IfSome, IfNone};
+ghost use Rattle.std.specs.Prelude.{◌≡◌, ◌≢◌, ◌<◌, ◌^◌, length, Some, true, false, IfOk, IfSome, IfNone};
 ghost use Rattle.update.specs.Asked.{AreShort};
 ghost use Rattle.journal.specs.declared.lines.Event.TheVariants as told;
 ghost use Rattle.replay.specs.Replays.{NoneIsLawful, IsUnlawful};
@@ -44,7 +44,7 @@ fn read(
     Ok(Some(reply))
 }
 
-// A publication: of the run that the notes give again.
+// A publication: of the run that the notes give again, if they give one.
 fn publish(
     alloc: Global,
     book: &mut Book<'_>,
@@ -70,7 +70,8 @@ fn refuse(
     i: usize,
     n: u64,
 ) -> Result<Reply, AllocError>
-    requires { line.now.event ≡ told.Publish i n }
+    requires event { line.now.event ≡ told.Publish i n }
+    requires reply { line.now.reply ≢ LineReply.Published }
     ensures { IfOk result (λ reply. Follows book.old line.now reply book.new) }
 {
     book.step(alloc, line.worker, &Event::Publish(i, n, None))
@@ -121,7 +122,8 @@ fn follow(alloc: Global, book: &mut Book<'_>, line: &Line) -> Result<Option<Repl
 }
 
 /// Plays a line into a book. It answers whether the book goes on by an entry of the line; else no
-/// lawful entry of the line was found, and the book is to be given up.
+/// entry of the line is lawful, or the notes are not those of a run that it says is published. Then
+/// the book is to be given up.
 pub fn follow_line(alloc: Global, book: &mut Book<'_>, line: &Line) -> Result<bool, AllocError>
     requires size { length book.old.block < 2 ^ 32 }
     requires short { AreShort book.old.block }

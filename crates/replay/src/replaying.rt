@@ -34,8 +34,8 @@ fn follow_lines(alloc: Global, book: &mut Book<'_>, lines: &[Line]) -> Result<()
 /// The book whose journal has these lines, of a base and a block at a dictionary's numbers. It
 /// makes the answers itself, and the runs that were published from what was noted. An error is want
 /// of memory, or `Illegal` with the number, from 1, of the first line at which the book doesn't go
-/// on: no entry of it is lawful there, or it tells of a publication and the notes are not what a
-/// run asks for.
+/// on: no entry of it is lawful there, or it tells of a publication, and a run that the notes
+/// answer ends before the last of them, or asks for another read than the next one's.
 pub fn replay<'a>(
     alloc: Global,
     terms: &'a Dict,

@@ -1,5 +1,5 @@
 //! The terms of requests.
-ghost use Rattle.std.specs.Prelude.{◌≡◌, ◌++◌, OnOk, map};
+ghost use Rattle.std.specs.Prelude.{◌≡◌, ◌++◌, OnOk, IsErr, IsOk, map};
 ghost use Rattle.std.specs.List.{flat_map};
 ghost use Rattle.std.specs.Option.{option_to_list};
 ghost use Rattle.algebra.specs.Expressions.{expression_of};
@@ -265,8 +265,10 @@ fn add_operations<'t>(
     Ok(())
 }
 
+/// Adds the terms of a request. A refused one has none, and takes no memory.
 fn add_request<'t>(found: &mut Vec<TermRef<'t>>, request: &'t Checked) -> Result<(), AllocError>
-    ensures { OnOk result (found.new.items ≡ found.old.items ++ terms_of_request request.now) }
+    ensures ok { OnOk result (found.new.items ≡ found.old.items ++ terms_of_request request.now) }
+    ensures refused { IsErr request.now → IsOk result }
 {
     match request {
         Ok(operations) => add_operations(found, operations.as_slice()),

@@ -3,7 +3,6 @@ use mathlib.Core.List.{[], ◌∷◌}
 use denote.RattleType.{RattleType}
 use denote.Struct.Tuple.{Tuple}
 use Rattle.std.proofs.Crossing.{crosses, Box-send, Box-sync, Vec-sync}
-use Rattle.std.proofs.MapsCrossing as maps
 use Rattle.std.specs.contracts.boxed.Box as Box
 use Rattle.std.specs.contracts.vec.Vec as Vec
 use Rattle.std.specs.contracts.alloc.Global as Global
@@ -44,7 +43,7 @@ use Rattle.dict.specs.contracts.dictionary.Dict as Dict
 use Rattle.reads.specs.contracts.view.View as View
 use Rattle.reads.specs.contracts.indexed.IndexedView as IndexedView
 use Rattle.reads.specs.contracts.answered.Answered as Answered
-use Rattle.reads.specs.contracts.answered.KeptAnswer as KeptAnswer
+use Rattle.reads.specs.contracts.answered.Form as AnswerForm
 use Rattle.reads.specs.contracts.shared_items.SharedItems as SharedItems
 use Rattle.delta.specs.contracts.delta.Delta as Delta
 use Rattle.delta.specs.contracts.parts.Parts as Parts
@@ -56,25 +55,15 @@ use Rattle.quad_lists.specs.contracts.quad_list.QuadList as QuadList
 use Rattle.quad_index.specs.contracts.order.Order as Order
 use Rattle.quad_index.specs.contracts.index.Index as Index
 use Rattle.quad_sets.specs.contracts.quad_set.QuadSet as QuadSet
-use Rattle.quad_hints.specs.contracts.hints.Hints as Hints
-use Rattle.quad_hints.specs.contracts.ordered_hints.OrderedHints as OrderedHints
-use Rattle.quad_hints.specs.contracts.seen.SeenTerms as SeenTerms
-use Rattle.quad_hints.specs.contracts.seen.SeenQuads as SeenQuads
-use Rattle.quad_hints.specs.contracts.sorted_hints.SortedHints as SortedHints
-use Rattle.version_overlay.specs.contracts.generation.Generation as Generation
-use Rattle.version_overlay.specs.contracts.latest.Latest as Latest
-use Rattle.version_overlay.specs.contracts.spoken.Spoken as Spoken
+use Rattle.version_overlay.specs.contracts.seen.SeenTerms as SeenTerms
+use Rattle.version_overlay.specs.contracts.seen.SeenQuads as SeenQuads
+use Rattle.version_overlay.specs.contracts.change_filter.ChangeFilter as ChangeFilter
 use Rattle.version_overlay.specs.contracts.level.Level as Level
 use Rattle.version_overlay.specs.contracts.settled.Settled as Settled
 use Rattle.version_overlay.specs.contracts.whole_note.WholeNote as WholeNote
 use Rattle.version_overlay.specs.contracts.lean_note.Form as NoteForm
 use Rattle.version_overlay.specs.contracts.lean_note.LeanNote as LeanNote
 use Rattle.quad_lists.proofs.key.Arrangement.TheSendSync as arrangement
-use Rattle.quad_hints.specs.contracts.run.Run as Run
-use Rattle.quad_hints.specs.contracts.hint.Hint as Hint
-use Rattle.quad_hints.specs.contracts.hint.KnownHint as KnownHint
-use Rattle.quad_hints.specs.contracts.hint_list.HintList as HintList
-use Rattle.quad_index.specs.contracts.order_set.OrderSet as OrderSet
 use Rattle.incarnations.specs.contracts.state.Noted as Noted
 use Rattle.incarnations.specs.contracts.state.Slot as Slot
 use Rattle.incarnations.specs.contracts.state.Pass as MachinePass
@@ -170,9 +159,6 @@ dict = let t = term in search (sendable, crosses) depth 20
 quad_sync : IsSync (Quad.the_row Id.the_row)
 quad_sync = let i = id.the_field_sync in search (sendable, crosses) depth 20
 
-quad_field : IsSend (Quad.the_field Id.the_row).row
-quad_field = let i = id.the_field_send in search (sendable, crosses) depth 20
-
 scan_pattern : IsSend (QuadPattern.the_field Id.the_row).row
 scan_pattern = let i = id.the_field_send in let j = id.the_send in search (sendable, crosses) depth 20
 
@@ -215,11 +201,17 @@ quad_list_send = let e = entries_send in search (sendable, crosses) depth 20
 pub view : IsSync (View.the_row)
 view = let q = quad_set in let i = id.the_sync in search (sendable, crosses) depth 20
 
-answer : IsSend (KeptAnswer.the_row)
-answer = let q = quad_list_send in let i = id.the_send in search (sendable, crosses) depth 20
+quads_row : IsSync (QuadList.the_row)
+quads_row = let e = entries in search (sendable, crosses) depth 20
 
-answer_sync : IsSync (KeptAnswer.the_row)
-answer_sync = let q = quad_list in let i = id.the_sync in search (sendable, crosses) depth 20
+quads_row_send : IsSend (QuadList.the_row)
+quads_row_send = let e = entries_send in search (sendable, crosses) depth 20
+
+answer : IsSend (AnswerForm.the_field).row
+answer = let q = quads_row_send in let r = quads_row in let i = id.the_send in let j = id.the_sync in search (sendable, crosses) depth 20
+
+answer_sync : IsSync (AnswerForm.the_field).row
+answer_sync = let q = quads_row_send in let r = quads_row in let i = id.the_send in let j = id.the_sync in search (sendable, crosses) depth 20
 
 parts : IsSend (Parts.the_row)
 parts = let q = quad_set_send in let i = id.the_send in search (sendable, crosses) depth 20
@@ -240,10 +232,10 @@ pub indexed_view : IsSync (IndexedView.the_row)
 indexed_view = let v = view in let i = index in search (sendable, crosses) depth 20
 
 answered : IsSend (Answered.the_row)
-answered = let a = answer in let b = answer_sync in search (sendable, crosses) depth 20
+answered = let a = answer in search (sendable, crosses) depth 20
 
 answered_sync : IsSync (Answered.the_row)
-answered_sync = let a = answer in let b = answer_sync in search (sendable, crosses) depth 20
+answered_sync = let a = answer_sync in search (sendable, crosses) depth 20
 
 delta : IsSend (Delta.the_row)
 delta = let p = parts in let y = parts_sync in search (sendable, crosses) depth 20
@@ -268,47 +260,17 @@ replied = option.the_field_send Replied.the_row a_reply.the_send
 passed : IsSend (Option.the_field MachinePass.the_row).row
 passed = option.the_field_send MachinePass.the_row a_pass.the_send
 
-hint : IsSend (Hint.the_row)
-hint = let q = quad_field in search (sendable, crosses) depth 20
-
-known_hint : IsSend (KnownHint.the_row)
-known_hint = let k = known_quad_send in search (sendable, crosses) depth 20
-
-hint_list : IsSend (HintList.the_field).row
-hint_list = let h = hint in let k = known_hint in search (sendable, crosses) depth 20
-
-run : IsSend (Run.the_row)
-run = let l = hint_list in let a = arrangement.the_field_send in search (sendable, crosses) depth 20
-
-sorted_hints : IsSend (SortedHints.the_field).row
-sorted_hints = let r = run in let a = arrangement.the_field_send in search (sendable, crosses) depth 20
-
-order_set : IsSend (OrderSet.the_field).row
-order_set = search (sendable, crosses) depth 20
-
-ordered_hints : IsSend (OrderedHints.the_field).row
-ordered_hints = let s = sorted_hints in let o = order_set in search (sendable, crosses) depth 20
-
 seen : IsSend (SeenTerms.the_field).row
 seen = search (sendable, crosses) depth 20
 
 seen_quads : IsSend (SeenQuads.the_field).row
 seen_quads = let s = seen in search (sendable, crosses) depth 20
 
-hints : IsSend (Hints.the_field).row
-hints = let o = ordered_hints in let h = hint in search (sendable, crosses) depth 20
-
-generation : IsSend (Generation.the_field).row
-generation = let h = hints in let i = id.the_send in let o = order_set in search (sendable, crosses, maps.crosses) depth 20
+change_filter : IsSend (ChangeFilter.the_field).row
+change_filter = let q = seen_quads in let n = seen in search (sendable, crosses) depth 20
 
 delta_field : IsSend (Delta.the_field).row
 delta_field = let p = parts in let y = parts_sync in search (sendable, crosses) depth 20
-
-latest : IsSend (Latest.the_row)
-latest = let d = delta_field in search (sendable, crosses) depth 20
-
-spoken : IsSend (Spoken.the_field).row
-spoken = let g = generation in let s = seen_quads in let o = order_set in let l = latest in search (sendable, crosses) depth 20
 
 order_send : IsSend (Order.the_row)
 order_send = let e = entries_send in let a = arrangement.the_field_send in search (sendable, crosses) depth 20
@@ -317,7 +279,7 @@ level : IsSend (Level.the_row)
 level = let d = delta_field in let o = order_send in search (sendable, crosses) depth 20
 
 settled : IsSend (Settled.the_field).row
-settled = let l = level in let s = seen_quads in let n = seen in let a = arrangement.the_send in search (sendable, crosses) depth 20
+settled = let l = level in let f = change_filter in let a = arrangement.the_send in search (sendable, crosses) depth 20
 
 tree : IsSend (StampTree.the_field).row
 tree = search (sendable, crosses, trees.crosses) depth 20
@@ -380,7 +342,7 @@ module _ (a : NamedLft) where
   slot = let n = notes in let d = delta in let s = a_status.the_field_send in let r = replied in let p = passed in search (sendable, crosses) depth 20
 
   kept_slots : IsSend (KeptSlots.the_field a).row
-  kept_slots = let s = slot in let p = spoken in let t = settled in search (sendable, crosses) depth 20
+  kept_slots = let s = slot in let p = change_filter in let t = settled in search (sendable, crosses) depth 20
 
   slots : IsSend (Slots.the_field a).row
   slots = let k = kept_slots in search (sendable, crosses) depth 20

@@ -72,7 +72,7 @@ module _ (a b : List KeptSlot) (low : ℕ) (same : (k : ℕ) (read : Read) → k
   slots_alike [] h = refl
   slots_alike (x ∷ xs) h = λ t. slot_alike x h.0 t ∷ slots_alike xs h.1 t
 
-module _ (xs : List KeptSlot) (low : ℕ) (spoken : Read → ℕ → Bool) (settled : List Delta) (k : IsKept xs low spoken settled) where
+module _ (xs : List KeptSlot) (low : ℕ) (published : Read → Bool) (settled : List Delta) (k : IsKept xs low published settled) where
   -- an open request is not settled, and is of the block
 
   module _ (i : ℕ) (still : is_closed (status_of (slots_of xs) i) ≡ false) where
@@ -117,14 +117,13 @@ module _ (xs : List KeptSlot) (low : ℕ) (spoken : Read → ℕ → Bool) (sett
       at_it : slot_at (shown (slice_set xs i x)) i ≡ slot_by plain x
       at_it = ap (λ s. slot_at s i) shown_set ∙ set_same (shown xs) i (slot_by plain x) in_list
 
-      module _ (more : Read → ℕ → Bool) (kept : (read : Read) (j : ℕ) → spoken read j ≡ true → more read j ≡ true) (own : (read : Read) → covers x.delta read ≡ true → more read i ≡ true) (calm : IsCalm (slot_by plain x)) where
-        knows : Knows more low (shown (slice_set xs i x))
-        knows j read le e =
+      module _ (more : Read → Bool) (kept : (read : Read) → published read ≡ true → more read ≡ true) (own : (read : Read) → covers x.delta read ≡ true → more read ≡ true) (calm : IsCalm (slot_by plain x)) where
+        knows : Knows more (shown (slice_set xs i x))
+        knows j read e =
             elim (cases_eq j i) [
               | inl same ↦
-                  subst (λ n. more read n ≡ true) (sym same)
-                  (own read (subst (λ (y : Slot). covers y.delta read ≡ true) (ap (slot_at (shown (slice_set xs i x))) same ∙ at_it) e))
-              | inr ne ↦ kept read j (k.knows j read le (subst (λ (y : Slot). covers y.delta read ≡ true) (at_other j ne) e))
+                  own read (subst (λ (y : Slot). covers y.delta read ≡ true) (ap (slot_at (shown (slice_set xs i x))) same ∙ at_it) e)
+              | inr ne ↦ kept read (k.knows j read (subst (λ (y : Slot). covers y.delta read ≡ true) (at_other j ne) e))
             ]
 
         pub holds_set : IsKept (slice_set xs i x) low more settled
@@ -153,10 +152,10 @@ module _ (xs : List KeptSlot) (low : ℕ) (spoken : Read → ℕ → Bool) (sett
       old_calm = subst IsCalm (sym (was plain)) (k.calm i)
 
       -- one with the same delta
-      pub holds_same : LowNotes low x.notes → x.delta ≡ y.delta → IsCalm (slot_by plain x) → IsKept (slice_set xs i x) low spoken settled
+      pub holds_same : LowNotes low x.notes → x.delta ≡ y.delta → IsCalm (slot_by plain x) → IsKept (slice_set xs i x) low published settled
       holds_same lows same calm =
-          holds_set x lows spoken (λ read j e. e)
-          (λ read e. k.knows i read above (ap (λ (z : Slot). covers z.delta read) (sym (was plain)) ∙ ap (λ d. covers d read) (sym same) ∙ e)) calm
+          holds_set x lows published (λ read e. e)
+          (λ read e. k.knows i read (ap (λ (z : Slot). covers z.delta read) (sym (was plain)) ∙ ap (λ d. covers d read) (sym same) ∙ e)) calm
 
 -- ---- notes
 
@@ -172,40 +171,40 @@ low_none low ns e = subst (LowNotes low) (sym e) tt
 pub low_same : (low : ℕ) (ns ms : List KeptNote) → ns ≡ ms → LowNotes low ms → LowNotes low ns
 low_same low ns ms e h = subst (LowNotes low) (sym e) h
 
-module _ (xs : List KeptSlot) (low : ℕ) (spoken : Read → ℕ → Bool) (settled : List Delta) (k : IsKept xs low spoken settled) (old : List Slot) (view : slots_of xs ≡ old) (i : ℕ) (still : is_closed (status_of old i) ≡ false) where
+module _ (xs : List KeptSlot) (low : ℕ) (published : Read → Bool) (settled : List Delta) (k : IsKept xs low published settled) (old : List Slot) (view : slots_of xs ≡ old) (i : ℕ) (still : is_closed (status_of old i) ≡ false) where
   own_still : is_closed (status_of (slots_of xs) i) ≡ false
   own_still = ap (λ s. is_closed (status_of s i)) view ∙ still
 
   pub in_block : i < length xs
-  in_block = in_slots xs low spoken settled k i own_still
+  in_block = in_slots xs low published settled k i own_still
 
   pub from_low : low ≤ i
-  from_low = above xs low spoken settled k i own_still
+  from_low = above xs low published settled k i own_still
 
   module _ (y x : KeptSlot) (at : y ≡ slice_index_or xs i y) where
     pub lows_of : LowNotes low y.notes
-    lows_of = old_lows xs low spoken settled k i own_still y x at
+    lows_of = old_lows xs low published settled k i own_still y x at
 
     pub old_is : slot_by (whole xs) y ≡ slot_at old i
-    old_is = was xs low spoken settled k i own_still y x at (whole xs) ∙ ap (λ s. slot_at s i) view
+    old_is = was xs low published settled k i own_still y x at (whole xs) ∙ ap (λ s. slot_at s i) view
 
     module _ (g : (KeptNote → Noted) → Slot → Slot) (by : (f : KeptNote → Noted) → slot_by f x ≡ g f (slot_by f y)) (lows : LowNotes low x.notes) where
       pub view_set : slots_of (slice_set xs i x) ≡ slice_set old i (g (whole xs) (slot_at old i))
-      view_set = stands_for xs low spoken settled k i own_still x lows ∙ (λ t. slice_set (view t) i ((by (whole xs) ∙ ap (g (whole xs)) old_is) t))
+      view_set = stands_for xs low published settled k i own_still x lows ∙ (λ t. slice_set (view t) i ((by (whole xs) ∙ ap (g (whole xs)) old_is) t))
 
-      pub kept_set : (g plain (slot_by plain y)).delta ≡ y.delta → (IsCalm (slot_by plain y) → IsCalm (g plain (slot_by plain y))) → IsKept (slice_set xs i x) low spoken settled
+      pub kept_set : (g plain (slot_by plain y)).delta ≡ y.delta → (IsCalm (slot_by plain y) → IsCalm (g plain (slot_by plain y))) → IsKept (slice_set xs i x) low published settled
       kept_set same calm =
-          holds_same xs low spoken settled k i own_still y x at lows (ap (λ (z : Slot). z.delta) (by plain) ∙ same)
-          (subst IsCalm (sym (by plain)) (calm (old_calm xs low spoken settled k i own_still y x at)))
+          holds_same xs low published settled k i own_still y x at lows (ap (λ (z : Slot). z.delta) (by plain) ∙ same)
+          (subst IsCalm (sym (by plain)) (calm (old_calm xs low published settled k i own_still y x at)))
 
-      pub kept_published : (more : Read → ℕ → Bool) → ((read : Read) (j : ℕ) → spoken read j ≡ true → more read j ≡ true) → ((read : Read) → covers (g plain (slot_by plain y)).delta read ≡ true → more read i ≡ true)
+      pub kept_published : (more : Read → Bool) → ((read : Read) → published read ≡ true → more read ≡ true) → ((read : Read) → covers (g plain (slot_by plain y)).delta read ≡ true → more read ≡ true)
           → IsCalm (g plain (slot_by plain y)) → IsKept (slice_set xs i x) low more settled
       kept_published more kept own calm =
-          holds_set xs low spoken settled k i own_still x lows more kept
+          holds_set xs low published settled k i own_still x lows more kept
           (λ read e. own read (ap (λ (z : Slot). covers z.delta read) (sym (by plain)) ∙ e)) (subst IsCalm (sym (by plain)) calm)
 
     -- the same slot again
-    pub kept_again : x ≡ y → IsKept (slice_set xs i x) low spoken settled
+    pub kept_again : x ≡ y → IsKept (slice_set xs i x) low published settled
     kept_again e = kept_set (λ f z. z) (λ f. ap (slot_by f) e) (subst (λ (z : KeptSlot). LowNotes low z.notes) (sym e) lows_of) refl (λ h. h)
 
   pub blocker_is : (read : Read) → blocker old i read ≡ blocker (shown xs) i read
@@ -317,13 +316,13 @@ fresh_lows : (n : ℕ) → LowSlots 0 (replicate n fresh_kept)
 fresh_lows zero = tt
 fresh_lows (suc n) = (tt, fresh_lows n)
 
-pub holds_fresh : (xs : List KeptSlot) (n : ℕ) (spoken : Read → ℕ → Bool) (settled : List Delta) → xs ≡ replicate n fresh_kept → settled ≡ [] → IsKept xs 0 spoken settled
+pub holds_fresh : (xs : List KeptSlot) (n : ℕ) (published : Read → Bool) (settled : List Delta) → xs ≡ replicate n fresh_kept → settled ≡ [] → IsKept xs 0 published settled
 unfolding changed_by view_at
-holds_fresh xs n spoken settled e none =
+holds_fresh xs n published settled e none =
     let at : (j : ℕ) → slot_at (shown xs) j ≡ fresh_slot = λ j. ap (λ z. slot_at (shown z) j) e ∙ ap (λ s. slot_at s j) (fresh_shown plain n) ∙ fresh_at n j in
     record {
       within = omega arith;
-      knows = λ j read le c. absurd (false≢true (sym (covers_none read) ∙ ap (λ (y : Slot). covers y.delta read) (sym (at j)) ∙ c));
+      knows = λ j read c. absurd (false≢true (sym (covers_none read) ∙ ap (λ (y : Slot). covers y.delta read) (sym (at j)) ∙ c));
       folded = λ base. ap (λ cs. changed_by cs base) none;
       closed = λ j lt. absurd (omega (arith, lt));
       calm = λ j. subst IsCalm (sym (at j)) (λ f. refl);
@@ -332,16 +331,16 @@ holds_fresh xs n spoken settled e none =
 
 -- ---- one more is settled
 
-module _ (xs : List KeptSlot) (low : ℕ) (spoken : Read → ℕ → Bool) (settled : List Delta) (k : IsKept xs low spoken settled) where
+module _ (xs : List KeptSlot) (low : ℕ) (published : Read → Bool) (settled : List Delta) (k : IsKept xs low published settled) where
   pub holds_settled : (more : List Delta) (delta : Delta) (next : ℕ) → next ≡ low + 1 → low < length xs → delta ≡ (kept_at xs low).delta → ((d : View) → changed_by more d ≡ applied delta (changed_by settled d))
-      → is_closed (Some (slot_at (shown xs) low).status) ≡ true → IsKept xs next spoken more
+      → is_closed (Some (slot_at (shown xs) low).status) ≡ true → IsKept xs next published more
   unfolding view_at
   holds_settled more delta next e lt is after shut =
       let up : low ≤ next = omega (arith, e) in
       let one : suc low ≡ next = omega (arith, e) in
       record {
         within = omega (arith, e, lt);
-        knows = λ j read le c. k.knows j read (omega (arith, le, up)) c;
+        knows = k.knows;
         folded = λ base.
             after base
             ∙ (λ t. applied ((is ∙ sym (ap (λ (y : Slot). y.delta) (by_at plain xs low))) t) (k.folded base t))
@@ -355,7 +354,7 @@ module _ (xs : List KeptSlot) (low : ℕ) (spoken : Read → ℕ → Bool) (sett
       }
 
   -- settled changes that make the same of each dataset
-  pub holds_alike : (others : List Delta) → ((d : View) → changed_by others d ≡ changed_by settled d) → IsKept xs low spoken others
+  pub holds_alike : (others : List Delta) → ((d : View) → changed_by others d ≡ changed_by settled d) → IsKept xs low published others
   holds_alike others same = record {
     within = k.within;
     knows = k.knows;

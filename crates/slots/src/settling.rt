@@ -1,5 +1,4 @@
-//! How committed requests are settled: their changes become one, and nobody asks any more which of
-//! them spoke of what.
+//! How committed requests are settled: their changes become one, and no read asks them one by one.
 ghost use Rattle.std.specs.Prelude.{◌≡◌, ◌<◌, ◌≤◌, ◌+◌, ℕ, true, Some, length, OnOk, OnErr};
 ghost use Rattle.incarnations.specs.Statuses.{is_closed};
 ghost use Rattle.validate.specs.Below.{slot_at};
@@ -40,7 +39,6 @@ pub fn settle(alloc: Global, kept: &mut Kept<'_>, to: usize) -> Result<(), Alloc
     for _low in kept.low..to {
         settle_next(alloc, kept)?;
     }
-    kept.spoken.forget_below(alloc, kept.low);
     Ok(())
 }
 

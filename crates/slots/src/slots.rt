@@ -17,7 +17,6 @@ use crate::transcripts::is_transcript;
 use datasets::{Id, Read};
 use delta::Finished;
 use incarnations::{Noted, Pass, Slot, Status, slot};
-use quad_index::OrderSet;
 use quad_lists::Arrangement;
 use reads::{CompactView, IndexedView, Scanned, View};
 use stamp_tree::Standing;
@@ -25,7 +24,7 @@ use std::alloc::{AllocError, Global};
 use std::marker::Model;
 use std::thread::{Threads, join};
 use validate::{Found, Kept, Verdict, changed_from, look};
-use version_overlay::{Settled, Spoken};
+use version_overlay::{ChangeFilter, Settled};
 
 /// The slots of a block's requests, in their order. Contracts see each with its whole notes.
 #[derive(Drop)]
@@ -60,7 +59,7 @@ impl<'a> Slots<'a> {
             slots,
             low: 0,
             settled: Settled::new(alloc, orders)?,
-            spoken: Spoken::new(alloc, OrderSet::of(orders)),
+            published: ChangeFilter::new(alloc),
         };
         Ok(Slots { kept })
     }
@@ -155,8 +154,8 @@ impl<'a> Slots<'a> {
         changed_from(alloc, slots, self.kept.low, n, view)
     }
 
-    /// The same by so many threads, where nothing else is needed any more: notes and hints are let
-    /// go first, or by another thread.
+    /// The same by so many threads, where nothing else is needed any more: notes are let go first,
+    /// or by another thread.
     pub fn into_view<T: Threads + Sync>(
         self,
         rt: &T,
@@ -356,7 +355,7 @@ impl<'a> Slots<'a> {
         ensures same { IfOk result (λ same. same ≡ keeps_delta (slot_at self.old i) finished.now) }
         ensures err { OnErr result (self.new ≡ self.old) }
     {
-        self.kept.spoken.put(alloc, &finished.delta, i)?;
+        self.kept.published.put(&finished.delta)?;
         let same = slot::publish(alloc, &mut self.kept.slots[i], n, finished, clock)?;
         Ok(same)
     }
@@ -380,15 +379,15 @@ fn replies_before(
     Ok(list)
 }
 
-// The settled changes, and beside them the slots and the hints.
-fn apart(kept: Kept<'_>) -> (Settled, (Vec<Slot<'_>>, Spoken))
+// The settled changes, and beside them the slots and the filter.
+fn apart(kept: Kept<'_>) -> (Settled, (Vec<Slot<'_>>, ChangeFilter))
     ensures { result.0 ≡ kept.entry.settled }
 {
     let Kept {
         slots,
         settled,
-        spoken,
+        published,
         ..
     } = kept;
-    (settled, (slots, spoken))
+    (settled, (slots, published))
 }

@@ -162,8 +162,9 @@ impl Mapping {
             },
         }
     }
+
     /// Whether the two agree on each variable that is bound in both (SPARQL 1.1 Query, 18.3).
-    pub(crate) fn is_compatible(&self, other: &Mapping) -> bool
+    pub fn is_compatible(&self, other: &Mapping) -> bool
         ensures { result ≡ compatible id_order self.now other.now }
     {
         let left = self.places.as_slice();
@@ -182,8 +183,9 @@ impl Mapping {
             .any(|(x, y)| x.is_some() && y.is_some())
     }
 
-    /// The union of two mappings, where this one's term counts if both have one.
-    pub(crate) fn merge(&self, other: &Mapping) -> Result<Mapping, AllocError>
+    /// The union of two mappings (SPARQL 1.1 Query, 18.3), where this one's term counts if both have
+    /// one. An error comes only where memory runs out.
+    pub fn merge(&self, other: &Mapping) -> Result<Mapping, AllocError>
         ensures { IfOk result (λ mapping. mapping ≡ merge self.now other.now) }
     {
         let left = self.places.as_slice();

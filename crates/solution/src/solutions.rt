@@ -1,5 +1,6 @@
 //! Sets of solution mappings, and the operators of the algebra on them.
 ghost use Rattle.std.specs.Prelude.{◌≡◌, ◌++◌, ◌∷◌, [], length, map, filter, filter_map, false, Some, slice_get, IfOk, IfSome, IfNone, OnOk};
+ghost use Rattle.std.specs.List.Sorted.{IsStrictlySortedBy};
 ghost use Rattle.algebra.specs.Expressions.{expression_of};
 ghost use Rattle.datasets.specs.Id.{id_order};
 ghost use Rattle.meaning.specs.Mapping.{empty_mapping, mapping_cmp, fitted};
@@ -86,9 +87,10 @@ impl Solutions {
         Ok(Solutions { mappings })
     }
 
-    /// Its mappings, in their order.
+    /// Its mappings, in their order, each once.
     pub fn as_slice(&self) -> &[Mapping]
-        ensures { result.now ≡ self.now }
+        ensures value { result.now ≡ self.now }
+        ensures set { IsStrictlySortedBy (mapping_cmp id_order) self.now }
     {
         self.mappings.as_slice()
     }

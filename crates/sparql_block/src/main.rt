@@ -5,7 +5,7 @@ ghost use Rattle.std.specs.Prelude.{◌≤◌};
 ghost use Rattle.command_line.specs.CommandLine.{HasWorkers};
 
 use cli::{
-    Fault, InFile, Job, LineFault, Message, OutFile, check_engine, read_job, replay_engine,
+    Fault, InFile, Job, LineFault, Message, Open, OutFile, check_engine, read_job, replay_engine,
     run_engine, run_with_journal_engine, serial_engine,
 };
 use devices::Watched;
@@ -84,6 +84,7 @@ fn run_with_journal<R: Threads + Wait + Sync + Files + Print + AllocGlobal>(
         &mut replies,
         &mut journal,
         workers,
+        &Open,
     )
 }
 

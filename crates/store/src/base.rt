@@ -142,12 +142,12 @@ impl Base {
 }
 
 /// It answers what a read says of its dataset. It waits for nobody, and stops for want of memory
-/// alone.
+/// alone, which it doesn't need to say whether a name is there.
 impl<'a> Source for &'a Base {
     ghost use Rattle.std.specs.Prelude.{◌≡◌};
-    ghost use Rattle.reads.specs.Tells.{Tells};
+    ghost use Rattle.reads.specs.Tells.{TellsNames};
 
-    ghost asks = { λ base read told base'. (base'.now ≡ base.now) × Tells base.now.dataset read told };
+    ghost asks = { λ base read told base'. (base'.now ≡ base.now) × TellsNames base.now.dataset read told };
 
     fn ask(&mut self, read: &Read<Id>) -> Result<Answered, Stop> {
         let base: &Base = self;

@@ -12,3 +12,4 @@ mod KeptLaws
 mod FormedLaws
 mod LabelFreeLaws
 mod BlockLaws
+mod TokenOrder

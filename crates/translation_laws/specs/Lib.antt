@@ -3,3 +3,4 @@ pub mod Widths
 pub mod Written
 pub mod Formed
 pub mod Spelled
+pub mod Tokens

@@ -1,5 +1,5 @@
 //! Each law is the contract of a function with an empty body.
-ghost use Rattle.std.specs.Prelude.{◌≡◌, ◌<◌, ◌≤◌, ◌^◌, ◌↔◌, ℕ, true, false, List, Option, None, Ok, length};
+ghost use Rattle.std.specs.Prelude.{◌≡◌, ◌<◌, ◌≤◌, ◌^◌, ◌↔◌, ◌++◌, ℕ, true, false, List, Option, None, Ok, length};
 ghost use Rattle.std.specs.List.{AllByRecursion, Contains, list_all};
 ghost use Rattle.datasets.specs.declared.quad.Quad.{Quad};
 ghost use Rattle.terms.specs.declared.term.Term.{Term};
@@ -27,12 +27,17 @@ ghost use Rattle.grammar.specs.Reads.{Reads};
 ghost use Rattle.rules.specs.Refusal.{IsAccepted};
 ghost use Rattle.rules.specs.Requests.{IsSplit};
 ghost use Rattle.rules.specs.Terms.{terms_of_request};
+ghost use Rattle.lexer.specs.declared.token.Token.{Token};
+ghost use Rattle.syntax_trees.specs.declared.tree.Operation.{Operation as Written};
+ghost use Rattle.grammar.specs.Reads.{ReadsOperation};
+ghost use Rattle.translation_laws.specs.Tokens.{IsNumberedAsRead, HasLastDeclarations};
 ghost use Rattle.translation_laws.specs.Written.{is_name_or_literal};
 ghost use Rattle.translation_laws.specs.Widths.{IsWithinWidth, IsSolved};
 ghost use Rattle.translation_laws.specs.Formed.{IsFormedRequest};
 ghost use Rattle.translation_laws.specs.Spelled.{IsSpelledAgain};
 
 use meaning_laws::laws::{answers_with_datasets, joins_are_solutions};
+use names::laws::{labels_are_numbered_as_they_appear, last_declaration_counts};
 use nquads_laws::{spelled_is_well_formed, spells_again};
 use terms::Term;
 
@@ -50,6 +55,22 @@ pub fn numbers_of_where_are_below()
         → number_of (variables_of where-nodes) variable ≡ number_of (variables_of where-nodes) other
         → variable ≡ other }
 {}
+
+/// The number of a label of an operation is its place among the labels of the operation's tokens,
+/// where each is taken once, at its first appearance.
+pub fn labels_are_numbered_as_read()
+    ensures { (tokens rest : List Token) (op : Written) → ReadsOperation (tokens ++ rest) op rest
+        → IsNumberedAsRead tokens op }
+{
+    labels_are_numbered_as_they_appear();
+}
+
+/// The IRI of a prefix in an operation is that of the last declaration of the prefix before it.
+pub fn names_have_the_last_declaration()
+    ensures { (before later : List Step) (op : Written) → HasLastDeclarations before op later }
+{
+    last_declaration_counts();
+}
 
 /// The variables of each operation of a request are within its width: those of the pattern and of
 /// its filters are below it, and those of the templates are too, or are the width itself where

@@ -12,3 +12,4 @@ pub mod GraphNearness
 pub mod WholeGraphs
 pub mod ToldScans
 pub mod KnownQuads
+pub mod NewNotes

@@ -1,7 +1,8 @@
 -- What notes tell of whole graphs is what there is.
-use Rattle.std.specs.Prelude.{Bool, true, false, ◌&&◌, ◌||◌, is_none, filter, filter_map, if◌then◌else◌}
+use Rattle.std.specs.Prelude.{Bool, true, false, ◌&&◌, ◌||◌, is_none, filter, filter_map, option_to_list, if◌then◌else◌}
 use Rattle.std.specs.List.{list_any, cons_option, flat_map}
-use Rattle.std.proofs.Common.{◌≡◌, List, [], ◌∷◌, Option, Some, None, refl, sym, ap, ◌∙◌}
+use Rattle.std.proofs.Common.{◌≡◌, ℕ, suc, ◌+◌, ◌<◌, List, [], ◌∷◌, ◌++◌, length, get_or, drop, Option, Some, None, refl, sym, ap, ◌∙◌, add-one, drop-cons, append_assoc}
+use Rattle.std.proofs.lemmas.List.{append-nil}
 use Rattle.std.proofs.lemmas.Bool.{false≢true}
 use Rattle.sets.specs.Sets.{has, set_of}
 use Rattle.sets.proofs.SetLaws.{has-set_of, has-filter, or_swap}
@@ -105,3 +106,20 @@ known_of_notes w notes all default names quads d a q known =
     ∙ notes_told notes d q a
     ∙ ap (λ b. has (quad_order id_order) d.quads q && b) (sym (known_is w (places_told notes) all default names q.graph) ∙ known)
     ∙ and-true (has (quad_order id_order) d.quads q)
+
+-- ---- the places, one after another
+
+one_more : {A : Type 0} (o : Option A) (xs ys : List A) → (xs ++ option_to_list o) ++ ys ≡ xs ++ cons_option o ys
+one_more None xs ys = ap (λ zs. zs ++ ys) (append-nil xs)
+one_more (Some x) xs ys = append_assoc xs (x ∷ []) ys
+
+drop_next : {A : Type 0} (xs : List A) (i : ℕ) (x : A) → i < length xs → x ≡ get_or xs i x → drop i xs ≡ x ∷ drop (i + 1) xs
+drop_next xs i x lt is = rw add-one (drop-cons xs i x lt ∙ ap (λ (y : _). y ∷ drop (suc i) xs) (sym is))
+
+pub placed_more : (notes : List Note) (i : ℕ) (n : Note) (places next : List (GraphPlace Id)) → i < length notes → n ≡ get_or notes i n
+    → next ≡ places ++ option_to_list (whole_place n.read) → places ++ places_told (drop i notes) ≡ places_told notes → next ++ places_told (drop (i + 1) notes) ≡ places_told notes
+placed_more notes i n places next lt is e h =
+    ap (λ ps. ps ++ places_told (drop (i + 1) notes)) e
+    ∙ one_more (whole_place n.read) places (places_told (drop (i + 1) notes))
+    ∙ ap (λ ns. places ++ places_told ns) (sym (drop_next notes i n lt is))
+    ∙ h

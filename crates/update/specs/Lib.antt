@@ -7,3 +7,4 @@ pub mod Told
 pub mod Whole
 pub mod Known
 pub mod TemplateScans
+pub mod Once

@@ -1,10 +1,12 @@
 //! DELETE and INSERT over the solutions of WHERE (SPARQL 1.1 Update, 3.1.3).
-ghost use Rattle.std.specs.Prelude.{◌≡◌, ◌≤◌, Bool, true, length, IfOk, IfSome};
+ghost use Rattle.std.specs.Prelude.{◌≡◌, ◌≤◌, Bool, true, length, IfOk, IfSome, OnOk};
+ghost use Rattle.std.specs.Option.{option_map};
 ghost use Rattle.datasets.specs.Id.{id_order};
 ghost use Rattle.dict.specs.Dictionary.{numbers};
 ghost use Rattle.meaning.specs.Effect.{effect_of};
-ghost use Rattle.asking.specs.Near.{is_near};
+ghost use Rattle.asking.specs.Near.{is_near, is_for_plan};
 ghost use Rattle.meaning.specs.Solutions.{solutions};
+ghost use Rattle.algebra.specs.declared.template.Slot.TheVariants as slot;
 ghost use Rattle.algebra.specs.declared.update.Operation.TheVariants as operation;
 ghost use Rattle.reads.specs.Reads.{View, Read as Reading, applied};
 ghost use Rattle.reads.specs.Runs.{Agrees};
@@ -12,6 +14,7 @@ ghost use Rattle.asking.specs.Goes.{Goes, stop_of};
 ghost use Rattle.solution.specs.Limits.{up_to};
 ghost use Rattle.update.specs.Asked.{IsWithin};
 ghost use Rattle.update.specs.Changed.{changed};
+ghost use Rattle.update.specs.Once.{is_many, AsksOnce};
 
 use crate::template::instances;
 use crate::template_scans::ask_templates;
@@ -37,8 +40,9 @@ fn solved<S: Source>(
     source: &mut S,
     notes: &mut Vec<Note>,
 ) -> Result<Option<Solutions>, Stop>
-    ensures goes { Goes S.asks (is_near id_order (operation.Modify modify.now)) source.old
-        source.new notes.old.items notes.new.items (stop_of result) }
+    ensures near { Goes S.asks (is_for_plan id_order (option_map slot.Term modify.now.active)
+        modify.now.pattern) source.old source.new notes.old.items notes.new.items
+        (stop_of result) }
     ensures solved { IfOk result (λ found. (d : View) → Agrees notes.new.items d
         → found ≡ up_to 1000000 (solutions id_order (numbers dict.now).passes modify.now.width
         modify.now.pattern (applied changes.now d) modify.now.active)) }
@@ -68,7 +72,9 @@ fn solved<S: Source>(
 const MANY_SOLUTIONS: usize = 100_000;
 
 // Whether there are very many solutions.
-fn are_many(found: &Option<Solutions>) -> bool {
+fn are_many(found: &Option<Solutions>) -> bool
+    ensures { result ≡ is_many found.now }
+{
     match found {
         Some(few) => few.as_slice().len() > MANY_SOLUTIONS,
         None => false,
@@ -91,6 +97,8 @@ fn solutions_of<S: Source>(
     ensures solved { IfOk result (λ found. (d : View) → Agrees notes.new.items d
         → found ≡ up_to 1000000 (solutions id_order (numbers dict.now).passes modify.now.width
         modify.now.pattern (applied changes.now d) modify.now.active)) }
+    ensures once { OnOk result (AsksOnce (numbers dict.now) modify.now changes.now notes.old.items
+        notes.new.items) }
     ensures few { IfOk result (λ found. IfSome found (λ few. length few ≤ 1000000)) }
 {
     let found = solved(alloc, dict, modify, changes, source, notes)?;
@@ -106,6 +114,8 @@ fn solutions_of<S: Source>(
 
 /// The change that goes on with an operation, or why the operation fails, from a change to which
 /// the operations before it led. WHERE is evaluated once; all deletions come before all insertions.
+/// Only what WHERE has to read is read, and, where it has very many solutions, what was not read
+/// before.
 pub fn modify<S: Source>(
     alloc: Global,
     dict: &Dict,
@@ -121,6 +131,8 @@ pub fn modify<S: Source>(
     ensures effect { IfOk result (λ outcome. (d : View) → Agrees notes.new.items d
         → changed d outcome ≡ effect_of (numbers dict.now) request op (operation.Modify modify.now)
         (applied changes.now d)) }
+    ensures once { OnOk result (AsksOnce (numbers dict.now) modify.now changes.now notes.old.items
+        notes.new.items) }
     ensures within { (allowed : Reading → Bool) →
         ((r : Reading) → is_near id_order (operation.Modify modify.now) r ≡ true → allowed r ≡ true)
         → IsWithin allowed changes.now → IfOk result

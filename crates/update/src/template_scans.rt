@@ -1,8 +1,9 @@
 //! One scan of a template, in place of a question for each of very many instances.
-ghost use Rattle.std.specs.Prelude.{◌≡◌, Bool, true};
+ghost use Rattle.std.specs.Prelude.{◌≡◌, Bool, true, false, OnOk};
 ghost use Rattle.reads.specs.Reads.{Read as Reading};
 ghost use Rattle.asking.specs.Goes.{Goes, stop_of};
 ghost use Rattle.update.specs.TemplateScans.{written as the_written, written_graph as the_written_graph, template_scan as the_template_scan, AskedTemplates};
+ghost use Rattle.update.specs.Once.{is_noted as the_is_noted, AddsNew};
 
 use algebra::{QuadTemplate, Slot};
 use asking::ask;
@@ -55,30 +56,39 @@ fn is_narrow(template: &QuadTemplate<Id>) -> bool {
 }
 
 // Whether a read was asked for.
-fn is_noted(notes: &[Note], read: &Read<Id>) -> bool {
+fn is_noted(notes: &[Note], read: &Read<Id>) -> bool
+    ensures { result ≡ the_is_noted notes.now read.now }
+{
     notes.iter().any(|note| same_reads(&note.read, read))
 }
 
 // Asks for the scan of a narrow template, unless it was asked for.
+#[tactic(auto, using(crate::proofs::NewNotes::adds_nothing))]
 fn ask_template<S: Source>(
     alloc: Global,
     template: &QuadTemplate<Id>,
     source: &mut S,
     notes: &mut Vec<Note>,
 ) -> Result<(), Stop>
-    ensures { (allowed : Reading → Bool) → allowed (the_template_scan template.now) ≡ true
+    ensures goes { (allowed : Reading → Bool) → allowed (the_template_scan template.now) ≡ true
         → Goes S.asks allowed source.old source.new notes.old.items notes.new.items
         (stop_of result) }
+    ensures new { OnOk result (AddsNew notes.old.items notes.new.items) }
 {
     let read = template_scan(template);
-    if !is_narrow(template) || is_noted(notes.as_slice(), &read) {
+    if !is_narrow(template) {
+        return Ok(());
+    }
+    if is_noted(notes.as_slice(), &read) {
         return Ok(());
     }
     let _answer = ask(alloc, read, source, notes)?;
     Ok(())
 }
 
-/// Asks for the scans of templates, where they have many instances.
+/// Asks for the scans of templates, where they have many instances, and for none that was asked for
+/// before.
+#[tactic(auto, using(crate::proofs::NewNotes::adds_nothing))]
 pub fn ask_templates<S: Source>(
     alloc: Global,
     are_many: bool,
@@ -86,9 +96,11 @@ pub fn ask_templates<S: Source>(
     source: &mut S,
     notes: &mut Vec<Note>,
 ) -> Result<(), Stop>
-    ensures { (allowed : Reading → Bool) → AskedTemplates allowed templates.now
+    ensures goes { (allowed : Reading → Bool) → AskedTemplates allowed templates.now
         → Goes S.asks allowed source.old source.new notes.old.items notes.new.items
         (stop_of result) }
+    ensures new { OnOk result (AddsNew notes.old.items notes.new.items) }
+    ensures none { are_many ≡ false → notes.new.items ≡ notes.old.items }
 {
     if !are_many {
         return Ok(());

@@ -1,5 +1,5 @@
 //! What notes tell of whole graphs.
-ghost use Rattle.std.specs.Prelude.{◌≡◌, Bool, IfOk, filter_map};
+ghost use Rattle.std.specs.Prelude.{◌≡◌, ◌++◌, Bool, IfOk, OnOk, filter_map, option_to_list};
 ghost use Rattle.std.specs.List.{list_any, flat_map};
 ghost use Rattle.reads.specs.Reads.{View};
 ghost use Rattle.reads.specs.Runs.{Agrees};
@@ -94,14 +94,28 @@ fn name_at(place: GraphPlace<Id>) -> Option<Id>
     }
 }
 
+// One more at the end, if there is one.
+fn push_place(
+    places: &mut Vec<GraphPlace<Id>>,
+    place: Option<GraphPlace<Id>>,
+) -> Result<(), AllocError>
+    ensures { OnOk result (places.new.items ≡ places.old.items ++ option_to_list place) }
+{
+    if let Some(found) = place {
+        places.push(found)?;
+    }
+    Ok(())
+}
+
 // The places of which the notes tell each quad.
 fn places_told(alloc: Global, notes: &[Note]) -> Result<Vec<GraphPlace<Id>>, AllocError>
     ensures { IfOk result (λ places. places.items ≡ the_places_told notes.now) }
 {
-    notes
-        .iter()
-        .filter_map(|note| whole_place(note))
-        .collect(alloc)
+    let mut places = Vec::new(alloc);
+    for note in notes {
+        push_place(&mut places, whole_place(note))?;
+    }
+    Ok(places)
 }
 
 fn names_at(alloc: Global, places: &[GraphPlace<Id>]) -> Result<Vec<Id>, AllocError>

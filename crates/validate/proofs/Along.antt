@@ -1,4 +1,4 @@
--- A walk along the requests that may have spoken gives what the walk along all gives.
+-- A walk along the requests whose delta covers a read gives what the walk along all gives.
 use Rattle.std.proofs.Common.{◌≡◌, ℕ, zero, suc, ◌<◌, ◌≤◌, inl, inr, false, ◌&&◌, if◌then◌else◌, List, [], ◌∷◌, ◌++◌, length, Option, Some, slice_index_or, ◌+◌, sym, ap, ◌∙◌, subst, arith, append_assoc}
 use Rattle.std.proofs.lemmas.Bool.{cases_lt}
 use Rattle.std.proofs.lemmas.List.{get_or_default, get_or_past, append-nil}

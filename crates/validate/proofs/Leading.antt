@@ -1,20 +1,20 @@
 -- The requests that were found lead to all whose delta covers the read.
-use Rattle.std.proofs.Common.{◌≡◌, ℕ, zero, suc, ◌+◌, ◌<◌, ◌≤◌, inl, inr, Bool, true, false, ◌&&◌, List, [], ◌∷◌, length, get_or, slice_index_or, refl, sym, ap, ◌∙◌, subst, arith, leb-true}
-use Rattle.std.specs.Prelude.{filter, ◌||◌, ◌==◌, nat_le, nat_lt, eqb}
-use Rattle.std.specs.List.{list_any}
-use Rattle.std.specs.List.{dedup}
-use Rattle.std.specs.List.Sorted.{IsStrictlySortedBy, IsSorted, IsPermutation}
+use Rattle.std.proofs.Common.{◌≡◌, ℕ, zero, suc, ◌+◌, ◌<◌, ◌≤◌, ◌⊎◌, inl, inr, Bool, true, false, if◌then◌else◌, List, [], ◌∷◌, ◌++◌, length, get_or, slice_index_or, refl, sym, ap, ◌∙◌, subst, arith}
+use Rattle.std.specs.Prelude.{◌||◌}
+use Rattle.std.specs.declared.cmp.Ordering.TheVariants.{Less}
+use Rattle.std.specs.List.Sorted.{IsStrictlySortedBy}
 use Rattle.std.specs.Ordering.{nat_cmp, eq_by_cmp, is_eq}
-use Rattle.std.specs.Cmp.{tied_itself, both_ways}
-use Rattle.std.proofs.lemmas.Cmp.{nat_cmp_total, nat_eq_equiv}
+use Rattle.std.specs.Cmp.{tied_itself, nat_cmp_is}
+use Rattle.std.proofs.lemmas.Cmp.{nat_cmp_total}
 use Rattle.std.proofs.lemmas.List.{get_or_past}
-use Rattle.std.proofs.lemmas.List.Kept.{IsStrictlySortedBy-dedup, Contains-dedup_nat, Contains-from_dedup}
-use Rattle.std.proofs.lemmas.List.Sorted.{Contains-permutation, IsPermutation-sym}
-use Rattle.std.proofs.lemmas.Bool.{cases_lt, false≢true, and_parts, and_from, eqb-true, ltb-true, false_from_ne_true, or_right}
-use Rattle.std.proofs.lemmas.Map.Keys.{below_from_sorted}
+use Rattle.std.proofs.lemmas.List.Folds.{list_any-append}
+use Rattle.std.proofs.lemmas.Bool.{cases_lt, false≢true, false_from_ne_true, or_right}
+use Rattle.std.proofs.Math.Bool.{or-true}
+use Rattle.std.proofs.lemmas.Map.Keys.{below_from_sorted, sorted_head, sorted_tail}
 use Rattle.std.proofs.lemmas.Map.Lookups.{exact_unsigned}
 use Rattle.sets.specs.Sets.{has}
-use Rattle.sets.proofs.SetLaws.{has-filter, has_alike, exact_by}
+use Rattle.sets.proofs.SetLaws.{exact_by, sorted-cons, sorted-empty}
+use Rattle.sets.proofs.Every.{all_joined}
 use Rattle.reads.specs.Reads.{Read, covers}
 use Rattle.incarnations.specs.declared.state.Slot.{Slot as KeptSlot}
 use Rattle.incarnations.specs.Slots.{Slot}
@@ -24,72 +24,73 @@ use Rattle.validate.specs.Kept.{shown}
 use Rattle.validate.specs.Lower.{request_at, after_first, Leads, NoneCovers}
 use Rattle.validate.proofs.Shown.{is_slot}
 
--- ---- tests of lists
+-- ---- a list with one more number, above all others
 
-any_mono : {A : Type 0} (p t : A → Bool) → ((x : A) → p x ≡ true → t x ≡ true) → (xs : List A) → list_any p xs ≡ true → list_any t xs ≡ true
-any_mono p t h [] e = e
-any_mono p t h (x ∷ xs) e = at (p x) (t x) (h x) (any_mono p t h xs) e
+sorted_push : (xs : List ℕ) (n : ℕ) → IsStrictlySortedBy nat_cmp xs → ((j : ℕ) → has nat_cmp xs j ≡ true → j < n) → IsStrictlySortedBy nat_cmp (xs ++ n ∷ [])
+sorted_push [] n s below = sorted-cons nat_cmp n [] tt (sorted-empty nat_cmp)
+sorted_push (x ∷ xs) n s below =
+    let first : x < n = below x (ap (λ r. is_eq r || has nat_cmp xs x) (tied_itself nat_cmp_total x)) in
+    sorted-cons nat_cmp x (xs ++ n ∷ []) (all_joined (λ z. nat_cmp x z ≡ Less) xs (n ∷ []) (sorted_head nat_cmp x xs s) (sym (nat_cmp_is x n Less first), tt))
+    (sorted_push xs n (sorted_tail nat_cmp x xs s) (λ j h. below j (or_right (eq_by_cmp nat_cmp j x) _ h)))
+
+has-push : (xs : List ℕ) (n j : ℕ) → has nat_cmp (xs ++ n ∷ []) j ≡ (has nat_cmp xs j || (eq_by_cmp nat_cmp j n || false))
+has-push xs n j = list_any-append (eq_by_cmp nat_cmp j) xs (n ∷ [])
+
+old_or_last : (xs : List ℕ) (n j : ℕ) → has nat_cmp (xs ++ n ∷ []) j ≡ true → (has nat_cmp xs j ≡ true) ⊎ (j ≡ n)
+old_or_last xs n j e = at (has nat_cmp xs j) (eq_by_cmp nat_cmp j n) refl refl (sym (has-push xs n j) ∙ e)
   where
-    at : (a b : Bool) → (a ≡ true → b ≡ true) → (list_any p xs ≡ true → list_any t xs ≡ true) → (a || list_any p xs) ≡ true → (b || list_any t xs) ≡ true
-    at true b f g e = ap (λ z. z || list_any t xs) (f refl)
-    at false true f g e = refl
-    at false false f g e = g e
+    at : (a b : Bool) → has nat_cmp xs j ≡ a → eq_by_cmp nat_cmp j n ≡ b → (a || (b || false)) ≡ true → (has nat_cmp xs j ≡ true) ⊎ (j ≡ n)
+    at true b f g h = inl f
+    at false true f g h = inr (exact_by nat_cmp_total exact_unsigned j n g)
+    at false false f g h = absurd (false≢true h)
 
-pub tied : (xs : List ℕ) (j : ℕ) → list_any (λ r. r == j) xs ≡ true → has nat_cmp xs j ≡ true
-tied xs j e = any_mono (λ r. r == j) (eq_by_cmp nat_cmp j) (λ r h. ap (λ n. is_eq (nat_cmp j n)) (eqb-true r j h) ∙ ap is_eq (tied_itself nat_cmp_total j)) xs e
+has_old : (xs : List ℕ) (n j : ℕ) → has nat_cmp xs j ≡ true → has nat_cmp (xs ++ n ∷ []) j ≡ true
+has_old xs n j e = has-push xs n j ∙ ap (λ b. b || (eq_by_cmp nat_cmp j n || false)) e
+
+has_last : (xs : List ℕ) (n : ℕ) → has nat_cmp (xs ++ n ∷ []) n ≡ true
+has_last xs n = has-push xs n n ∙ ap (λ r. has nat_cmp xs n || (is_eq r || false)) (tied_itself nat_cmp_total n) ∙ or-true (has nat_cmp xs n)
 
 -- ---- those whose delta covers the read, one after another
 
--- of the requests from `from` on and below k those whose delta covers the read are among these
-abbrev pub AreCovering : List KeptSlot → Read → ℕ → ℕ → List ℕ → Type 0
-AreCovering xs read from k found = (j : ℕ) → from ≤ j → j < k → covers (slot_at (shown xs) j).delta read ≡ true → list_any (λ r. r == j) found ≡ true
+-- a rising list of requests from `from` on and below k that has all of them whose delta covers the
+-- read
+pub record Gathers (slots : List Slot) (read : Read) (from k : ℕ) (found : List ℕ) : Type 0 where
+  pub sorted : IsStrictlySortedBy nat_cmp found
+  pub begins : (j : ℕ) → has nat_cmp found j ≡ true → from ≤ j
+  pub below : (j : ℕ) → has nat_cmp found j ≡ true → j < k
+  pub all : (j : ℕ) → from ≤ j → j < k → covers (slot_at slots j).delta read ≡ true → has nat_cmp found j ≡ true
 
-pub covering_more : (xs : List KeptSlot) (read : Read) (from k : ℕ) (y : KeptSlot) (found more : List ℕ) → y ≡ slice_index_or xs k y → k < length xs
-    → ((j : ℕ) → list_any (λ r. r == j) found ≡ true → list_any (λ r. r == j) more ≡ true) → (covers y.delta read ≡ true → list_any (λ r. r == k) more ≡ true)
-    → AreCovering xs read from k found → AreCovering xs read from (k + 1) more
-covering_more xs read from k y found more at lt kept here before j ge less e =
-    elim (cases_lt j k) [
-      | inl lower ↦ kept j (before j ge lower e)
-      | inr upper ↦ (let is : k ≡ j = omega (arith, upper, less) in
-          subst (λ n. list_any (λ r. r == n) more ≡ true) is
-          (here (ap (λ z. covers z.delta read) (is_slot plain xs k y at lt) ∙ (ap (λ n. covers (slot_at (shown xs) n).delta read) is ∙ e))))
-    ]
+pub gathers_none : (slots : List Slot) (read : Read) (from : ℕ) (found : List ℕ) → found ≡ [] → Gathers slots read from from found
+gathers_none slots read from found none =
+    subst (Gathers slots read from from) (sym none)
+    (record { sorted = sorted-empty nat_cmp; begins = λ j e. absurd (false≢true e); below = λ j e. absurd (false≢true e); all = λ j ge lt e. absurd (omega (arith, ge, lt)) })
 
--- ---- those below i, sorted and each once
+pub gathers_more : (xs : List KeptSlot) (read : Read) (from k : ℕ) (y : KeptSlot) (found more : List ℕ) → y ≡ slice_index_or xs k y → k < length xs → from ≤ k
+    → more ≡ (if covers y.delta read then found ++ k ∷ [] else found) → Gathers (shown xs) read from k found → Gathers (shown xs) read from (k + 1) more
+gathers_more xs read from k y found more at lt ge is g = subst (Gathers (shown xs) read from (k + 1)) (sym is) (go (covers y.delta read) refl)
+  where
+    here : covers y.delta read ≡ covers (slot_at (shown xs) k).delta read
+    here = ap (λ (z : Slot). covers z.delta read) (is_slot plain xs k y at lt)
 
-ties : (x y : ℕ) → eqb x y ≡ eq_by_cmp nat_cmp x y
-ties x y =
-    both_ways (eqb x y) (eq_by_cmp nat_cmp x y)
-    (λ e. ap (λ n. is_eq (nat_cmp x n)) (sym (eqb-true x y e)) ∙ ap is_eq (tied_itself nat_cmp_total x))
-    (λ e. ap (λ n. eqb x n) (sym (exact_by nat_cmp_total exact_unsigned x y e)) ∙ nat_eq_equiv.refl x)
-
-module _ (found kept up result : List ℕ) (from i : ℕ) (filtered : kept ≡ filter (λ r. nat_le from r && nat_lt r i) found) (moved : IsPermutation kept up) (sorted : IsSorted nat_cmp up) (is : result ≡ dedup eqb up) where
-  pub between-sorted : IsStrictlySortedBy nat_cmp result
-  between-sorted = subst (λ xs. IsStrictlySortedBy nat_cmp xs) (sym is) (IsStrictlySortedBy-dedup nat_cmp_total ties up sorted)
-
-  has_between : (j : ℕ) → has nat_cmp result j ≡ (has nat_cmp found j && (nat_le from j && nat_lt j i))
-  has_between j =
-      ap (λ xs. has nat_cmp xs j) is
-      ∙ has_alike nat_cmp_total exact_unsigned (dedup eqb up) kept
-      (λ x h. Contains-permutation up kept x (IsPermutation-sym kept up moved) (Contains-from_dedup eqb up x h))
-      (λ x h. Contains-dedup_nat up x (Contains-permutation kept up x moved h)) j
-      ∙ ap (λ xs. has nat_cmp xs j) filtered
-      ∙ has-filter nat_cmp_total exact_unsigned (λ r. nat_le from r && nat_lt r i) j found
-
-  both : (j : ℕ) → has nat_cmp result j ≡ true → (nat_le from j ≡ true) × (nat_lt j i ≡ true)
-  both j e = and_parts (nat_le from j) (nat_lt j i) (and_parts (has nat_cmp found j) (nat_le from j && nat_lt j i) (sym (has_between j) ∙ e)).1
-
-  pub between-from : (j : ℕ) → has nat_cmp result j ≡ true → from ≤ j
-  between-from j e = leb-true from j (both j e).0
-
-  pub between-below : (j : ℕ) → has nat_cmp result j ≡ true → j < i
-  between-below j e = ltb-true j i (both j e).1
-
-  pub between-same : (j : ℕ) → from ≤ j → j < i → list_any (λ r. r == j) found ≡ true → has nat_cmp result j ≡ true
-  between-same j ge lt e =
-      has_between j
-      ∙ and_from (has nat_cmp found j) (nat_le from j && nat_lt j i) (tied found j e)
-      (and_from (nat_le from j) (nat_lt j i) (grind (arith, ge)) (grind (arith, lt)))
+    go : (b : Bool) → covers y.delta read ≡ b → Gathers (shown xs) read from (k + 1) (if b then found ++ k ∷ [] else found)
+    go true e = record {
+      sorted = sorted_push found k g.sorted g.below;
+      begins = λ j h. elim (old_or_last found k j h) [ inl old ↦ g.begins j old | inr last ↦ omega (arith, last, ge) ];
+      below = λ j h. elim (old_or_last found k j h) [ inl old ↦ (let b = g.below j old in omega (arith, b)) | inr last ↦ omega (arith, last) ];
+      all = λ j from_j to_j c. elim (cases_lt j k) [
+        | inl lower ↦ has_old found k j (g.all j from_j lower c)
+        | inr upper ↦ (let last : k ≡ j = omega (arith, upper, to_j) in subst (λ n. has nat_cmp (found ++ k ∷ []) n ≡ true) last (has_last found k))
+      ];
+    }
+    go false e = record {
+      sorted = g.sorted;
+      begins = g.begins;
+      below = λ j h. (let b = g.below j h in omega (arith, b));
+      all = λ j from_j to_j c. elim (cases_lt j k) [
+        | inl lower ↦ g.all j from_j lower c
+        | inr upper ↦ (let last : k ≡ j = omega (arith, upper, to_j) in absurd (false≢true (sym e ∙ here ∙ ap (λ n. covers (slot_at (shown xs) n).delta read) last ∙ c)))
+      ];
+    }
 
 -- ---- from a set to a lead
 
@@ -165,5 +166,15 @@ module _ (slots : List Slot) (read : Read) (low : ℕ) (list : List ℕ) (i : �
             | inr ge ↦ (let r = rises_to p.place k ge (omega (arith, le)) in absurd (omega (arith, r, same, down)))
           ]
 
-  pub leads_all : Leads slots read low list i
+  leads_all : Leads slots read low list i
   leads_all = record { within = at_within; rising = at_rising; none = at_none }
+
+pub leads_gathered : (slots : List Slot) (read : Read) (from k i : ℕ) (found : List ℕ) → from ≤ i → k ≡ i → Gathers slots read from k found → Leads slots read from found i
+leads_gathered slots read from k i found rises top g =
+    leads_all slots read from found i rises g.sorted g.begins (λ j e. (let b = g.below j e in omega (arith, b, top))) (λ j ge lt c. g.all j ge (omega (arith, lt, top)) c)
+
+-- where no delta covers the read
+pub leads_none : (slots : List Slot) (read : Read) (from i : ℕ) (found : List ℕ) → found ≡ [] → from ≤ i → ((j : ℕ) → covers (slot_at slots j).delta read ≡ false) → Leads slots read from found i
+leads_none slots read from i found none rises uncovered =
+    subst (λ list. Leads slots read from list i) (sym none)
+    (leads_all slots read from [] i rises (sorted-empty nat_cmp) (λ j e. absurd (false≢true e)) (λ j e. absurd (false≢true e)) (λ j ge lt c. absurd (false≢true (sym (uncovered j) ∙ c))))

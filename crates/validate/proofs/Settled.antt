@@ -16,7 +16,7 @@ settled_calm (Ready n) e = absurd (false≢true e)
 settled_calm (Executing n w) e = absurd (false≢true e)
 settled_calm (Executed n) e = absurd (false≢true e)
 
-module _ (xs : List KeptSlot) (low : ℕ) (spoken : Read → ℕ → Bool) (settled : List Delta) (k : IsKept xs low spoken settled) where
+module _ (xs : List KeptSlot) (low : ℕ) (published : Read → Bool) (settled : List Delta) (k : IsKept xs low published settled) where
   pub none_below : (n : ℕ) (read : Read) → n ≤ low → blocker (shown xs) n read ≡ None
   unfolding blocker
   none_below zero read le = refl

@@ -4,7 +4,7 @@
 use Rattle.std.specs.Prelude.{◌≡◌, ℕ, ◌<◌, ◌≤◌, Bool, true, false, List, [], ◌∷◌, ◌++◌, length, map, Some, None}
 use Rattle.reads.specs.Reads.{View, Delta, Read}
 use Rattle.version_overlay.specs.Settled.{changed_by}
-use Rattle.version_overlay.specs.Spoken.{speaks}
+use Rattle.version_overlay.specs.ChangeFilter.{may_cover}
 use Rattle.incarnations.specs.declared.state.Noted.{Noted as KeptNote}
 use Rattle.incarnations.specs.declared.state.Slot.{Slot as KeptSlot}
 use Rattle.incarnations.specs.declared.state.Status.{Status}
@@ -46,19 +46,19 @@ abbrev pub LowSlots : ℕ → List KeptSlot → Type 0
 LowSlots low [] = Unit {0}
 LowSlots low (x ∷ xs) = LowNotes low x.notes × LowSlots low xs
 
--- What is kept: of each request that is not settled, that it may have spoken of all that its delta
--- covers; of those that are settled, that they are committed, and what they make of a base; and
--- that no request that is executed is an estimate.
-pub record IsKept (slots : List KeptSlot) (low : ℕ) (spoken : Read → ℕ → Bool) (settled : List Delta) : Type 0 where
+-- What is kept: of each request, that what was published lets through all that its delta covers; of
+-- those that are settled, that they are committed, and what they make of a base; and that no
+-- request that is executed is an estimate.
+pub record IsKept (slots : List KeptSlot) (low : ℕ) (published : Read → Bool) (settled : List Delta) : Type 0 where
   pub within : low ≤ length slots
-  pub knows : Knows spoken low (shown slots)
+  pub knows : Knows published (shown slots)
   pub folded : (base : View) → changed_by settled base ≡ view_at base (shown slots) low
   pub closed : (j : ℕ) → j < low → is_closed (Some (slot_at (shown slots) j).status) ≡ true
   pub calm : (j : ℕ) → IsCalm (slot_at (shown slots) j)
   pub lows : LowSlots low slots
 
 abbrev pub Holds : Kept → Type 0
-Holds k = IsKept k.slots.items k.low (speaks k.spoken) k.settled
+Holds k = IsKept k.slots.items k.low (may_cover k.published) k.settled
 
 -- what is found of a read: the estimate that blocks it, or the note of its answer, with that answer
 abbrev pub IsFound : View → List KeptSlot → ℕ → ℕ → Read → Found → Type 0

@@ -24,7 +24,6 @@ pub record Leads (slots : List Slot) (read : Read) (low : ℕ) (list : List ℕ)
   pub rising : (k : ℕ) → k ≤ length list → after_first low list i k ≤ request_at list i k
   pub none : (k : ℕ) → k ≤ length list → NoneCovers slots read (after_first low list i k) (request_at list i k)
 
--- each request from low on whose delta covers a read is among those that may have spoken of what it
--- asks for
-abbrev pub Knows : (Read → ℕ → Bool) → ℕ → List Slot → Type 0
-Knows spoken low slots = (j : ℕ) (read : Read) → low ≤ j → covers (slot_at slots j).delta read ≡ true → spoken read j ≡ true
+-- what is published lets through each read that a request's delta covers
+abbrev pub Knows : (Read → Bool) → List Slot → Type 0
+Knows published slots = (j : ℕ) (read : Read) → covers (slot_at slots j).delta read ≡ true → published read ≡ true

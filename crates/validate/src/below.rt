@@ -1,5 +1,5 @@
 //! What the requests below one have published: the view that their deltas make, their estimates,
-//! and their changes. Each look goes along the requests that may have spoken of what is asked for,
+//! and their changes. Each look goes along the requests that may have changed what is asked for,
 //! but for those that are settled: their changes are one.
 ghost use Rattle.std.specs.Prelude.{◌≡◌, ◌≤◌, ◌<◌, ◌&&◌, ◌++◌, ◌∷◌, [], Some, suc, length, IfOk, OnOk, if◌then◌else◌};
 ghost use Rattle.datasets.specs.Id.{id_order};

@@ -1,7 +1,7 @@
 //! What is kept of a block's requests.
 
 use incarnations::Slot;
-use version_overlay::{Settled, Spoken};
+use version_overlay::{ChangeFilter, Settled};
 
 /// The slots of a block's requests, and what the first of them make of a dataset, as one, once they
 /// are committed.
@@ -12,6 +12,6 @@ pub struct Kept<'a> {
     pub low: usize,
     /// The changes of those that are settled.
     pub settled: Settled,
-    /// Of all that a delta of another request speaks of its request, and some more.
-    pub spoken: Spoken,
+    /// A filter of all changes that were published.
+    pub published: ChangeFilter,
 }

@@ -1,7 +1,6 @@
 pub mod Changing
 pub mod Filtered
-pub mod Generations
-pub mod LatestChanges
+pub mod Filtering
 pub mod Presences
 pub mod Scanning
 pub mod Speaking

@@ -1,6 +1,5 @@
-pub mod Generation
+pub mod ChangeFilter
 pub mod LeanNote
+pub mod Seen
 pub mod Settled
-pub mod Latest
-pub mod Spoken
 pub mod WholeNote

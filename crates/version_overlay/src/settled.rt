@@ -4,7 +4,7 @@
 //! find something in them: then they become one, and so do levels that are alike in length, and
 //! each is put in order. So a read looks at few of them, what a change speaks of is copied about as
 //! often as there are levels, and where no read finds anything they are joined at the end, by
-//! several threads. Filters tell what a read can't find.
+//! several threads. A filter tells what a read can't find.
 ghost use Rattle.std.specs.Prelude.{◌≡◌, true, false, [], IfOk, OnOk, OnErr};
 ghost use Rattle.datasets.specs.Id.{id_order};
 ghost use Rattle.change_laws.specs.Laws.{IsRising};
@@ -12,24 +12,22 @@ ghost use Rattle.reads.specs.Reads.{View as Dataset, says, applied, no_change};
 ghost use Rattle.version_overlay.specs.Settled.{changed_by, part_or};
 
 use crate::along::push_covering;
-use crate::filters::{put_all, put_all_names};
+use crate::change_filter::ChangeFilter;
 use crate::joining::{all_joined, all_joined_by, join_behind};
 use crate::level::Level;
 use datasets::{Id, Read};
 use delta::Delta;
-use quad_hints::{SeenQuads, SeenTerms};
 use quad_lists::Arrangement;
 use reads::{CompactView, IndexedView, Scanned, View};
 use std::alloc::{AllocError, Global};
 use std::marker::Model;
 use std::thread::Threads;
 
-/// Changes that will not change again, one after another, as one. Filters stand before them.
+/// Changes that will not change again, one after another, as one. A filter is asked before them.
 #[derive(Drop)]
 pub struct Settled {
     orders: Vec<Arrangement>,
-    seen: SeenQuads,
-    named: SeenTerms,
+    filter: ChangeFilter,
     levels: Vec<Level>,
     // How many levels there were when they were put in order last.
     ready: usize,
@@ -44,7 +42,7 @@ impl Model for Settled {
 
     ghost view = { λ s. s.levels.items };
 
-    ghost invariant = { λ s. StopsUnchanged s.seen s.named s.levels.items };
+    ghost invariant = { λ s. StopsUnchanged s.filter s.levels.items };
 }
 
 impl Settled {
@@ -56,8 +54,7 @@ impl Settled {
         let orders = Vec::from_slice(alloc, orders)?;
         Ok(Settled {
             orders,
-            seen: SeenQuads::new(alloc),
-            named: SeenTerms::new(alloc),
+            filter: ChangeFilter::new(alloc),
             levels: Vec::new(alloc),
             ready: 0,
         })
@@ -74,8 +71,7 @@ impl Settled {
         if !self.levels.is_empty() && says_nothing(delta) {
             return Ok(());
         }
-        put_all(&mut self.seen, delta)?;
-        put_all_names(&mut self.named, delta)?;
+        self.filter.put(delta)?;
         let level = Level::new(alloc, delta.copied(alloc)?);
         self.levels.push(level)?;
         Ok(())
@@ -97,11 +93,7 @@ impl Settled {
         ensures { result ≡ false → (d : Dataset) → IsRising id_order d
             → says read.now (changed_by self.now d) ≡ says read.now d }
     {
-        match read {
-            Read::Scan(pattern) => self.seen.may_match(pattern),
-            Read::GraphIs(name) => self.named.has(*name),
-            Read::Graphs => true,
-        }
+        self.filter.may_cover(read)
     }
 
     /// The part of the dataset after the changes that a read asks for, from what it says of the

@@ -1,30 +1,27 @@
-use Rattle.std.proofs.Common.{◌≡◌, ◌∙◌, ◌≤◌, length, ap, arith}
+use Rattle.std.proofs.Common.{◌≡◌, ◌∙◌, ◌≤◌, length, map, ap, arith}
 use Rattle.book.specs.Run.{state_of}
 use Rattle.journal.specs.Text.{journal_text}
-use Rattle.engines.proofs.Committed.{journal_at}
-use Rattle.cli.proofs.Whole.{whole_outcome}
+use Rattle.replay.specs.Lines.{line_of}
+use Rattle.engines.proofs.Committed.{front_outcome, journal_at}
 use Rattle.cli.proofs.recorded.recorded.Goals as goal
 
-pub returns-clause-outcome : goal.returns-clause-outcome
-returns-clause-outcome g c =
+pub returns : goal.returns
+returns g c =
     let base = c.args.numbered.now.base in
     let block = c.args.numbered.now.block.items in
+    let book = c.in_ok-book.book in
+    let pair = c.in_ok-pair.pair in
+    let of_book = c.in_ok-pair.ensures in
     let size : length c.as_slice-block.result.now ≡ length block = ap length c.as_slice-block.ensures.value in
     let reached = c.in_ok-book.ensures.whole in
-    let whole : length block ≤ (state_of c.in_ok-book.book).front = omega (arith, size, reached) in
-    whole_outcome base block c.in_ok-book.book (c.in_ok-book.ensures.terms ∙ c.terms-terms.ensures) (c.in_ok-book.ensures.base ∙ c.dataset-dataset.ensures.value)
-    (c.in_ok-book.ensures.block ∙ c.as_slice-block.ensures.value) c.in_ok-outcome.outcome whole c.in_ok-outcome.ensures
-
-pub returns-clause-journal : goal.returns-clause-journal
-returns-clause-journal g c =
-    let base = c.args.numbered.now.base in
-    let block = c.args.numbered.now.block.items in
-    let size : length c.as_slice-block.result.now ≡ length block = ap length c.as_slice-block.ensures.value in
-    let reached = c.in_ok-book.ensures.whole in
-    let whole : length block ≤ (state_of c.in_ok-book.book).front = omega (arith, size, reached) in (
-      (state_of c.in_ok-book.book).front,
-      whole,
-      journal_at base block c.in_ok-book.book (c.in_ok-book.ensures.terms ∙ c.terms-terms.ensures) (c.in_ok-book.ensures.base ∙ c.dataset-dataset.ensures.value)
-          (c.in_ok-book.ensures.block ∙ c.as_slice-block.ensures.value) c.in_ok-journal.journal.items c.journal-journal.ensures.lawful
-          (c.in_ok-journal.ensures ∙ ap (λ t. journal_text t c.as_slice.result.now) c.tag.ensures ∙ ap (journal_text base.tag) (c.as_slice.ensures.value ∙ c.in_ok-lines.ensures)),
-    )
+    let whole : length block ≤ (state_of book).front = omega (arith, size, reached) in
+    let terms_are = c.in_ok-book.ensures.terms ∙ c.terms-terms.ensures in
+    let dataset_is = c.in_ok-book.ensures.base ∙ c.dataset-dataset.ensures.value in
+    let block_is = c.in_ok-book.ensures.block ∙ c.as_slice-block.ensures.value in
+    record {
+      front = (state_of book).front;
+      whole = whole;
+      journal_is = journal_at base block book terms_are dataset_is block_is pair.journal.items c.journal-journal.ensures.lawful
+          (of_book.journal_is ∙ ap (λ t. journal_text t (map (line_of book.terms) book.history)) c.tag.ensures);
+      outcome_is = front_outcome base block book terms_are dataset_is block_is pair.outcome of_book.outcome_is;
+    }

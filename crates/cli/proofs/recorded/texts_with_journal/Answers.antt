@@ -15,38 +15,51 @@ recorded-requires-clause-short g c _ _ = short _ _ _ _ c.in_ok-numbered.ensures 
 
 pub texts_of_outcome-requires-clause-known : goal.texts_of_outcome-requires-clause-known
 texts_of_outcome-requires-clause-known g c =
-    let whole = c.in_ok-outcome.ensures.outcome in
-    known _ _ _ _ c.in_ok-numbered.ensures c.carries_block.ensures c.parts-parts.ensures.dataset whole.0 _ _ whole.2
+    let at = c.in_ok-outcome.ensures in
+    known _ _ _ _ c.in_ok-numbered.ensures c.carries_block.ensures c.parts-parts.ensures.dataset at.front _ _ at.outcome_is
 
 pub texts_of_outcome-requires-clause-dataset : goal.texts_of_outcome-requires-clause-dataset
 texts_of_outcome-requires-clause-dataset g c =
-    let whole = c.in_ok-outcome.ensures.outcome in
-    named_dataset _ _ _ _ c.in_ok-numbered.ensures c.carries_block.ensures c.parts-parts.ensures.dataset whole.0 _ _ whole.2
+    let at = c.in_ok-outcome.ensures in
+    named_dataset _ _ _ _ c.in_ok-numbered.ensures c.carries_block.ensures c.parts-parts.ensures.dataset at.front _ _ at.outcome_is
 
 pub returns-clause-answer : goal.returns-clause-answer
 returns-clause-answer g c =
-    let whole = c.in_ok-outcome.ensures.outcome in
+    let at = c.in_ok-outcome.ensures in
     let numbered = c.in_ok-numbered.ensures in
-    let all = all_of _ _ _ _ numbered whole.0 whole.1 in
+    let all = all_of _ _ _ _ numbered at.front at.whole in
     record {
       tag = c.in_ok-numbered.numbered.base.tag;
       tagged = numbered.base.tag_is;
       dataset_is =
           c.in_ok-answer.ensures.dataset
           ∙ ap (λ e. canonical e c.in_ok-numbered.numbered.base.tag)
-          (named_is _ _ _ _ numbered c.carries_block.ensures c.parts-parts.ensures.dataset whole.0 _ _ whole.2 ∙ ap (λ p. p.0) all);
+          (named_is _ _ _ _ numbered c.carries_block.ensures c.parts-parts.ensures.dataset at.front _ _ at.outcome_is ∙ ap (λ p. p.0) all);
       replies_are =
           c.in_ok-answer.ensures.replies
-          ∙ ap reply_lines (replies_are _ _ _ _ numbered c.carries_block.ensures c.parts-parts.ensures.dataset whole.0 _ _ whole.2 ∙ ap (λ p. p.1) all);
+          ∙ ap reply_lines (replies_are _ _ _ _ numbered c.carries_block.ensures c.parts-parts.ensures.dataset at.front _ _ at.outcome_is ∙ ap (λ p. p.1) all);
     }
 
-pub returns-clause-journal : goal.returns-clause-journal
-returns-clause-journal g c =
-    let journal = c.in_ok-outcome.ensures.journal in
+pub returns-clause-history : goal.returns-clause-history
+returns-clause-history g c =
+    let at = c.in_ok-outcome.ensures in
     let numbered = c.in_ok-numbered.ensures in
     let same = same_length _ _ _ _ numbered in
-    let whole = journal.1 in (
-      journal.0,
+    let whole = at.whole in (
+      record {
+        front = at.front;
+        journal_is = record { base = c.in_ok-numbered.numbered.base; block = c.in_ok-numbered.numbered.block.items; numbered = numbered; journal_is = at.journal_is };
+        answer = record {
+          tag = c.in_ok-numbered.numbered.base.tag;
+          tagged = numbered.base.tag_is;
+          dataset_is =
+              c.in_ok-answer.ensures.dataset
+              ∙ ap (λ e. canonical e c.in_ok-numbered.numbered.base.tag)
+              (named_is _ _ _ _ numbered c.carries_block.ensures c.parts-parts.ensures.dataset at.front _ _ at.outcome_is);
+          replies_are =
+              c.in_ok-answer.ensures.replies
+              ∙ ap reply_lines (replies_are _ _ _ _ numbered c.carries_block.ensures c.parts-parts.ensures.dataset at.front _ _ at.outcome_is);
+        };
+      },
       omega (arith, same, whole),
-      record { base = c.in_ok-numbered.numbered.base; block = c.in_ok-numbered.numbered.block.items; numbered = numbered; journal_is = journal.2 },
     )

@@ -2,9 +2,18 @@ use Rattle.std.specs.Prelude.{ℕ, ◌==◌, ◌≢◌, ◌+◌}
 use Rattle.std.proofs.Common.{rules, ◌≡◌, false, List, [], length, sym, ap, ◌∙◌, arith}
 use Rattle.std.proofs.lemmas.Bool.{not-true, false≢true}
 use Rattle.canonical_nquads.specs.Tag.{mark_of}
-use Rattle.journal.specs.declared.fault.JournalFault.TheVariants.{BadEntry}
-use Rattle.journal.proofs.EntryLaws.{more_text, more_lines, bad_here}
+use Rattle.journal.specs.declared.fault.JournalFault.TheVariants.{OutOfMemory, BadEntry}
+use Rattle.journal.proofs.EntryLaws.{more_text, more_lines, bad_here, cut_short_there, cut_short_behind}
 use Rattle.journal.proofs.reader.read_lines.Goals as goal
+
+pub returns-in_err-push-in-Ok-clause-memory : goal.returns-in_err-push-in-Ok-clause-memory
+returns-in_err-push-in-Ok-clause-memory c e =
+    cut_short_behind c.args.tag c.args.text.now c.loop-rest.rest.now c.loop-rest.lines.items _ c.next_entry.result _ c.loop-rest.invariant.text c.loop-rest.invariant.each c.next_entry.ensures.none c.in-Ok.is
+
+pub returns-in-Err-clause-memory : goal.returns-in-Err-clause-memory
+returns-in-Err-clause-memory c e =
+    let same : c.in-Err.fault ≡ OutOfMemory = cc in
+    cut_short_there c.args.tag c.args.text.now c.loop-rest.rest.now c.loop-rest.lines.items _ c.in-Err.fault c.loop-rest.invariant.text c.loop-rest.invariant.each c.in-Err.ensures.bad same
 
 pub returns-in-Err-clause-bad : goal.returns-in-Err-clause-bad
 returns-in-Err-clause-bad c n e =

@@ -6,8 +6,8 @@ use Rattle.terms.specs.Parts.{parts_value}
 use Rattle.nquads_lines.proofs.LiteralLaws.{none_tagged}
 use Rattle.nquads_lines.proofs.forms.tagged.Goals as goal
 
-pub returns-in-None : goal.returns-in-None
-returns-in-None c =
+pub returns-in-None-clause-term : goal.returns-in-None-clause-term
+returns-in-None-clause-term c =
     let parts = parts_value c.args.lexical c.in_ok-datatype.datatype (Some c.in_ok-lower.lower) in
     none_tagged c.args.lexical c.in_ok-datatype.datatype c.in_ok-lower.lower (map to_ascii_lowercase c.args.tag.now)
     (subst (λ found. MatchOption found (IsLiteral parts → ⊥) (λ l. (l ≡ parts) × IsLiteral l)) c.in-None.is c.in_ok-literal.ensures)

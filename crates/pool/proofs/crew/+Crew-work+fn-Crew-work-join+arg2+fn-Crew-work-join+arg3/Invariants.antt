@@ -5,7 +5,7 @@ abbrev pub decreases-Crew::work : goal.decreases-Crew::work
 decreases-Crew::work g l = 2 * length l.self.passes.items
 
 abbrev pub decreases-join+arg2 : goal.decreases-join+arg2
-decreases-join+arg2 g l = 2 * length l.first.passes.items + 1
+decreases-join+arg2 g l = 2 * length l.last.passes.items + 1
 
 abbrev pub decreases-join+arg3 : goal.decreases-join+arg3
-decreases-join+arg3 g l = 2 * length l.second.passes.items + 1
+decreases-join+arg3 g l = 2 * length l.others.passes.items + 1

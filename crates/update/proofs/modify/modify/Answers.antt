@@ -23,8 +23,8 @@ returns-clause-effect g c d a =
     let found = c.in-Some.found in
     let solved = few_are V r found (solutions V.order V.passes m.width m.pattern D m.active) (sym c.in-Some.is ∙ c.in_ok-found.ensures.solved d a) in
     let few : length found ≤ 1000000 = subst (λ (o : Option (List (Mapping Id))). IfSome o (λ found. length found ≤ 1000000)) c.in-Some.is c.in_ok-found.ensures.few in
-    let deleted = c.in_ok-deleted.ensures ∙ (λ i. instances V r o (c.as_slice.ensures i) (c.as_slice-2.ensures i)) in
-    let inserted = c.in_ok-inserted.ensures ∙ (λ i. instances V r o (c.as_slice-3.ensures i) (c.as_slice-4.ensures i)) in
+    let deleted = c.in_ok-deleted.ensures ∙ (λ i. instances V r o (c.as_slice.ensures i) (c.as_slice-2.ensures.value i)) in
+    let inserted = c.in_ok-inserted.ensures ∙ (λ i. instances V r o (c.as_slice-3.ensures i) (c.as_slice-4.ensures.value i)) in
     modified_is V r o m.delete m.insert found (solutions V.order V.passes m.width m.pattern D m.active) D (applied c.in_ok-change.change d) solved few
     (c.in_ok-change.ensures.effect d ∙ (λ k. replaced V D (deleted k) (inserted k)))
 
@@ -33,8 +33,8 @@ returns-clause-within g c allowed near h =
     let V = numbers c.args.dict.now in
     let m = c.args.modify.now in
     let found = c.in-Some.found in
-    let deleted = c.in_ok-deleted.ensures ∙ (λ i. instances V c.args.request c.args.op (c.as_slice.ensures i) (c.as_slice-2.ensures i)) in
-    let inserted = c.in_ok-inserted.ensures ∙ (λ i. instances V c.args.request c.args.op (c.as_slice-3.ensures i) (c.as_slice-4.ensures i)) in
+    let deleted = c.in_ok-deleted.ensures ∙ (λ i. instances V c.args.request c.args.op (c.as_slice.ensures i) (c.as_slice-2.ensures.value i)) in
+    let inserted = c.in_ok-inserted.ensures ∙ (λ i. instances V c.args.request c.args.op (c.as_slice-3.ensures i) (c.as_slice-4.ensures.value i)) in
     let is = c.in_ok-change.ensures.change ∙ (λ k. replaced_change c.args.changes.now (deleted k) (inserted k)) in
     subst (IsWithin allowed) (sym is) (replaced_within c.args.dict.now c.args.request c.args.op m allowed near c.args.changes.now found h)
 

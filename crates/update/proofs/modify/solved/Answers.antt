@@ -12,14 +12,14 @@ use Rattle.reads.specs.Reads.{applied}
 use Rattle.solution.specs.Limits.{up_to}
 use Rattle.terms.specs.declared.term.Term.{Term}
 use Rattle.update.proofs.Effects.{unfiltered}
-use Rattle.update.proofs.Nearness.{plan_near, active_written}
+use Rattle.update.proofs.Nearness.{active_written}
 use Rattle.asking.proofs.Notes.{goes_within}
 use Rattle.update.proofs.modify.solved.Goals as goal
 
-pub returns-clause-goes : goal.returns-clause-goes
-returns-clause-goes g c =
+pub returns-clause-near : goal.returns-clause-near
+returns-clause-near g c =
     let active = option_map slot.Term c.args.modify.now.active in
-    goes_within (λ r h. plan_near c.args.modify.now r (ap (λ p. is_for_plan id_order active p r) (sym c.plan-plan.ensures) ∙ h))
+    goes_within (λ r h. ap (λ p. is_for_plan id_order active p r) (sym c.plan-plan.ensures) ∙ h)
     (c.solve_up_to.ensures.goes active (active_written c.args.modify.now.active))
 
 pub returns-clause-solved : goal.returns-clause-solved

@@ -1,5 +1,5 @@
 use Rattle.std.proofs.Common.{sym}
-use Rattle.version_overlay.specs.Spoken.{speaks}
+use Rattle.version_overlay.specs.ChangeFilter.{may_cover}
 use Rattle.validate.proofs.Along.{blocker_more, blocker_all}
 use Rattle.validate.proofs.Settled.{none_below}
 use Rattle.validate.specs.Kept.{shown}
@@ -7,7 +7,7 @@ use Rattle.validate.proofs.below.blocker.Goals as goal
 
 pub loop-request-init : goal.loop-request-init
 loop-request-init c =
-    sym (none_below c.args.kept.now.slots.items c.args.kept.now.low (speaks c.args.kept.now.spoken) c.args.kept.now.settled c.requires.holds c.args.low c.args.read.now c.requires.low)
+    sym (none_below c.args.kept.now.slots.items c.args.kept.now.low (may_cover c.args.kept.now.published) c.args.kept.now.settled c.requires.holds c.args.low c.args.read.now c.requires.low)
 
 pub loop-request-preserved : goal.loop-request-preserved
 loop-request-preserved c =

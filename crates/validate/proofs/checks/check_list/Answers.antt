@@ -3,7 +3,7 @@ use Rattle.std.proofs.lemmas.Bool.{false≢true}
 use Rattle.std.proofs.lemmas.List.{append_cancel_left}
 use Rattle.validate.specs.Kept.{shown}
 use Rattle.validate.specs.Below.{blocker, touching}
-use Rattle.version_overlay.specs.Spoken.{speaks}
+use Rattle.version_overlay.specs.ChangeFilter.{may_cover}
 use Rattle.validate.proofs.Settled.{none_below}
 use Rattle.validate.proofs.checks.check_list.Goals as goal
 
@@ -32,6 +32,6 @@ returns-then-is_empty c =
     let low = c.requires.low in
     let within = c.requires.above in
     let at : note.low ≡ c.args.i = omega (arith, above, low, within) in (
-      none_below kept.slots.items kept.low (speaks kept.spoken) kept.settled c.requires.holds c.args.i note.note.read (omega (arith, above, low)),
+      none_below kept.slots.items kept.low (may_cover kept.published) kept.settled c.requires.holds c.args.i note.note.read (omega (arith, above, low)),
       ap (λ more. touching slots note.low note.note.read ++ more) (c.is_empty.ensures.0 c.if-is_empty.true) ∙ append-nil (touching slots note.low note.note.read) ∙ ap (λ n. touching slots n note.note.read) at,
     )

@@ -2,18 +2,18 @@ use Rattle.std.proofs.Common.{refl}
 use Rattle.incarnations.specs.Slots.{Slot, given}
 use Rattle.incarnations.specs.Kept.{plain, slot_by}
 use Rattle.slots.proofs.Keeping.{view_set, kept_set, low_none, calm_open}
-use Rattle.version_overlay.specs.Spoken.{speaks}
+use Rattle.version_overlay.specs.ChangeFilter.{may_cover}
 use Rattle.slots.proofs.slots.Slots.give_up.Goals as goal
 
 pub invariant_of-self : goal.invariant_of-self
 invariant_of-self c =
-    kept_set c.self.inside.kept.slots.items c.self.inside.kept.low (speaks c.self.inside.kept.spoken) c.self.inside.kept.settled c.self.invariant c.args.self.now c.self.view_is c.args.i c.requires.still c.index_mut.result.now c.give_up.new.slot c.index_mut.ensures.value
+    kept_set c.self.inside.kept.slots.items c.self.inside.kept.low (may_cover c.self.inside.kept.published) c.self.inside.kept.settled c.self.invariant c.args.self.now c.self.view_is c.args.i c.requires.still c.index_mut.result.now c.give_up.new.slot c.index_mut.ensures.value
     (λ f (z : Slot). given z c.args.n) c.give_up.ensures.by
     (low_none c.self.inside.kept.low _ c.give_up.ensures.notes)
     (refl) (λ h. calm_open (given (slot_by plain c.index_mut.result.now) c.args.n) refl)
 
 pub returns : goal.returns
 returns c =
-    view_set c.self.inside.kept.slots.items c.self.inside.kept.low (speaks c.self.inside.kept.spoken) c.self.inside.kept.settled c.self.invariant c.args.self.now c.self.view_is c.args.i c.requires.still c.index_mut.result.now c.give_up.new.slot c.index_mut.ensures.value
+    view_set c.self.inside.kept.slots.items c.self.inside.kept.low (may_cover c.self.inside.kept.published) c.self.inside.kept.settled c.self.invariant c.args.self.now c.self.view_is c.args.i c.requires.still c.index_mut.result.now c.give_up.new.slot c.index_mut.ensures.value
     (λ f (z : Slot). given z c.args.n) c.give_up.ensures.by
     (low_none c.self.inside.kept.low _ c.give_up.ensures.notes)

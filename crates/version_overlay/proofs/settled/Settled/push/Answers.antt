@@ -1,11 +1,10 @@
 use Rattle.std.proofs.Common.{◌≡◌, sym, ap, ◌∙◌}
-use Rattle.quad_hints.specs.Seen.{may_match}
 use Rattle.reads.specs.Reads.{View, says, applied, covers}
 use Rattle.reads.proofs.Changes.{uncovered, nothing_changed}
-use Rattle.version_overlay.specs.Settled.{changed_by, may_ask}
+use Rattle.version_overlay.specs.ChangeFilter.{may_cover}
+use Rattle.version_overlay.specs.Settled.{changed_by}
 use Rattle.version_overlay.proofs.Changing.{changed-rises, changed_by-rises, some_are, pushed_is}
-use Rattle.version_overlay.proofs.Filtered.{still_asked, all_asked}
-use Rattle.version_overlay.proofs.Generations.{stopped}
+use Rattle.version_overlay.proofs.Filtered.{stopped}
 use Rattle.version_overlay.proofs.settled.Settled.push.Goals as goal
 
 pub returns-then-says_nothing-clause-ok : goal.returns-then-says_nothing-clause-ok
@@ -27,12 +26,9 @@ invariant_of-self-2 c r stops d rising =
     let levels = c.self.inside.levels.items in
     let delta = c.args.delta.now in
     let was = c.self.inside in
-    let asked = may_ask c.put_all.new.seen c.put_all_names.new.seen r in
-    let spoken = all_asked c.put_all.new.seen c.put_all_names.new.seen delta c.in_ok-put_all.ensures.added c.in_ok-put_all_names.ensures.added r in
-    let still = still_asked was.seen c.put_all.new.seen was.named c.put_all_names.new.seen c.put_all.ensures.kept c.put_all_names.ensures.kept r in
     ap (says r) (one_more c d)
-    ∙ uncovered delta (changed_by levels d) r (changed_by-rises levels d rising) (stopped (covers delta r) asked spoken stops)
-    ∙ c.self.invariant r (stopped (may_ask was.seen was.named r) asked still stops) d rising
+    ∙ uncovered delta (changed_by levels d) r (changed_by-rises levels d rising) (stopped (covers delta r) (may_cover c.put.new.self r) (c.in_ok-put.ensures.added r) stops)
+    ∙ c.self.invariant r (stopped (may_cover was.filter r) (may_cover c.put.new.self r) (c.put.ensures.kept r) stops) d rising
 
 pub returns-clause-ok : goal.returns-clause-ok
 returns-clause-ok c d = one_more c d ∙ ap (λ cs. applied c.args.delta.now (changed_by cs d)) c.self.view_is

@@ -1,3 +1,0 @@
-pub mod Filtering
-pub mod Joined
-pub mod Requests

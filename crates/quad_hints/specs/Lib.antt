@@ -1,4 +1,0 @@
-pub mod Hint
-pub mod HintList
-pub mod Hints
-pub mod Seen
