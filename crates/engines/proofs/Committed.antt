@@ -16,7 +16,9 @@ use Rattle.journal.specs.declared.fault.JournalFault.TheVariants.{OutOfMemory, B
 use Rattle.numbering.specs.Numbered.{IsNumbered}
 use Rattle.journal.specs.Journal.{IsFirstBad}
 use Rattle.replay.specs.Lines.{line_of}
-use Rattle.engines.specs.Journals.{IsJournalAt, IsFrontOf, IsReplay, IsReplayFault, IsAnswerAfter, journal_fault}
+use Rattle.command_line.specs.declared.fault.Fault.{Fault}
+use Rattle.command_line.specs.declared.fault.Fault.TheVariants as told
+use Rattle.engines.specs.Journals.{IsJournalAt, IsFrontOf, IsReplay, IsReplayFault, IsAnswerAfter, IsFaultOfLines, journal_fault}
 
 -- a book of a base and a block
 module _ (base : Base) (block : List (Request Id)) (book : Run) (terms_are : book.terms ≡ base.terms) (dataset_is : book.base ≡ base.dataset) (block_is : book.block ≡ block) where
@@ -64,3 +66,18 @@ module _ (before : Dataset Term) (requests : List (Request Term)) (base : Base) 
   bad_journal tag bytes journal tag_is bytes_are (BadEntry n) bad legal =
       (base, block, numbered, subst (λ (t : ℕ). IsFirstBad t journal n) tag_is (subst (λ (bs : List ℕ). IsFirstBad tag bs n) bytes_are (bad n refl)))
   bad_journal tag bytes journal tag_is bytes_are (Illegal n) bad legal = absurd (legal n refl)
+
+  -- the fault of a journal that was read and is not lawful
+  pub bad_lines : (journal : List ℕ) (lines : List Line) → journal ≡ journal_text base.tag lines → (fault : Fault) → IsFaultOfLines base block lines fault
+      → IsReplayFault before requests journal fault
+  bad_lines journal lines is (told.Illegal n) stops = (base, block, numbered, (lines, is, stops))
+  bad_lines journal lines is told.Memory stops = tt
+  bad_lines journal lines is (told.Line l) stops = absurd stops
+  bad_lines journal lines is (told.BadLine n) stops = absurd stops
+  bad_lines journal lines is told.BaseTooLong stops = absurd stops
+  bad_lines journal lines is told.BlockTooLong stops = absurd stops
+  bad_lines journal lines is told.TooManyRequests stops = absurd stops
+  bad_lines journal lines is told.BadUtf8 stops = absurd stops
+  bad_lines journal lines is (told.BadEntry n) stops = absurd stops
+  bad_lines journal lines is (told.CannotRead f) stops = absurd stops
+  bad_lines journal lines is (told.CannotWrite f) stops = absurd stops
