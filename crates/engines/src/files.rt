@@ -1,9 +1,11 @@
 //! Files that are opened or made when they are first used.
-ghost use Rattle.std.specs.Prelude.{◌≡◌, None, OnOk, OnErr, IsSome};
+ghost use Rattle.std.specs.Prelude.{◌≡◌, None, IfOk, OnOk, OnErr, IsSome};
 ghost use Rattle.std.specs.Io.{ReadsAtMost, WritesAtMost};
 ghost use Rattle.std.specs.Io.KnownBytes.{Keeps, ReadConsumes, WriteAppends};
 
-use std::io::{Read, Write};
+use std::alloc::{AllocError, Global};
+use std::fs::{OpenFile, Permissions};
+use std::io::{ErrorKind, Read, Write};
 use std::marker::Model;
 use std::rt::Files;
 use std::{fs, io};
@@ -70,12 +72,19 @@ impl<R: Files> Read for InFile<'_, R> {
     }
 }
 
-/// A file that is made at the first write or flush. Contracts see its path, and the file once it is
-/// made.
-#[derive(Drop)]
+/// What a file is called until it has its own name.
+const BESIDE: &str = ".sparql-block-new";
+
+/// A file that is made at the first write or flush. A regular file, or one that is not there yet, is
+/// replaced whole or not at all: it is written beside itself, gets its name at the first flush, and
+/// is removed where that doesn't come. Anything else, as a device, a pipe or a link, is written as it
+/// is. Contracts see its path, and the file once it is made.
 pub struct OutFile<'a, R: Files> {
     files: &'a R,
     path: &'a str,
+    beside: String,
+    // Whether the file that is made has the name beside.
+    is_beside: bool,
     file: Option<R::File>,
 }
 
@@ -87,15 +96,58 @@ impl<'a, R: Files> Model for OutFile<'a, R> {
     ghost view = { λ f. record { path = f.path.now; file = f.file } };
 }
 
+/// The text of a path beside another.
+fn path_beside(alloc: Global, path: &str) -> Result<String, AllocError> {
+    let mut beside = String::from_str(alloc, path)?;
+    beside.push_str(BESIDE)?;
+    Ok(beside)
+}
+
+/// Whether a file can't be made under the longer name, and maybe under the shorter one.
+fn has_no_room_beside(kind: ErrorKind) -> bool {
+    matches!(
+        kind,
+        ErrorKind::PermissionDenied | ErrorKind::InvalidFilename
+    )
+}
+
 impl<'a, R: Files> OutFile<'a, R> {
-    /// The file of this path, not made yet.
-    pub fn new(files: &'a R, path: &'a str) -> OutFile<'a, R>
-        ensures { result ≡ record { path = path.now; file = None } }
+    /// The file of this path, not made yet. An `Err` comes where a growth was refused.
+    pub fn new(alloc: Global, files: &'a R, path: &'a str) -> Result<OutFile<'a, R>, AllocError>
+        ensures { IfOk result (λ file. file ≡ record { path = path.now; file = None }) }
     {
-        OutFile {
+        Ok(OutFile {
             files,
             path,
+            beside: path_beside(alloc, path)?,
+            is_beside: false,
             file: None,
+        })
+    }
+
+    /// Makes a file beside this one, which anybody may open who may open this one.
+    fn create_beside(&self, permissions: Option<Permissions>) -> io::Result<R::File> {
+        let file = fs::create(self.files, self.beside.as_str())?;
+        if let Some(permissions) = permissions {
+            file.set_permissions(permissions)?;
+        }
+        Ok(file)
+    }
+
+    /// Makes the file under its own name or beside it, and says whether it is beside it.
+    fn create(&self) -> io::Result<(R::File, bool)> {
+        let permissions = match fs::symlink_metadata(self.files, self.path) {
+            Ok(found) if found.is_file() => Some(found.permissions()),
+            Err(error) if error.kind() == ErrorKind::NotFound => None,
+            _ => return Ok((fs::create(self.files, self.path)?, false)),
+        };
+        match self.create_beside(permissions) {
+            Ok(file) => Ok((file, true)),
+            // Nothing can be made in the folder, or not with a name so long.
+            Err(error) if has_no_room_beside(error.kind()) => {
+                Ok((fs::create(self.files, self.path)?, false))
+            }
+            Err(error) => Err(error),
         }
     }
 
@@ -107,7 +159,20 @@ impl<'a, R: Files> OutFile<'a, R> {
         ensures err { OnErr result (self.new ≡ self.old) }
     {
         if self.file.is_none() {
-            self.file = Some(fs::create(self.files, self.path)?);
+            let (file, is_beside) = self.create()?;
+            self.file = Some(file);
+            self.is_beside = is_beside;
+        }
+        Ok(())
+    }
+
+    /// Gives a file that is beside this one its name.
+    fn put_in_place(&mut self) -> io::Result<()>
+        ensures { self.new ≡ self.old }
+    {
+        if self.is_beside {
+            fs::rename(self.files, self.beside.as_str(), self.path)?;
+            self.is_beside = false;
         }
         Ok(())
     }
@@ -140,8 +205,25 @@ impl<R: Files> Write for OutFile<'_, R> {
     {
         self.made()?; // also where no byte was written
         match &mut self.file {
-            Some(file) => file.flush(),
+            Some(file) => file.flush()?,
             None => unreachable!(),
+        }
+        self.put_in_place()
+    }
+}
+
+impl<R: Files> Drop for OutFile<'_, R> {
+    fn drop(self) {
+        let OutFile {
+            files,
+            path: _,
+            beside,
+            is_beside,
+            file,
+        } = self;
+        drop(file);
+        if is_beside {
+            let _ = fs::remove_file(files, beside.as_str());
         }
     }
 }

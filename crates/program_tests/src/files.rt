@@ -2,14 +2,16 @@
 use cli::{InFile, OutFile, serial_engine};
 use devices::Watched;
 use std::alloc::Global;
+use std::fs::Permissions;
 use std::io::{Read, Write};
+use std::os::unix::fs::{PermissionsExt, symlink};
 use std::rt::Files;
 use std::test::Fail;
 use std::{fs, io};
 
 /// Writes a text byte by byte into the file of this path.
-fn write_to<R: Files>(rt: &R, path: &str, text: &str) -> io::Result<()> {
-    let mut file = OutFile::new(rt, path);
+fn write_to<R: Files + AllocGlobal>(rt: &R, path: &str, text: &str) -> io::Result<()> {
+    let mut file = OutFile::new(rt.alloc(), rt, path)?;
     for byte in text.bytes() {
         file.write_all(&[byte])?;
     }
@@ -43,13 +45,61 @@ fn what_is_written_is_read(rt: HostRuntime) -> Result<(), Fail> {
 
 // A file that was not opened or made at the first call is tried again at the next.
 #[test]
-fn files_that_are_not_there(rt: HostRuntime) {
+fn files_that_are_not_there(rt: HostRuntime) -> Result<(), Fail> {
     let mut file = InFile::new(&rt, "nothing.nq");
     assert!(rt; file.read(&mut [0u8; 2]).is_err());
     assert!(rt; file.read(&mut [0u8; 2]).is_err());
-    let mut file = OutFile::new(&rt, "nothing/out.nq");
+    let mut file = OutFile::new(rt.alloc(), &rt, "nothing/out.nq")?;
     assert!(rt; file.write(b"a").is_err());
     assert!(rt; file.flush().is_err());
+    Ok(())
+}
+
+/// Whether the file of this path has this text.
+fn has_text<R: Files + AllocGlobal>(rt: &R, path: &str, text: &str) -> io::Result<bool> {
+    let bytes = fs::read_to_string(rt, path)?;
+    Ok(bytes.as_str() == text)
+}
+
+// What is there stays until the new file is flushed, and then the new one has its permissions.
+#[test]
+fn a_file_is_replaced_whole(rt: HostRuntime) -> Result<(), Fail> {
+    fs::write(&rt, "old.nq", "old")?;
+    fs::set_permissions(&rt, "old.nq", Permissions::from_mode(0o600))?;
+    let mut file = OutFile::new(rt.alloc(), &rt, "old.nq")?;
+    file.write_all(b"new")?;
+    assert!(rt; has_text(&rt, "old.nq", "old")?);
+    file.flush()?;
+    assert!(rt; has_text(&rt, "old.nq", "new")?);
+    let mode = fs::metadata(&rt, "old.nq")?.permissions().mode();
+    assert!(rt; mode % 512 == 0o600);
+    Ok(())
+}
+
+// A file that is not flushed leaves nothing, and what was there as it was.
+#[test]
+fn a_file_is_not_replaced_in_part(rt: HostRuntime) -> Result<(), Fail> {
+    fs::write(&rt, "old.nq", "old")?;
+    for path in ["old.nq", "none.nq"] {
+        let mut file = OutFile::new(rt.alloc(), &rt, path)?;
+        file.write_all(b"new")?;
+    }
+    assert!(rt; has_text(&rt, "old.nq", "old")?);
+    for path in ["none.nq", "old.nq.sparql-block-new", "none.nq.sparql-block-new"] {
+        assert!(rt; fs::metadata(&rt, path).is_err(), "{path}");
+    }
+    Ok(())
+}
+
+// What a link leads to is written, and the link stays.
+#[test]
+fn a_link_is_written_through(rt: HostRuntime) -> Result<(), Fail> {
+    fs::write(&rt, "old.nq", "old")?;
+    symlink(&rt, "old.nq", "link.nq")?;
+    write_to(&rt, "link.nq", "new")?;
+    assert!(rt; has_text(&rt, "old.nq", "new")?);
+    assert!(rt; fs::symlink_metadata(&rt, "link.nq")?.file_type().is_symlink());
+    Ok(())
 }
 
 /// What is told of files of these paths for the base, the block and the dataset: a fault, or
@@ -57,7 +107,7 @@ fn files_that_are_not_there(rt: HostRuntime) {
 fn told_of<R: Files + AllocGlobal>(rt: &R, paths: (&str, &str, &str)) -> io::Result<String> {
     let mut base = Watched::new(InFile::new(rt, paths.0));
     let mut block = Watched::new(InFile::new(rt, paths.1));
-    let mut dataset = Watched::new(OutFile::new(rt, paths.2));
+    let mut dataset = Watched::new(OutFile::new(rt.alloc(), rt, paths.2)?);
     let mut replies = Watched::new(Vec::new(rt.alloc()));
     let outcome = serial_engine(
         rt.alloc(),

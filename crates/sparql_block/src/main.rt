@@ -1,7 +1,7 @@
 //! The program `sparql-block`: the command line, the files, and what is told.
 #![tactic(auto)]
 
-ghost use Rattle.std.specs.Prelude.{◌≤◌};
+ghost use Rattle.std.specs.Prelude.{◌≡◌, ◌≤◌, IfOk};
 ghost use Rattle.command_line.specs.CommandLine.{HasWorkers};
 
 use cli::{
@@ -31,6 +31,19 @@ fn words(rt: &(impl Env + AllocGlobal)) -> Result<Vec<String>, LineFault> {
     }
 }
 
+/// A file that is made when it is first written.
+fn out_file<'a, R: Files + AllocGlobal>(
+    rt: &'a R,
+    path: &'a str,
+) -> Result<Watched<OutFile<'a, R>>, Fault>
+    ensures { IfOk result (λ file. file.failures ≡ 0) }
+{
+    match OutFile::new(rt.alloc(), rt, path) {
+        Ok(file) => Ok(Watched::new(file)),
+        Err(_) => Err(Fault::Memory),
+    }
+}
+
 /// Runs a block on a base: the dataset goes to a file, the reply lines to standard output. Workers
 /// are from 1 to 64.
 fn run<R: Threads + Wait + Sync + Files + Print + AllocGlobal>(
@@ -45,7 +58,7 @@ fn run<R: Threads + Wait + Sync + Files + Print + AllocGlobal>(
 {
     let mut base = Watched::new(InFile::new(rt, base));
     let mut block = Watched::new(InFile::new(rt, block));
-    let mut dataset = Watched::new(OutFile::new(rt, out));
+    let mut dataset = out_file(rt, out)?;
     let mut replies = Watched::new(io::writer(rt));
     run_engine(
         rt,
@@ -72,9 +85,9 @@ fn run_with_journal<R: Threads + Wait + Sync + Files + Print + AllocGlobal>(
 {
     let mut base = Watched::new(InFile::new(rt, base));
     let mut block = Watched::new(InFile::new(rt, block));
-    let mut dataset = Watched::new(OutFile::new(rt, out));
+    let mut dataset = out_file(rt, out)?;
     let mut replies = Watched::new(io::writer(rt));
-    let mut journal = Watched::new(OutFile::new(rt, journal));
+    let mut journal = out_file(rt, journal)?;
     run_with_journal_engine(
         rt,
         rt.alloc(),
@@ -99,7 +112,7 @@ fn replay<R: Files + Print + AllocGlobal>(
     let mut base = Watched::new(InFile::new(rt, base));
     let mut block = Watched::new(InFile::new(rt, block));
     let mut journal = Watched::new(InFile::new(rt, journal));
-    let mut dataset = Watched::new(OutFile::new(rt, out));
+    let mut dataset = out_file(rt, out)?;
     let mut replies = Watched::new(io::writer(rt));
     replay_engine(
         rt.alloc(),
@@ -121,7 +134,7 @@ fn serial<R: Files + Print + AllocGlobal>(
 ) -> Result<(), Fault> {
     let mut base = Watched::new(InFile::new(rt, base));
     let mut block = Watched::new(InFile::new(rt, block));
-    let mut dataset = Watched::new(OutFile::new(rt, out));
+    let mut dataset = out_file(rt, out)?;
     let mut replies = Watched::new(io::writer(rt));
     serial_engine(
         rt.alloc(),
