@@ -56,19 +56,6 @@ halves_are n cs first rest front back earlier later both a b c v =
     c v ∙ b (applied earlier v) ∙ ap (changed_by rest) (a v) ∙ sym (changed_by-append first rest v)
     ∙ (λ i. changed_by (front i ++ back i) v) ∙ ap (λ xs. changed_by xs v) (take-append-drop n cs)
 
--- the changes from a place on, as one in that place
-joined_from : (k : ℕ) (cs : List Delta) (both : Delta) → k < length cs → ((v : View) → applied both v ≡ changed_by (drop k cs) v) → (v : View) → changed_by (set (take (suc k) cs) k both) v ≡ changed_by cs v
-unfolding changed_by
-joined_from k [] both lt same v = absurd (omega (arith, lt))
-joined_from zero (x ∷ cs) both lt same v = same v
-joined_from (suc k) (x ∷ cs) both lt same v = joined_from k cs both (omega (arith, lt)) same (applied x v)
-
--- where the others were cut off
-pub joined_behind : (k : ℕ) (cs cut : List Delta) (both : Delta) → k < length cs → cut ≡ take (k + 1) cs → ((v : View) → applied both v ≡ changed_by (drop k cs) v) → (v : View) → changed_by (set cut k both) v ≡ changed_by cs v
-joined_behind k cs cut both lt is same v =
-    let next : k + 1 ≡ suc k = omega arith in
-    ap (λ xs. changed_by (set xs k both) v) (is ∙ ap (λ n. take n cs) next) ∙ joined_from k cs both lt same v
-
 pub changed_by-nothing : (v : View) → changed_by [] v ≡ v
 unfolding changed_by
 changed_by-nothing v = refl

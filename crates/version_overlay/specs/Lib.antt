@@ -1,4 +1,5 @@
 pub mod ChangeFilter
+pub mod Joined
 pub mod LeanNote
 pub mod Seen
 pub mod Settled

@@ -1,5 +1,6 @@
 -- Reads with their answers, which are kept or found again.
-use Rattle.std.specs.Prelude.{◌≡◌, List, [], Option, Some, None}
+use Rattle.std.specs.Prelude.{◌≡◌, ◌≤◌, List, [], Option, Some, None, length}
+use Rattle.datasets.specs.Dataset.{Quads, Is, Names}
 use Rattle.reads.specs.Reads.{View, Delta, Read, Answer, says}
 use Rattle.version_overlay.specs.Settled.{changed_by}
 
@@ -18,3 +19,9 @@ abbrev pub CanForget : Read → View → Option (List Delta) → Option Answer �
 CanForget read base (Some changes) (Some answer) = answer ≡ says read (changed_by changes base)
 CanForget read base (Some changes) None = Unit {0}
 CanForget read base None answer = Unit {0}
+
+-- an answer of 64 quads or names, or more
+abbrev pub IsLong : Answer → Type 0
+IsLong (Quads quads) = 64 ≤ length quads
+IsLong (Is so) = ⊥
+IsLong (Names names) = 64 ≤ length names

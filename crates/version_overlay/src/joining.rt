@@ -1,7 +1,8 @@
 //! How levels become one.
-ghost use Rattle.std.specs.Prelude.{◌≡◌, ◌≤◌, ◌+◌, ℕ, length, vec_len, IfOk, IfSome, OnOk};
+ghost use Rattle.std.specs.Prelude.{◌≡◌, ◌≤◌, ◌<◌, ◌+◌, ◌∷◌, ◌++◌, length, take, drop, slice_range, vec_len, IfOk, IfSome, OnOk, OnErr};
 ghost use Rattle.std.specs.Thread.{IsSync};
 ghost use Rattle.reads.specs.Reads.{View as Dataset, applied};
+ghost use Rattle.version_overlay.specs.Joined.{Joined, size_of, size_of_all, most_joined};
 ghost use Rattle.version_overlay.specs.Settled.{changed_by};
 
 use crate::level::Level;
@@ -16,6 +17,10 @@ const ALIKE: usize = 4;
 
 /// The same where they are put in no order.
 const ALIKE_UNORDERED: usize = 2;
+
+/// How many quads and names are joined at most in one go: who waits for the changes does not wait
+/// the longer, the more of them there are.
+pub(crate) const MOST: usize = 131_072;
 
 /// Fewer levels are joined by one thread.
 const WORTH_THREADS: usize = 64;
@@ -67,6 +72,17 @@ pub(crate) fn all_joined_by<T: Threads + Sync>(
     earlier?.followed_by(alloc, &later?)
 }
 
+/// Neighbours that are to become one.
+#[derive(Clone, Copy, Drop)]
+struct Run {
+    /// The place of the first.
+    first: usize,
+    /// The place behind the last.
+    past: usize,
+    /// How many quads and names may be joined beside theirs.
+    left: usize,
+}
+
 // How many quads and names a level's change speaks of.
 fn size(level: &Level) -> usize {
     let change = level.change();
@@ -80,71 +96,129 @@ fn digits(size: usize) -> u32 {
     (usize::BITS - size.leading_zeros()).div_ceil(2)
 }
 
-// How many of the last levels have lengths of no more digits than these.
-fn count_within(levels: &[Level], most: u32) -> usize
-    ensures { result ≤ length levels.now }
+// What is left of a number of quads and names beside those of a level, if it has no more.
+fn left_beside(level: &Level, left: usize) -> Option<usize>
+    ensures { IfSome result (λ rest. size_of level.now + rest ≡ left) }
 {
-    let mut count = 0;
-    while count < levels.len() && digits(size(&levels[levels.len() - 1 - count])) <= most {
-        count += 1;
+    let change = level.change();
+    let left = left.checked_sub(change.present().len())?;
+    let left = left.checked_sub(change.absent().len())?;
+    let left = left.checked_sub(change.there().len())?;
+    left.checked_sub(change.gone().len())
+}
+
+// The same, if the length of the level has no more digits than these.
+fn left_if_alike(level: &Level, most: u32, left: usize) -> Option<usize>
+    ensures { IfSome result (λ rest. size_of level.now + rest ≡ left) }
+{
+    if most < digits(size(level)) {
+        return None;
     }
-    count
+    left_beside(level, left)
 }
 
-// How many of the last levels are to become one, if they are so many that they are.
-fn alike_at_end(levels: &[Level], orders: &[Arrangement]) -> Option<usize>
-    ensures { IfSome result (λ count. (2 ≤ count) × (count ≤ length levels.now)) }
+// The level before this place, and those before it whose lengths have no more digits, as far as all
+// may be joined.
+#[tactic(auto, using(crate::proofs::Neighbours::none_before, crate::proofs::Neighbours::more_before))]
+fn run_before(levels: &[Level], past: usize, room: usize) -> Run
+    requires some { 1 ≤ past }
+    requires within { past ≤ length levels.now }
+    ensures past { result.past ≡ past }
+    ensures first { result.first ≤ past }
+    ensures left { size_of_all (slice_range levels.now result.first result.past) + result.left
+        ≡ room }
 {
-    let many = if orders.is_empty() {
-        ALIKE_UNORDERED
-    } else {
-        ALIKE
-    };
-    let count = match levels {
-        [.., last] => count_within(levels, digits(size(last))),
-        [] => 0,
-    };
-    if count >= many { Some(count) } else { None }
+    let most = digits(size(&levels[past - 1]));
+    let mut first = past;
+    let mut left = room;
+    while 0 < first {
+        let Some(rest) = left_if_alike(&levels[first - 1], most, left) else {
+            break;
+        };
+        left = rest;
+        first -= 1;
+    }
+    Run { first, past, left }
 }
 
-// So many of the last levels become one. After want of memory they are as before.
-fn join_last(alloc: Global, levels: &mut Vec<Level>, count: usize) -> Result<(), AllocError>
-    requires some { 1 ≤ count }
-    requires within { count ≤ vec_len levels.old }
+// The last neighbours that are alike in length, and so many that they are to become one.
+fn alike_run(levels: &[Level], many: usize, left: usize) -> Option<Run>
+    requires { 2 ≤ many }
+    ensures { IfSome result (λ run. (run.first + 2 ≤ run.past) × (run.past ≤ length levels.now)
+        × (size_of_all (slice_range levels.now run.first run.past) + run.left ≡ left)) }
+{
+    let mut past = levels.len();
+    while 0 < past {
+        let run = run_before(levels, past, left);
+        if many <= past - run.first {
+            return Some(run);
+        }
+        past -= 1;
+    }
+    None
+}
+
+// One level in place of those from the first place on and before the other.
+fn replace(levels: &mut Vec<Level>, first: usize, past: usize, one: Level)
+    requires some { first < past }
+    requires within { past ≤ vec_len levels.old }
+    ensures items { levels.new.items
+        ≡ take first levels.old.items ++ one ∷ drop past levels.old.items }
+    ensures len { vec_len levels.new + past ≡ vec_len levels.old + first + 1 }
+{
+    let behind = levels.len() - past;
+    levels.rotate_left(past);
+    levels.truncate(behind + first + 1);
+    levels[behind + first] = one;
+    levels.rotate_left(behind);
+}
+
+// Neighbours become one level, which is put in order. After want of memory they are as before.
+fn join_run(
+    alloc: Global,
+    levels: &mut Vec<Level>,
+    first: usize,
+    past: usize,
+    orders: &[Arrangement],
+) -> Result<(), AllocError>
+    requires some { first < past }
+    requires within { past ≤ vec_len levels.old }
     ensures same { (d : Dataset) → changed_by levels.new.items d ≡ changed_by levels.old.items d }
-    ensures fewer { OnOk result (vec_len levels.new + count ≡ vec_len levels.old + 1) }
+    ensures joined { OnOk result (Joined levels.old.items
+        (size_of_all (slice_range levels.old.items first past)) levels.new.items) }
+    ensures fewer { OnOk result (vec_len levels.new + past ≡ vec_len levels.old + first + 1) }
+    ensures err { OnErr result (levels.new.items ≡ levels.old.items) }
 {
-    let first = levels.len() - count;
-    let change = all_joined(alloc, &levels[first..])?;
-    levels.truncate(first + 1);
-    levels[first] = Level::new(alloc, change);
+    let change = all_joined(alloc, &levels[first..past])?;
+    let mut one = Level::new(alloc, change);
+    one.put_in_order(alloc, orders);
+    replace(levels, first, past, one);
     Ok(())
 }
 
-// The last levels become one while they are alike in length, and there is memory.
-fn join_alike(alloc: Global, levels: &mut Vec<Level>, orders: &[Arrangement])
-    ensures { (d : Dataset) → changed_by levels.new.items d ≡ changed_by levels.old.items d }
+// How many levels that are alike in length become one.
+fn many_in(orders: &[Arrangement]) -> usize
+    ensures { 2 ≤ result }
 {
-    while let Some(count) = alike_at_end(levels, orders) {
-        if join_last(alloc, levels, count).is_err() {
-            break;
-        }
+    if orders.is_empty() {
+        ALIKE_UNORDERED
+    } else {
+        ALIKE
     }
 }
 
-/// The levels behind the first so many become one, and then the last ones while they are alike in
-/// length, as far as there is memory.
-pub(crate) fn join_behind(
-    alloc: Global,
-    levels: &mut Vec<Level>,
-    ready: usize,
-    orders: &[Arrangement],
-)
-    ensures { (d : Dataset) → changed_by levels.new.items d ≡ changed_by levels.old.items d }
+/// Neighbours that are alike in length become one level, which is put in order, as far as there is
+/// memory, and so many quads and names are joined at most. The rest is left to the next time.
+pub(crate) fn join_alike(alloc: Global, levels: &mut Vec<Level>, orders: &[Arrangement])
+    ensures same { (d : Dataset) → changed_by levels.new.items d ≡ changed_by levels.old.items d }
+    ensures joined { Joined levels.old.items most_joined levels.new.items }
 {
-    let behind = levels.len().saturating_sub(ready);
-    if 1 < behind && join_last(alloc, levels, behind).is_err() {
-        return;
+    let many = many_in(orders);
+    let mut left = MOST;
+    while let Some(run) = alike_run(levels, many, left) {
+        if join_run(alloc, levels, run.first, run.past, orders).is_err() {
+            break;
+        }
+        left = run.left;
     }
-    join_alike(alloc, levels, orders);
 }

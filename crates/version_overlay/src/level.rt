@@ -87,6 +87,11 @@ impl Level {
         }
     }
 
+    /// Whether the present quads were put in order.
+    pub fn is_ordered(&self) -> bool {
+        self.is_ordered
+    }
+
     /// The change.
     pub fn change(&self) -> &Delta
         ensures { result.now ≡ self.now }

@@ -1,19 +1,21 @@
 //! The changes of the requests that are committed, which will not change again.
 //!
 //! They lie in levels, the oldest first. Nothing is done with those that came last until a read may
-//! find something in them: then they become one, and so do levels that are alike in length, and
-//! each is put in order. So a read looks at few of them, what a change speaks of is copied about as
-//! often as there are levels, and where no read finds anything they are joined at the end, by
-//! several threads. A filter tells what a read can't find.
+//! find something in them: then levels that are alike in length become one, and each is put in
+//! order. So a read looks at few of them, what a change speaks of is copied about as often as there
+//! are levels, and where no read finds anything they are joined at the end, by several threads. A
+//! filter tells what a read can't find. What is joined in one go is bounded, and the rest is left to
+//! later reads, as others wait meanwhile for the book that keeps the changes.
 ghost use Rattle.std.specs.Prelude.{◌≡◌, true, false, [], IfOk, OnOk, OnErr};
 ghost use Rattle.datasets.specs.Id.{id_order};
 ghost use Rattle.change_laws.specs.Laws.{IsRising};
 ghost use Rattle.reads.specs.Reads.{View as Dataset, says, applied, no_change};
+ghost use Rattle.version_overlay.specs.Joined.{Joined, most_joined};
 ghost use Rattle.version_overlay.specs.Settled.{changed_by, part_or};
 
 use crate::along::push_covering;
 use crate::change_filter::ChangeFilter;
-use crate::joining::{all_joined, all_joined_by, join_behind};
+use crate::joining::{MOST, all_joined, all_joined_by, join_alike};
 use crate::level::Level;
 use datasets::{Id, Read};
 use delta::Delta;
@@ -29,8 +31,6 @@ pub struct Settled {
     orders: Vec<Arrangement>,
     filter: ChangeFilter,
     levels: Vec<Level>,
-    // How many levels there were when they were put in order last.
-    ready: usize,
 }
 
 impl Model for Settled {
@@ -56,7 +56,6 @@ impl Settled {
             orders,
             filter: ChangeFilter::new(alloc),
             levels: Vec::new(alloc),
-            ready: 0,
         })
     }
 
@@ -78,14 +77,15 @@ impl Settled {
     }
 
     /// The changes are joined where they are alike in length, and put in order, as far as there is
-    /// memory, so that a read that they may have changed is answered sooner. They make of a dataset
-    /// what they made.
+    /// memory, so that a read that they may have changed is answered sooner. Those that are joined
+    /// have 131,072 quads and names at most, each counted as often as it is joined. They make of a
+    /// dataset what they made.
     pub fn put_in_order(&mut self, alloc: Global)
-        ensures { (d : Dataset) → changed_by self.new d ≡ changed_by self.old d }
+        ensures same { (d : Dataset) → changed_by self.new d ≡ changed_by self.old d }
+        ensures joined { Joined self.old most_joined self.new }
     {
-        join_behind(alloc, &mut self.levels, self.ready, &self.orders);
-        self.ready = self.levels.len();
-        put_all_in_order(alloc, &mut self.levels, &self.orders);
+        join_alike(alloc, &mut self.levels, &self.orders);
+        put_some_in_order(alloc, &mut self.levels, &self.orders);
     }
 
     /// Whether the changes may have changed what the read says.
@@ -189,11 +189,26 @@ fn says_nothing(delta: &Delta) -> bool
         && delta.gone().is_empty()
 }
 
-// The levels are put in these orders, as far as there is memory.
-fn put_all_in_order(alloc: Global, levels: &mut Vec<Level>, orders: &[Arrangement])
+// A level is put in these orders if so many quads may be, or it is longer than each that is joined:
+// how many may be after it.
+fn put_one_in_order(alloc: Global, level: &mut Level, orders: &[Arrangement], left: usize) -> usize
+    ensures { level.new ≡ level.old }
+{
+    let count = level.change().present().len();
+    if level.is_ordered() || (left < count && count <= MOST) {
+        return left;
+    }
+    level.put_in_order(alloc, orders);
+    left.saturating_sub(count)
+}
+
+// The levels are put in these orders, the oldest first, as far as there is memory, and about as many
+// quads as are joined. A long change of one request is put in order at once.
+fn put_some_in_order(alloc: Global, levels: &mut Vec<Level>, orders: &[Arrangement])
     ensures { levels.new.items ≡ levels.old.items }
 {
+    let mut left = MOST;
     for level in levels.iter_mut() {
-        level.put_in_order(alloc, orders);
+        left = put_one_in_order(alloc, level, orders, left);
     }
 }

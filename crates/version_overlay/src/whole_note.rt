@@ -1,8 +1,8 @@
 //! Reads with their answers, where a long answer needn't be kept: it is found again in the base,
 //! with the changes that made it.
-ghost use Rattle.std.specs.Prelude.{◌≡◌, IfOk};
-ghost use Rattle.reads.specs.Reads.{says};
-ghost use Rattle.version_overlay.specs.WholeNote.{listed as the_listed};
+ghost use Rattle.std.specs.Prelude.{◌≡◌, ◌↔◌, IsTrue, None, IfOk};
+ghost use Rattle.reads.specs.Reads.{says, told_quads};
+ghost use Rattle.version_overlay.specs.WholeNote.{listed as the_listed, IsLong};
 ghost use Rattle.version_overlay.specs.Settled.{changed_by};
 
 use crate::along::answer_after;
@@ -39,17 +39,27 @@ impl<'a> Model for WholeNote<'a> {
     ghost invariant = { λ n. CanForget n.read n.base.now n.changes n.answer };
 }
 
-/// Whether an answer is so long that it isn't worth its memory.
-pub fn is_long(answer: &Answered) -> bool {
-    let quads = match answer.quads() {
-        Some(quads) => quads.len(),
-        None => 0,
-    };
-    let names = match answer.names() {
-        Some(names) => names.len(),
-        None => 0,
-    };
-    WORTH_FORGETTING <= quads || WORTH_FORGETTING <= names
+/// Whether an answer is so long that it isn't worth its memory: whether it has 64 quads or names.
+#[tactic(auto, using(crate::proofs::Lengths::quads_long))]
+pub fn is_long(answer: &Answered) -> bool
+    ensures { IsTrue result ↔ IsLong answer.now }
+{
+    match answer.quads() {
+        Some(quads) => WORTH_FORGETTING <= quads.len(),
+        None => has_long_names(answer),
+    }
+}
+
+// The same, where the answer isn't to a scan.
+#[tactic(auto, using(crate::proofs::Lengths::names_long, crate::proofs::Lengths::none_long))]
+fn has_long_names(answer: &Answered) -> bool
+    requires { told_quads answer.now ≡ None }
+    ensures { IsTrue result ↔ IsLong answer.now }
+{
+    match answer.names() {
+        Some(names) => WORTH_FORGETTING <= names.len(),
+        None => false,
+    }
 }
 
 impl<'a> WholeNote<'a> {
