@@ -7,7 +7,7 @@ ghost use Rattle.incarnations.specs.Slots.{Noted as Described, transcript_of};
 ghost use Rattle.validate.specs.Below.{view_at, slot_at};
 ghost use Rattle.validate.specs.Verdicts.{NoteVerdict};
 ghost use Rattle.slots.specs.Slots.{replies_to, status_of};
-ghost use Rattle.block_machine.specs.Scans.{questions_of};
+ghost use Rattle.block_machine.specs.Scans.{HasScans};
 ghost use Rattle.block_machine.specs.Waiting.{has_work, IsLeastWork};
 ghost use Rattle.block_machine.specs.Machine.{fresh, is_current, can_commit, CheckVerdict, NextNamesAnswer, NoteReply, verdict_reply, wanted_reply, HasNext, IsReady, IsAllowed, after};
 
@@ -165,8 +165,8 @@ impl<'a> Machine<'a> {
         self.slots.replies(alloc, self.front)
     }
 
-    /// One event of a worker, with what its read says of the base. A check compares touching lists.
-    /// It takes memory before it changes anything.
+    /// One event of a worker, with what its read says of the base; what comes with another event is
+    /// not looked at. A check compares touching lists. It takes memory before it changes anything.
     pub fn step(
         &mut self,
         alloc: Global,
@@ -176,7 +176,7 @@ impl<'a> Machine<'a> {
         scans: &[Scanned<'_>],
     ) -> Result<Reply, AllocError>
         requires ready { IsReady base.now self.old }
-        requires scans { scans.now ≡ questions_of base.now event.now }
+        requires scans { HasScans base.now event.now scans.now }
         ensures told { IfOk result (IsTold event.now) }
         ensures allowed { IfOk result (λ reply. IsAllowed base.now self.old worker event.now reply) }
         ensures changed { IfOk result (λ reply. self.new
