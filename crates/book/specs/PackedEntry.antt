@@ -28,6 +28,15 @@ entry_of (form.Passed worker request incarnation) = record { worker = worker; ke
 entry_of (form.Committed worker request) = record { worker = worker; kept = Other (Commit request) told.Committed }
 entry_of (form.Whole entry) = entry.value
 
+-- the request that an entry in little memory is of, and its incarnation, or 0 where there is none
+abbrev pub place_of : Form → ℕ × ℕ
+place_of (form.Presence worker request incarnation quad there) = (request, incarnation)
+place_of (form.Taken worker request incarnation) = (request, incarnation)
+place_of (form.Begun worker request incarnation) = (request, incarnation)
+place_of (form.Passed worker request incarnation) = (request, incarnation)
+place_of (form.Committed worker request) = (request, 0)
+place_of (form.Whole entry) = (0, 0)
+
 -- what is shown of an entry
 abbrev pub kept_shown : Shown → Kept
 kept_shown (shown.Answered request incarnation read count) = Answered request incarnation read count

@@ -7,12 +7,13 @@ ghost use Rattle.incarnations.specs.Slots.{transcript_of};
 ghost use Rattle.validate.specs.Below.{slot_at, view_at};
 ghost use Rattle.slots.specs.Slots.{status_of};
 ghost use Rattle.block_machine.specs.Machine.{IsAllowed, wanted_reply, is_current};
-ghost use Rattle.block_machine.specs.Scans.{questions_of};
+ghost use Rattle.block_machine.specs.Scans.{HasScans};
 ghost use Rattle.block_machine.specs.Serial.{IsHistory};
 ghost use Rattle.block_machine.specs.Waiting.{has_work, IsLeastWork};
 ghost use Rattle.book.specs.JournalEntry.{journal_entry_of};
 ghost use Rattle.book.specs.Run.{state_of, setting_of, front_run, kept, IsSoundEvent};
 
+use crate::journal::Journal;
 use crate::journal_entry::JournalEntry;
 use crate::packed_entry::{PackedEntry, room};
 use block_machine::laws::{front_is_serial, front_is_within, history_goes_on, ready_after};
@@ -35,7 +36,7 @@ pub struct Book<'a> {
     base: &'a IndexedView,
     block: &'a [Request<Id>],
     machine: Machine<'a>,
-    journal: Vec<PackedEntry>,
+    journal: Journal,
     // Room for an entry that is kept whole.
     spare: Option<Box<JournalEntry>>,
 }
@@ -50,9 +51,9 @@ impl<'a> Model for Book<'a> {
 
     ghost coded = { Prim.hlevel (codes, plan_code {K = Number} (Prim.hlevel codes)) };
 
-    ghost view = { λ b. run_of_journal b.terms.now b.base.now b.block.now b.journal.items };
+    ghost view = { λ b. run_of_journal b.terms.now b.base.now b.block.now b.journal.entries };
 
-    ghost invariant = { λ b. IsReplayed (run_of_journal b.terms.now b.base.now b.block.now b.journal.items) b.journal.items b.machine };
+    ghost invariant = { λ b. IsReplayed (run_of_journal b.terms.now b.base.now b.block.now b.journal.entries) b.journal.entries b.machine };
 }
 
 impl<'a> Book<'a> {
@@ -74,14 +75,14 @@ impl<'a> Book<'a> {
             base,
             block,
             machine,
-            journal: Vec::new(alloc),
+            journal: Journal::new(alloc),
             spare: None,
         })
     }
 
-    /// One event of a worker, with what its read says of the base. Its reply is lawful, and the
-    /// history has both at its end. A finished run is shared, and not copied. After want of memory
-    /// the book is as before.
+    /// One event of a worker, with what its read says of the base; what comes with another event is
+    /// not looked at. Its reply is lawful, and the history has both at its end. A finished run is
+    /// shared, and not copied. After want of memory the book is as before.
     pub fn step_scanned(
         &mut self,
         alloc: Global,
@@ -90,7 +91,7 @@ impl<'a> Book<'a> {
         scans: &[Scanned<'_>],
     ) -> Result<Reply, AllocError>
         requires sound { IsSoundEvent self.old event.now }
-        requires scans { scans.now ≡ questions_of self.old.base event.now }
+        requires scans { HasScans self.old.base event.now scans.now }
         ensures lawful { IfOk result (λ reply. IsAllowed self.old.base (state_of self.old) worker
             event.now reply) }
         ensures entry { IfOk result (λ reply. self.new
@@ -103,16 +104,14 @@ impl<'a> Book<'a> {
         ready_after();
         front_is_within();
         history_goes_on();
-        self.journal.reserve(1)?;
+        self.journal.reserve(alloc)?;
         let mut room = room(alloc, self.spare.take())?;
         room.prepare(alloc, event)?;
         let reply = self.machine.step(alloc, self.base, worker, event, scans)?;
         let (packed, spare) = PackedEntry::new(worker, event, &reply, room);
         self.spare = spare;
-        match self.journal.push(packed) {
-            Ok(()) => Ok(reply),
-            Err(_) => unreachable!(),
-        }
+        self.journal.push(packed);
+        Ok(reply)
     }
 
     /// The same, where the read is put to the base first.
@@ -156,17 +155,15 @@ impl<'a> Book<'a> {
         ready_after();
         front_is_within();
         history_goes_on();
-        self.journal.reserve(1)?;
+        self.journal.reserve(alloc)?;
         let room = room(alloc, self.spare.take())?;
         let reply = self
             .machine
             .check_as(alloc, self.base, worker, i, n, passed)?;
         let (packed, spare) = PackedEntry::new(worker, &Event::Check(i, n), &reply, room);
         self.spare = spare;
-        match self.journal.push(packed) {
-            Ok(()) => Ok(reply),
-            Err(_) => unreachable!(),
-        }
+        self.journal.push(packed);
+        Ok(reply)
     }
 
     /// How many requests are committed: the first ones.
@@ -288,11 +285,11 @@ impl<'a> Book<'a> {
 
     /// What is kept of every event that was answered, in order: each is lawful where those before
     /// it lead.
-    pub fn journal(&self) -> &[PackedEntry]
-        ensures journal { result.now ≡ map journal_entry_of self.now.history }
+    pub fn journal(&self) -> &Journal
+        ensures journal { result.now.entries ≡ map journal_entry_of self.now.history }
         ensures lawful { IsHistory (setting_of self.now) self.now.history }
     {
-        self.journal.as_slice()
+        &self.journal
     }
 
     /// The dictionary of the base and the block.

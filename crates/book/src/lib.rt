@@ -7,9 +7,11 @@
 #![tactic(auto)]
 
 mod book;
+mod journal;
 mod journal_entry;
 mod packed_entry;
 
 pub use book::Book;
+pub use journal::Journal;
 pub use journal_entry::{JournalEntry, Kept, count};
 pub use packed_entry::{PackedEntry, Shown};

@@ -2,7 +2,7 @@
 ghost use Rattle.std.specs.Prelude.{◌≡◌, IfSome};
 ghost use Rattle.incarnations.specs.Statuses.{IsTold};
 ghost use Rattle.book.specs.JournalEntry.{journal_entry_of, IsRoomFor};
-ghost use Rattle.book.specs.PackedEntry.{count_if, entry_of, kept_shown};
+ghost use Rattle.book.specs.PackedEntry.{count_if, entry_of, place_of, kept_shown};
 ghost use Rattle.book.specs.Run.{kept};
 
 use crate::journal_entry::{JournalEntry, Kept, count};
@@ -141,6 +141,37 @@ fn packed(worker: u32, event: &Event, reply: &Reply) -> Option<Form>
     }
 }
 
+// The request that an entry in little memory is of, and its incarnation, or 0 where there is none.
+fn place(form: &Form) -> (usize, u64)
+    ensures { result ≡ place_of form.now }
+{
+    let (request, incarnation) = match form {
+        Form::Presence {
+            request,
+            incarnation,
+            ..
+        }
+        | Form::Taken {
+            request,
+            incarnation,
+            ..
+        }
+        | Form::Begun {
+            request,
+            incarnation,
+            ..
+        }
+        | Form::Passed {
+            request,
+            incarnation,
+            ..
+        } => (*request, *incarnation),
+        Form::Committed { request, .. } => (*request, 0),
+        Form::Whole(_) => (0, 0),
+    };
+    (request as usize, incarnation as u64)
+}
+
 impl PackedEntry {
     /// What a journal keeps of a worker's event under this reply, and the room that it does not
     /// need.
@@ -197,46 +228,15 @@ impl PackedEntry {
     pub fn shown(&self) -> Shown<'_>
         ensures { kept_shown result ≡ self.now.kept }
     {
+        let (i, n) = place(&self.form);
         match &self.form {
-            Form::Presence {
-                request,
-                incarnation,
-                quad,
-                there,
-                ..
-            } => Shown::Answered(
-                *request as usize,
-                *incarnation as u64,
-                scan_for(quad.to_quad()),
-                *there as u64,
-            ),
-            Form::Taken {
-                request,
-                incarnation,
-                ..
-            } => Shown::Other(
-                Event::Take(*request as usize),
-                Reply::Taken(*incarnation as u64),
-            ),
-            Form::Begun {
-                request,
-                incarnation,
-                ..
-            } => Shown::Other(
-                Event::Begin(*request as usize, *incarnation as u64),
-                Reply::Begun,
-            ),
-            Form::Passed {
-                request,
-                incarnation,
-                ..
-            } => Shown::Other(
-                Event::Check(*request as usize, *incarnation as u64),
-                Reply::Passed,
-            ),
-            Form::Committed { request, .. } => {
-                Shown::Other(Event::Commit(*request as usize), Reply::Committed)
+            Form::Presence { quad, there, .. } => {
+                Shown::Answered(i, n, scan_for(quad.to_quad()), *there as u64)
             }
+            Form::Taken { .. } => Shown::Other(Event::Take(i), Reply::Taken(n)),
+            Form::Begun { .. } => Shown::Other(Event::Begin(i, n), Reply::Begun),
+            Form::Passed { .. } => Shown::Other(Event::Check(i, n), Reply::Passed),
+            Form::Committed { .. } => Shown::Other(Event::Commit(i), Reply::Committed),
             Form::Whole(entry) => Shown::Whole(&entry.kept),
         }
     }

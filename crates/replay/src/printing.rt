@@ -5,7 +5,7 @@ ghost use Rattle.replay.specs.Kept.{event_of_kept, reply_of_kept, line_of_kept};
 
 use crate::naming::name_read;
 use block_machine::{Event, Reply};
-use book::{Book, Kept, PackedEntry, Shown, count};
+use book::{Book, Journal, Kept, PackedEntry, Shown, count};
 use dict::Dict;
 use journal::{Event as LineEvent, Line, Reply as LineReply};
 use std::alloc::{AllocError, Global};
@@ -106,18 +106,15 @@ fn line_of(alloc: Global, terms: &Dict, entry: &PackedEntry) -> Result<Line, All
     })
 }
 
-// The lines of entries, in order.
-fn entry_lines(
-    alloc: Global,
-    terms: &Dict,
-    journal: &[PackedEntry],
-) -> Result<Vec<Line>, AllocError>
-    ensures { IfOk result (λ lines. lines.items ≡ map (line_of_kept terms.now) journal.now) }
+// The lines of a journal's entries, in order.
+fn entry_lines(alloc: Global, terms: &Dict, journal: &Journal) -> Result<Vec<Line>, AllocError>
+    ensures { IfOk result (λ lines. lines.items
+        ≡ map (line_of_kept terms.now) journal.now.entries) }
 {
     let mut lines = Vec::new(alloc);
     lines.reserve(journal.len())?;
-    for entry in journal {
-        lines.push(line_of(alloc, terms, entry)?)?;
+    for place in 0..journal.len() {
+        lines.push(line_of(alloc, terms, journal.entry(place))?)?;
     }
     Ok(lines)
 }
