@@ -18,27 +18,31 @@ module _ {S E : Type 0} where
   taken_in start old new w was is =
       is ∙ ((λ k. record (was k) { told = (joined old w).told }) ∙ (λ k. record start { told = sym (ap (λ (v : View S E). v.told) is) k }))
 
-  -- what is still to be taken in and what was is all that there is
-  pub told_more : (before passes all : List (PassView S E)) (p : PassView S E) (old new w : View S E) → passes ≡ before ++ p ∷ [] → new ≡ joined old w
-      → p.worker ≡ w.from → p.subject ≡ w.subject → p.seen ≡ w.seen → map told_of passes ++ old.told ≡ map told_of all → map told_of before ++ new.told ≡ map told_of all
-  told_more before passes all p old new w last is worker subject seen was =
-      let one : told_of p ∷ old.told ≡ new.told = (λ k. record { worker = worker k; subject = subject k; seen = seen k } ∷ old.told) ∙ sym (ap (λ (v : View S E). v.told) is) in
-      ap (λ l. map told_of before ++ l) (sym one)
-      ∙ (sym (append_assoc (map told_of before) (told_of p ∷ []) old.told)
-      ∙ (ap (λ l. l ++ old.told) (sym (ap (map told_of) last ∙ map-append told_of before (p ∷ []))) ∙ was))
+module _ {A S E : Type 0} (pass_of : A → PassView S E) where
+  abbrev pub told_by : A → Told S E
+  told_by a = told_of (pass_of a)
 
-module _ {S E : Type 0} (worker_of : E → ℕ) where
-  pub all_included : (book : History S E) (ps : List (PassView S E)) → AllCovered worker_of book.subject book.journal (map told_of ps) → All (λ p. Includes worker_of p book) ps
+  -- what is still to be taken in and what was is all that there is
+  pub told_more : (before passes all : List A) (a : A) (old new w : View S E) → passes ≡ before ++ a ∷ [] → new ≡ joined old w
+      → (pass_of a).worker ≡ w.from → (pass_of a).subject ≡ w.subject → (pass_of a).seen ≡ w.seen → map told_by passes ++ old.told ≡ map told_by all → map told_by before ++ new.told ≡ map told_by all
+  told_more before passes all a old new w last is worker subject seen was =
+      let one : told_by a ∷ old.told ≡ new.told = (λ k. record { worker = worker k; subject = subject k; seen = seen k } ∷ old.told) ∙ sym (ap (λ (v : View S E). v.told) is) in
+      ap (λ l. map told_by before ++ l) (sym one)
+      ∙ (sym (append_assoc (map told_by before) (told_by a ∷ []) old.told)
+      ∙ (ap (λ l. l ++ old.told) (sym (ap (map told_by) last ∙ map-append told_by before (a ∷ []))) ∙ was))
+
+module _ {A S E : Type 0} (worker_of : E → ℕ) (pass_of : A → PassView S E) where
+  pub all_included : (book : History S E) (ps : List A) → AllCovered worker_of book.subject book.journal (map (told_by pass_of) ps) → All (λ p. Includes worker_of (pass_of p) book) ps
   all_included book [] c k d less = absurd (omega arith)
   all_included book (p ∷ ps) c zero d less = record { subject = sym c.0.same_subject; begins = c.0.begins; mine = c.0.own }
   all_included book (p ∷ ps) c (suc k) d less = all_included book ps c.1 k d (omega arith)
 
   -- The last pass took the book and then took in the others
-  pub all_closed : (book : History S E) (last took : PassView S E) (others all : List (PassView S E)) (v : View S E) → Takes worker_of last book took → took.subject ≡ v.subject → took.seen ≡ v.seen → v.told ≡ map told_of others
-      → AllCovered worker_of v.subject v.seen v.told → all ≡ others ++ last ∷ [] → All (λ p. Includes worker_of p book) all
+  pub all_closed : (book : History S E) (last : A) (took : PassView S E) (others all : List A) (v : View S E) → Takes worker_of (pass_of last) book took → took.subject ≡ v.subject → took.seen ≡ v.seen → v.told ≡ map (told_by pass_of) others
+      → AllCovered worker_of v.subject v.seen v.told → all ≡ others ++ last ∷ [] → All (λ p. Includes worker_of (pass_of p) book) all
   all_closed book last took others all v takes same_subject seen told covered is =
       let now = takes.sees in
       let subject : v.subject ≡ book.subject = sym same_subject ∙ (ap (λ (p : PassView S E). p.subject) now ∙ sym takes.includes.subject) in
       let journal : v.seen ≡ book.journal = sym seen ∙ ap (λ (p : PassView S E). p.seen) now in
-      let at : AllCovered worker_of book.subject book.journal (map told_of others) = subst (λ (t : S × List E × List (Told S E)). AllCovered worker_of t.0 t.1 t.2) (λ i. (subject i, journal i, told i)) covered in
-      all_from (λ p. Includes worker_of p book) others all last is (all_included book others at) takes.includes
+      let at : AllCovered worker_of book.subject book.journal (map (told_by pass_of) others) = subst (λ (t : S × List E × List (Told S E)). AllCovered worker_of t.0 t.1 t.2) (λ i. (subject i, journal i, told i)) covered in
+      all_from (λ p. Includes worker_of (pass_of p) book) others all last is (all_included book others at) takes.includes

@@ -6,12 +6,14 @@
 //! that passes see are beginnings of one history.
 #![tactic(auto)]
 
+mod into_pass;
 mod journaled;
 mod lock;
 mod pass;
 mod plays;
 mod view;
 
+pub use into_pass::IntoPass;
 pub use journaled::Journaled;
 pub use lock::{BlockLock, Busy, Held};
 pub use pass::Pass;

@@ -2,6 +2,7 @@ ghost use Rattle.std.specs.Prelude.{◌≡◌, ℕ, ◌<◌, ◌≤◌, true, fa
 ghost use Rattle.blocklock.specs.Rule.{rest_of};
 ghost use Rattle.blocklock.specs.Passes.{Includes, Takes, MayGive, Watches, IsIdleAt, given, fresh_pass, told_of, dealer};
 
+use crate::into_pass::IntoPass;
 use crate::journaled::Journaled;
 use crate::pass::Pass;
 use crate::plays::{Give, One, Rule, Slot, Take, TakeIn, ViewOf};
@@ -160,14 +161,17 @@ impl<B: Journaled> BlockLock<B> {
     }
 
     // The seat that holds the book takes in all other passes.
-    fn take_in(&self, seat: &mut Seat<Slot<B>, ViewOf<B>>, mut passes: Vec<Pass<B>>)
-        requires own { (seat.old.table_id ≡ self.now) × All (IsIdleAt self.now) passes.items }
+    fn take_in<P: IntoPass<B>>(&self, seat: &mut Seat<Slot<B>, ViewOf<B>>, mut passes: Vec<P>)
+        requires own { (seat.old.table_id ≡ self.now)
+            × All (λ p. IsIdleAt self.now (P.pass_of p)) passes.items }
         requires holds { (seat.old.me.0.holds ≡ true) × (seat.old.me.0.from < seat.old.me.0.until)
             × (seat.old.me.0.told ≡ []) }
         ensures seat { (seat.new.table_id ≡ seat.old.table_id) × (seat.new.id ≡ seat.old.id) }
-        ensures told { seat.new.me.0 ≡ record seat.old.me.0 { told = map told_of passes.items } }
+        ensures told { seat.new.me.0
+            ≡ record seat.old.me.0 { told = map (λ p. told_of (P.pass_of p)) passes.items } }
     {
-        while let Some(pass) = passes.pop() {
+        while let Some(next) = passes.pop() {
+            let pass = next.into_pass();
             let Pass {
                 seat: other,
                 worker: _,
@@ -178,17 +182,19 @@ impl<B: Journaled> BlockLock<B> {
 
     /// Ends the sharing. The book's journal begins with what each pass has seen, and has no other
     /// entries of its worker.
-    pub fn close<R: Wait>(self, rt: &R, mut passes: Vec<Pass<B>>) -> B
+    pub fn close<R: Wait, P: IntoPass<B>>(self, rt: &R, mut passes: Vec<P>) -> B
         requires some { 0 < vec_len passes }
-        requires passes { All (IsIdleAt self) passes.items }
-        ensures { All (λ p. Includes B.worker_of p (B.history result)) passes.items }
+        requires passes { All (λ p. IsIdleAt self (P.pass_of p)) passes.items }
+        ensures { All (λ p. Includes B.worker_of (P.pass_of p) (B.history result))
+            passes.items }
     {
-        let mut last = passes.pop().unwrap();
-        let Held { book, lock: _ } = self.hold(rt, &mut last);
+        let last = passes.pop().unwrap();
+        let mut pass = last.into_pass();
+        let Held { book, lock: _ } = self.hold(rt, &mut pass);
         let Pass {
             mut seat,
             worker: _,
-        } = last;
+        } = pass;
         self.take_in(&mut seat, passes);
         let BlockLock { table } = self;
         let mut closed = table.close_with(seat);

@@ -16,11 +16,7 @@ use Rattle.std.proofs.alloc.AllocError.TheSendSync as refused
 use Rattle.std.specs.contracts.impls.GlobalAllocator.TheImpl.{ghosts}
 use Rattle.std.specs.contracts.result.Result as Result
 use Rattle.std.specs.contracts.vec.Vec as Vec
-use Rattle.incarnations.specs.contracts.state.Entry as Entry
-use Rattle.blocklock.specs.contracts.pass.Pass as Pass
-use Rattle.shared.specs.contracts.kept.Kept as Kept
-use Rattle.shared.specs.contracts.kept.KeptJournaled.TheImpl as journaled
-use Rattle.shared.specs.contracts.kept.Subject as Subject
+use Rattle.shared.specs.contracts.pass.Pass as Pass
 use Rattle.pool.specs.contracts.crew.Crew as Crew
 use Rattle.pool.specs.contracts.lengths.Lengths as Lengths
 use Rattle.pool.specs.contracts.pace.Pace as Pace
@@ -40,10 +36,10 @@ module _ (a lent : NamedLft) (T G : RattleType) (y : IsSync T) (z : IsSync G) wh
   crew = let w = workers in let p = passes a in search (sendable, crosses) depth 20
 
 module _ (a : NamedLft) where
-  all : IsSend (Vec.the_row (Pass.the_row (Kept.the_row a) Subject.the_row Entry.the_row journaled.ghosts) Global.the_row ghosts)
+  all : IsSend (Vec.the_row (Pass.the_row a) Global.the_row ghosts)
   all = let p = passes a in search (sendable, crosses) depth 20
 
-  pub done : IsSend (Result.the_row (Vec.the_row (Pass.the_row (Kept.the_row a) Subject.the_row Entry.the_row journaled.ghosts) Global.the_row ghosts) AllocError.the_row)
+  pub done : IsSend (Result.the_row (Vec.the_row (Pass.the_row a) Global.the_row ghosts) AllocError.the_row)
   done = let p = all in let r = refused.the_field_send in search sendable depth 20
 
 -- a closure that takes one value with it, and what one answers

@@ -8,7 +8,7 @@ ghost use Rattle.pool.specs.Shown.{AreSeen};
 
 use crate::gate::Gate;
 use crate::worker::{Turn, Workers};
-use block_machine::{Event, Reply, scans_of};
+use block_machine::{Event, Reply};
 use datasets::{Id, Read};
 use reads::{Answered, IndexedView, Note, Scanned, Source, Stop};
 use shared::{Pass, told};
@@ -129,15 +129,13 @@ impl<'w, 's, 'a, R: Wait, G: Gate> Source for Asking<'w, 's, 'a, R, G> {
         let Turn { place, incarnation } = self.turn;
         let workers = self.workers;
         let event = Event::Read(place, incarnation, *read);
-        let scans = scans_of(workers.alloc, workers.base, &event)?;
-        let reply = workers.shared.read_scanned(
+        let reply = workers.shared.read(
             workers.rt,
             workers.alloc,
             &mut self.pass,
             place,
             incarnation,
             read,
-            &scans,
         )?;
         told(workers.shown(&self.pass, event, reply))
     }

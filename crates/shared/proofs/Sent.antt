@@ -85,11 +85,12 @@ use Rattle.book.specs.contracts.journal_entry.Kept as KeptEvent
 use Rattle.book.specs.contracts.journal_entry.JournalEntry as JournalEntry
 use Rattle.book.specs.contracts.packed_entry.Form as EntryForm
 use Rattle.book.specs.contracts.packed_entry.PackedEntry as PackedEntry
+use Rattle.book.specs.contracts.journal.Journal as BookJournal
 use Rattle.book.specs.contracts.book.Book as Book
 use Rattle.blocklock.proofs.Sent.{lock, pass}
-use Rattle.blocklock.specs.contracts.pass.Pass as Pass
 use Rattle.shared.specs.contracts.kept.Kept as Kept
 use Rattle.shared.specs.contracts.kept.Subject as Subject
+use Rattle.shared.specs.contracts.pass.Pass as Pass
 use Rattle.shared.specs.contracts.kept.KeptJournaled.TheImpl as journaled
 use Rattle.shared.specs.contracts.shared_block.SharedBlock as SharedBlock
 
@@ -305,6 +306,9 @@ entry_form = let k = known_quad_field in let e = journal_entry in search (sendab
 packed_entry : IsSend (PackedEntry.the_row)
 packed_entry = let f = entry_form in search (sendable, crosses) depth 20
 
+journal : IsSend (BookJournal.the_row)
+journal = let e = packed_entry in search (sendable, crosses) depth 20
+
 boxed_entry : IsSend (Box.the_row JournalEntry.the_row Global.the_row ghosts)
 boxed_entry = Box-send JournalEntry.the_row journal_entry
 
@@ -351,7 +355,7 @@ module _ (a : NamedLft) where
   machine = let s = slots in let t = tree in search (sendable, crosses) depth 20
 
   book : IsSend (Book.the_row a)
-  book = let r = requests in let d = dict in let v = indexed_view in let m = machine in let e = packed_entry in let s = spare in search (sendable, crosses) depth 20
+  book = let r = requests in let d = dict in let v = indexed_view in let m = machine in let j = journal in let s = spare in search (sendable, crosses) depth 20
 
   kept : IsSend (Kept.the_row a)
   kept = let b = book in search (sendable, crosses) depth 20
@@ -359,5 +363,5 @@ module _ (a : NamedLft) where
   pub shared : IsSync (SharedBlock.the_row a)
   shared = let l = lock (Kept.the_row a) Subject.the_row Entry.the_row journaled.ghosts kept in search sendable depth 20
 
-  pub passes : IsSend (Pass.the_row (Kept.the_row a) Subject.the_row Entry.the_row journaled.ghosts)
-  passes = pass (Kept.the_row a) Subject.the_row Entry.the_row journaled.ghosts kept
+  pub passes : IsSend (Pass.the_row a)
+  passes = let p = pass (Kept.the_row a) Subject.the_row Entry.the_row journaled.ghosts kept in let v = indexed_view in search sendable depth 20

@@ -6,7 +6,7 @@ ghost use Rattle.book.specs.Run.{IsSoundEvent};
 ghost use Rattle.shared.specs.Calls.{history_of};
 ghost use Rattle.shared.specs.InTurn.{questions, lets_go_on, publishing, checking, committing, reading, Went};
 
-use crate::kept::Pass;
+use crate::pass::Pass;
 use block_machine::{Event, Reply};
 use book::Book;
 use datasets::Read;

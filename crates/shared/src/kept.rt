@@ -44,7 +44,3 @@ impl<'a> Journaled for Kept<'a> {
         self.book.front()
     }
 }
-
-/// What one worker knows of a shared book: the history that it has seen. It makes the worker's
-/// calls.
-pub type Pass<'a> = blocklock::Pass<Kept<'a>>;

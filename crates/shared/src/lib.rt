@@ -8,6 +8,7 @@
 
 mod in_turn;
 mod kept;
+mod pass;
 mod refused;
 mod replies;
 mod shared_block;
@@ -15,7 +16,8 @@ mod taking;
 mod trying;
 mod waiting;
 
-pub use kept::{Kept, Pass, Subject};
+pub use kept::{Kept, Subject};
+pub use pass::Pass;
 pub use refused::Refused;
 pub use replies::told;
 pub use shared_block::SharedBlock;

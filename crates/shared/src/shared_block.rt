@@ -5,11 +5,12 @@ ghost use Rattle.block_machine.specs.Machine.{IsAllowed};
 ghost use Rattle.block_machine.specs.Scans.{questions_of};
 ghost use Rattle.block_machine.specs.Serial.{IsHistory};
 ghost use Rattle.book.specs.Run.{state_of, setting_of, IsSoundEvent};
-ghost use Rattle.blocklock.specs.Passes.{IsIdleAt, Includes, Watches, fresh_pass};
+ghost use Rattle.blocklock.specs.Passes.{IsIdleAt, Includes, Takes, MayGive, Watches, fresh_pass, given};
 ghost use Rattle.scheduler.specs.Task.{IsNext};
 ghost use Rattle.shared.specs.Calls.{owner, history_of, run_of, entry, IsSoundAt, Made, Tried, Has};
 
-use crate::kept::{Kept, Pass};
+use crate::kept::Kept;
+use crate::pass::{Pass, with_base};
 use crate::refused::Refused;
 use block_machine::laws::front_never_falls;
 use block_machine::{Event, Reply};
@@ -39,36 +40,18 @@ impl<'a> Model for SharedBlock<'a> {
     ghost view = { λ s. s.lock };
 }
 
-// Makes one event on the book that the pass holds, and gives the book back.
-fn make<'a>(
-    alloc: Global,
-    mut held: Held<'_, Kept<'a>>,
-    pass: &mut Pass<'a>,
-    event: Event,
-) -> Result<Reply, AllocError>
-    requires own { pass.old.table ≡ held.lock.now }
-    requires has { Has pass.old held.book.value.book }
-    requires sound { IsSoundEvent held.book.value.book event }
-    ensures ok { IfOk result (λ reply. pass.new
-        ≡ record pass.old {
-          seen = pass.old.seen
-              ++ entry pass.old.worker event reply ∷ [];
-          holds = false;
-        }) }
-    ensures allowed { IfOk result (λ reply. IsAllowed pass.old.subject.base
-        (state_of (run_of pass.old.subject pass.old.seen)) pass.old.worker event reply) }
-    ensures lawful { IsHistory (setting_of (run_of pass.old.subject pass.new.seen)) pass.new.seen }
-    ensures err { OnErr result (pass.new ≡ record pass.old { holds = false }) }
+// Gives the book back.
+pub(crate) fn give<'a>(held: Held<'_, Kept<'a>>, pass: &mut Pass<'a>)
+    requires { (pass.old.table ≡ held.lock.now)
+        × MayGive owner pass.old (history_of held.book.value.book) }
+    ensures { pass.new ≡ given pass.old (history_of held.entry.book.value.book) }
 {
-    let reply = held.book.book.step(alloc, pass.worker(), &event);
-    drop(event);
-    let _journal = held.book.book.journal();
-    held.give(pass);
-    reply
+    held.give(&mut pass.inner);
 }
 
-// The same event, with what its read says of the base.
-fn make_scanned<'a>(
+// Makes one event on the book that the pass holds, with what its read says of the base, and gives
+// the book back.
+fn make<'a>(
     alloc: Global,
     mut held: Held<'_, Kept<'a>>,
     pass: &mut Pass<'a>,
@@ -94,7 +77,7 @@ fn make_scanned<'a>(
     let reply = book.step_scanned(alloc, pass.worker(), &event, scans);
     drop(event);
     let _journal = book.journal();
-    held.give(pass);
+    give(held, pass);
     reply
 }
 
@@ -118,10 +101,30 @@ impl<'a> SharedBlock<'a> {
     {
         let book = Book::new(alloc, terms, base, block)?;
         let (lock, passes) = BlockLock::new(alloc, Kept { book }, seats)?;
+        let passes = with_base(alloc, base, passes)?;
         Ok((SharedBlock { lock }, passes))
     }
 
-    // Makes one event, and never waits.
+    // Takes the book with a pass, where it is there.
+    fn try_hold<'s>(&'s self, pass: &mut Pass<'a>) -> Result<Held<'s, Kept<'a>>, Busy>
+        requires { pass.old.table ≡ self.now }
+        ensures held { IfOk result (λ h. (h.lock.now ≡ self.now)
+            × Takes owner pass.old (history_of h.book.value.book) pass.new) }
+        ensures busy { OnErr result (pass.new ≡ pass.old) }
+    {
+        self.lock.try_hold(&mut pass.inner)
+    }
+
+    // Takes the book with a pass, once it is there.
+    pub(crate) fn hold<'s, R: Wait>(&'s self, rt: &R, pass: &mut Pass<'a>) -> Held<'s, Kept<'a>>
+        requires { pass.old.table ≡ self.now }
+        ensures { (result.lock.now ≡ self.now)
+            × Takes owner pass.old (history_of result.book.value.book) pass.new }
+    {
+        self.lock.hold(rt, &mut pass.inner)
+    }
+
+    // Makes one event, and never waits. Its read is put to the base before the lock is taken.
     pub(crate) fn try_make(
         &self,
         alloc: Global,
@@ -132,8 +135,9 @@ impl<'a> SharedBlock<'a> {
         requires sound { IsSoundEvent (run_of pass.old.subject pass.old.seen) event }
         ensures { Tried pass.old pass.new event result }
     {
-        match self.lock.try_hold(pass) {
-            Ok(held) => match make(alloc, held, pass, event) {
+        let scans = pass.scans(alloc, &event)?;
+        match self.try_hold(pass) {
+            Ok(held) => match make(alloc, held, pass, event, &scans) {
                 Ok(reply) => Ok(reply),
                 Err(AllocError) => Err(Refused::OutOfMemory),
             },
@@ -141,7 +145,7 @@ impl<'a> SharedBlock<'a> {
         }
     }
 
-    // Makes one event, once the book is there.
+    // Makes one event, once the book is there. Its read is put to the base before the lock is taken.
     pub(crate) fn make_waiting<R: Wait>(
         &self,
         rt: &R,
@@ -153,26 +157,9 @@ impl<'a> SharedBlock<'a> {
         requires sound { IsSoundEvent (run_of pass.old.subject pass.old.seen) event }
         ensures { Made pass.old pass.new event result }
     {
-        let held = self.lock.hold(rt, pass);
-        make(alloc, held, pass, event)
-    }
-
-    // Makes one event, once the book is there, with what its read says of the base.
-    pub(crate) fn make_scanned_waiting<R: Wait>(
-        &self,
-        rt: &R,
-        alloc: Global,
-        pass: &mut Pass<'a>,
-        event: Event,
-        scans: &[Scanned<'_>],
-    ) -> Result<Reply, AllocError>
-        requires own { pass.old.table ≡ self.now }
-        requires sound { IsSoundEvent (run_of pass.old.subject pass.old.seen) event }
-        requires scans { scans.now ≡ questions_of pass.old.subject.base event }
-        ensures { Made pass.old pass.new event result }
-    {
-        let held = self.lock.hold(rt, pass);
-        make_scanned(alloc, held, pass, event, scans)
+        let scans = pass.scans(alloc, &event)?;
+        let held = self.hold(rt, pass);
+        make(alloc, held, pass, event, &scans)
     }
 
     /// How many requests are committed in what the pass has then seen.
@@ -183,10 +170,10 @@ impl<'a> SharedBlock<'a> {
         ensures lawful { IsHistory (setting_of (run_of pass.new.subject pass.new.seen))
             pass.new.seen }
     {
-        let taken = self.lock.hold(rt, pass);
+        let taken = self.hold(rt, pass);
         let front = taken.book.book.front();
         let _journal = taken.book.book.journal();
-        taken.give(pass);
+        give(taken, pass);
         front
     }
 
@@ -198,10 +185,10 @@ impl<'a> SharedBlock<'a> {
         ensures lawful { IsHistory (setting_of (run_of pass.new.subject pass.new.seen))
             pass.new.seen }
     {
-        let taken = self.lock.hold(rt, pass);
+        let taken = self.hold(rt, pass);
         let task = next(&taken.book.book);
         let _journal = taken.book.book.journal();
-        taken.give(pass);
+        give(taken, pass);
         task
     }
 

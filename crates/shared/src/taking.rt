@@ -9,7 +9,7 @@ ghost use Rattle.shared.specs.InTurn.{publishing};
 ghost use Rattle.shared.specs.Taking.{taking, TookFrom, WentAndTook};
 
 use crate::in_turn::make_publishing;
-use crate::kept::Pass;
+use crate::pass::Pass;
 use block_machine::{Event, Reply};
 use book::Book;
 use delta::Finished;

@@ -2,7 +2,7 @@
 ghost use Rattle.std.specs.Prelude.{◌≡◌, Some};
 ghost use Rattle.shared.specs.Calls.{IsSoundAt, Tried};
 
-use crate::kept::Pass;
+use crate::pass::Pass;
 use crate::refused::Refused;
 use crate::shared_block::SharedBlock;
 use block_machine::{Event, Reply};
@@ -20,7 +20,8 @@ impl<'a> SharedBlock<'a> {
         self.try_make(alloc, pass, Event::Take(i))
     }
 
-    /// Asks what a read says where incarnation `n` of the request runs.
+    /// Asks what a read says where incarnation `n` of the request runs. The base is searched before
+    /// the lock is taken.
     pub fn try_read(
         &self,
         alloc: Global,

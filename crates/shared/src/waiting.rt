@@ -1,14 +1,13 @@
 //! The calls that wait until the book is there. The places and incarnations are as in
 //! `block_machine::Event`.
 ghost use Rattle.std.specs.Prelude.{◌≡◌, ◌++◌, Some};
-ghost use Rattle.block_machine.specs.Scans.{questions_of};
 ghost use Rattle.shared.specs.Calls.{IsSoundAt, Made};
 ghost use Rattle.shared.specs.InTurn.{questions, reading, publishing, checking, committing, Adds};
 ghost use Rattle.shared.specs.Taking.{AddsAndTakes, Took};
 
 use crate::in_turn::{make_reads, make_settling};
-use crate::kept::Pass;
-use crate::shared_block::SharedBlock;
+use crate::pass::Pass;
+use crate::shared_block::{SharedBlock, give};
 use crate::taking::{Next, make_publishing_and_taking, make_taking};
 use block_machine::{Event, Reply};
 use datasets::Read;
@@ -46,14 +45,15 @@ impl<'a> SharedBlock<'a> {
         ensures { Took pass.old pass.new most result }
     {
         let worker = pass.worker();
-        let mut held = self.lock.hold(rt, pass);
+        let mut held = self.hold(rt, pass);
         let _before = held.book.book.journal();
         let made = make_taking(alloc, &mut held.book.book, worker, most);
-        held.give(pass);
+        give(held, pass);
         made
     }
 
-    /// Asks what a read says where incarnation `n` of the request runs.
+    /// Asks what a read says where incarnation `n` of the request runs. The base is searched before
+    /// the lock is taken.
     pub fn read<R: Wait>(
         &self,
         rt: &R,
@@ -67,25 +67,6 @@ impl<'a> SharedBlock<'a> {
         ensures { Made pass.old pass.new (Event.Read i n read.now) result }
     {
         self.make_waiting(rt, alloc, pass, Event::Read(i, n, *read))
-    }
-
-    /// The same, with what the read says of the base, so that nobody waits while the base is
-    /// searched.
-    pub fn read_scanned<R: Wait>(
-        &self,
-        rt: &R,
-        alloc: Global,
-        pass: &mut Pass<'a>,
-        i: usize,
-        n: u64,
-        read: &Read<Id>,
-        scans: &[Scanned<'_>],
-    ) -> Result<Reply, AllocError>
-        requires own { pass.old.table ≡ self.now }
-        requires scans { scans.now ≡ questions_of pass.old.subject.base (Event.Read i n read.now) }
-        ensures { Made pass.old pass.new (Event.Read i n read.now) result }
-    {
-        self.make_scanned_waiting(rt, alloc, pass, Event::Read(i, n, *read), scans)
     }
 
     /// Publishes a finished run of incarnation `n` of a request. The journal has a copy of it,
@@ -187,7 +168,7 @@ impl<'a> SharedBlock<'a> {
             replies.old.items replies.new.items result }
     {
         replies.reserve(notes.saturating_add(1))?;
-        let mut held = self.lock.hold(rt, pass);
+        let mut held = self.hold(rt, pass);
         let _before = held.book.book.journal();
         let made = make_settling(
             alloc,
@@ -199,7 +180,7 @@ impl<'a> SharedBlock<'a> {
             until,
             replies,
         );
-        held.give(pass);
+        give(held, pass);
         made
     }
 
@@ -227,7 +208,7 @@ impl<'a> SharedBlock<'a> {
             replies.old.items replies.new.items most result }
     {
         replies.reserve(notes.saturating_add(2))?;
-        let mut held = self.lock.hold(rt, pass);
+        let mut held = self.hold(rt, pass);
         let _before = held.book.book.journal();
         let made = make_publishing_and_taking(
             alloc,
@@ -241,7 +222,7 @@ impl<'a> SharedBlock<'a> {
             most,
             replies,
         );
-        held.give(pass);
+        give(held, pass);
         made
     }
 
@@ -269,7 +250,7 @@ impl<'a> SharedBlock<'a> {
             return Ok(true);
         }
         replies.reserve(reads.len())?;
-        let mut held = self.lock.hold(rt, pass);
+        let mut held = self.hold(rt, pass);
         let _before = held.book.book.journal();
         let made = make_reads(
             alloc,
@@ -281,7 +262,7 @@ impl<'a> SharedBlock<'a> {
             scans,
             replies,
         );
-        held.give(pass);
+        give(held, pass);
         made
     }
 }

@@ -1,7 +1,14 @@
-use Rattle.std.proofs.Common.{rules}
+use Rattle.std.proofs.Common.{rules, ◌∙◌, ap, sym}
 use Rattle.std.proofs.lemmas.Result.{err_from_is_err_and}
+use Rattle.block_machine.specs.Scans.{questions_of}
+use Rattle.block_machine.proofs.Asked.{has_scans}
+use Rattle.shared.specs.declared.kept.Subject.{Subject}
 use Rattle.shared.proofs.InTurn.{went_nowhere, went_one}
 use Rattle.shared.proofs.in_turn.make_next.Goals as goal
+
+pub step_scanned-requires-clause-scans : goal.step_scanned-requires-clause-scans
+step_scanned-requires-clause-scans c =
+    has_scans _ c.args.event.now c.args.scans.now (c.requires.scans ∙ ap (λ (s : Subject). questions_of s.base c.args.event.now) (sym c.requires.subject))
 
 pub returns-in_err-reserve : goal.returns-in_err-reserve
 returns-in_err-reserve c =
