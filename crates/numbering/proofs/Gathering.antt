@@ -1,16 +1,17 @@
 -- A list that has each term of another.
 use Rattle.std.specs.Prelude.{slice_index_or}
-use Rattle.std.proofs.Common.{◌≡◌, ℕ, ◌<◌, Bool, true, false, ◌||◌, cond, List, [], ◌∷◌, ◌++◌, length, take, ◌+◌, refl, sym, ap, ◌∙◌, subst, true≢false}
+use Rattle.std.proofs.Common.{◌≡◌, ℕ, zero, suc, ◌<◌, Bool, true, false, ◌||◌, cond, List, [], ◌∷◌, ◌++◌, length, take, slice_get, Some, ◌+◌, refl, sym, ap, ◌∙◌, subst, true≢false}
 use Rattle.std.specs.List.{list_all, list_any}
 use Rattle.std.specs.Ordering.{eq_by_cmp}
 use Rattle.std.proofs.lemmas.Bool.{and_parts, and_from}
+use Rattle.std.proofs.lemmas.Option.{same_Some}
 use Rattle.sets.proofs.Filters.{each_joined}
 use Rattle.indexmap.specs.IndexSet.{insert_key}
 use Rattle.terms.specs.declared.term.Term.{Term}
 use Rattle.terms.specs.Term.{term_order}
 use Rattle.terms.specs.Hashed.{equal_terms}
 use Rattle.store.proofs.Holding.{all_parts}
-use Rattle.numbering.specs.Gathered.{HasTerms}
+use Rattle.numbering.specs.Gathered.{HasTerms, HasMore}
 use Rattle.numbering.proofs.Places.{loop_item}
 
 module _ (p : Term → Bool) where
@@ -33,16 +34,28 @@ module _ (p : Term → Bool) where
           let parts = all_parts p old (t ∷ []) (sym (ap (λ c. list_all p (cond c old (old ++ t ∷ []))) e) ∙ h) in
           (parts.0, (and_parts (p t) true parts.1).0)
 
-module _ (terms : List Term) (i : ℕ) (t : Term) (lt : i < length terms) (is : t ≡ slice_index_or terms i t) where
-  one_more : (old new : List Term) → ((p : Term → Bool) → list_all p new ≡ true → (list_all p old ≡ true) × (p t ≡ true))
-      → HasTerms old (take i terms) → HasTerms new (take (i + 1) terms)
-  one_more old new more has =
-      loop_item (HasTerms new) terms i t lt is (λ p h. each_joined p (take i terms) (t ∷ []) (has p (more p h).0) (and_from (p t) true (more p h).1 refl))
+-- a term is there already, or is put in
+pub there_already : (found : List Term) (t : Term) → list_any (eq_by_cmp term_order t) found ≡ true → HasMore found found t
+there_already found t h = λ p all. (all, among p found t h all)
 
-  -- the next of the terms is there already, or is put in
-  pub there_already : (found : List Term) → list_any (eq_by_cmp term_order t) found ≡ true → HasTerms found (take i terms) → HasTerms found (take (i + 1) terms)
-  there_already found h has = one_more found found (λ p all. (all, among p found t h all)) has
+pub is_put_in : (old new : List Term) (copy t : Term) → copy ≡ t → new ≡ insert_key (eq_by_cmp term_order) old copy → HasMore old new t
+is_put_in old new copy t same made = λ p all. let both = put_in p old copy (sym (ap (list_all p) made) ∙ all) in (both.0, subst (λ x. p x ≡ true) same both.1)
 
-  pub is_put_in : (old new : List Term) (copy : Term) → copy ≡ t → new ≡ insert_key (eq_by_cmp term_order) old copy → HasTerms old (take i terms) → HasTerms new (take (i + 1) terms)
-  is_put_in old new copy same made has =
-      one_more old new (λ p all. let both = put_in p old copy (sym (ap (list_all p) made) ∙ all) in (both.0, subst (λ x. p x ≡ true) same both.1)) has
+-- the next of the terms more
+pub one_more : (terms : List Term) (i : ℕ) (item t : Term) (old new : List Term) → i < length terms → item ≡ slice_index_or terms i item → t ≡ item
+    → HasMore old new t → HasTerms old (take i terms) → HasTerms new (take (i + 1) terms)
+one_more terms i item t old new lt is same more has =
+    loop_item (HasTerms new) terms i item lt is (λ p h. each_joined p (take i terms) (item ∷ []) (has p (more p h).0) (and_from (p item) true (subst (λ x. p x ≡ true) same (more p h).1) refl))
+
+-- what stands at a place of a list is in it
+any_at : (ks : List Term) (i : ℕ) (t k : Term) → slice_get ks i ≡ Some k → eq_by_cmp term_order t k ≡ true → list_any (eq_by_cmp term_order t) ks ≡ true
+any_at [] i t k at same = absurd cc
+any_at (x ∷ xs) zero t k at same = ap (λ b. b || list_any (eq_by_cmp term_order t) xs) (ap (eq_by_cmp term_order t) (same_Some x k at) ∙ same)
+any_at (x ∷ xs) (suc i) t k at same = by (eq_by_cmp term_order t x) (any_at xs i t k at same)
+  where
+    by : (b : Bool) → list_any (eq_by_cmp term_order t) xs ≡ true → (b || list_any (eq_by_cmp term_order t) xs) ≡ true
+    by true h = refl
+    by false h = h
+
+pub found_at : (ks : List Term) (i : ℕ) (t k : Term) → Some k ≡ slice_get ks i → eq_by_cmp term_order t k ≡ true → list_any (eq_by_cmp term_order t) ks ≡ true
+found_at ks i t k at same = any_at ks i t k (sym at) same

@@ -6,3 +6,4 @@ pub mod Places
 pub mod Sent
 pub mod Parted
 pub mod Gathering
+pub mod WantedLaws

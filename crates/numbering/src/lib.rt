@@ -6,6 +6,7 @@
 //! is numbered, run and named is the sequential run of the block on the base.
 #![tactic(auto)]
 
+mod ends;
 mod gathered;
 pub mod laws;
 mod lookup;

@@ -4,18 +4,15 @@ ghost use Rattle.datasets.specs.declared.id.Id.TheVariants.{Known as AtNumber};
 ghost use Rattle.dict.specs.Dictionary.{term_of, is_known};
 ghost use Rattle.store.specs.Held.{is_held};
 
+use crate::ends::{EMPTY, hash_of, slot_at};
 use dict::{Dict, Id};
 use std::alloc::{AllocError, Global};
-use std::hash::{FoldHasher, Hash, Hasher};
 use std::marker::Model;
 use store::number_term;
 use terms::Term;
 
 /// How many slots a term may stand in.
 const REACH: usize = 16;
-
-/// What stands in a slot that has no term.
-const EMPTY: u32 = u32::MAX;
 
 /// A dictionary, and slots that lead to its terms by their hashes. Contracts see the dictionary
 /// alone: the term that a slot leads to is compared, so nothing has to be known of the slots. One
@@ -33,18 +30,6 @@ impl<'a> Model for Numbers<'a> {
     ghost Value = { List Term };
 
     ghost view = { λ n. n.dict.now };
-}
-
-fn hash_of(term: &Term) -> usize {
-    let mut hasher = FoldHasher::default();
-    term.hash(&mut hasher);
-    let hash = hasher.finish();
-    (hash ^ (hash >> 32)) as usize
-}
-
-// The slot so many steps behind the one that a hash leads to.
-fn slot_at(slots: &[u32], hash: usize, step: usize) -> usize {
-    hash.wrapping_add(step) % slots.len().max(1)
 }
 
 // Leads a hash to a term's place, if one of the slots within reach is free.
