@@ -4,7 +4,7 @@ use std::alloc::{AllocError, Global};
 use std::test::Fail;
 
 /// Journals whose made nodes have the tag 1.
-const JOURNALS: [&str; 5] = [
+pub const JOURNALS: [&str; 5] = [
     "sparql-block journal 1\n",
     "sparql-block journal 1
 00 take 0000 > taken 0

@@ -2,13 +2,18 @@
 ghost use Rattle.std.specs.Prelude.{◌≡◌};
 
 use crate::fixtures::fault_of;
+use crate::journals::JOURNALS;
 use crate::nquads_texts::{BAD, TEXTS, is_bad_at};
 use crate::slow_devices::Slow;
 use canonical_nquads::{canonical_pieces, canonical_pieces_by, canonical_text};
-use devices::Watched;
+use devices::{Watched, all_of};
+use journal::{read_journal, write_lines};
 use nquads::{BaseFault, read_by, read_bytes};
 use std::alloc::{AllocError, Global};
+use std::io;
+use std::io::Read;
 use std::process::Abort;
+use std::test::Fail;
 use std::thread::Threads;
 use terms::DataSet;
 
@@ -300,5 +305,138 @@ fn long_texts_by_threads(rt: HostRuntime) -> Result<(), BaseFault> {
     let is_alike = is_made_alike(&rt, rt.alloc(), &dataset, front);
     drop(dataset);
     assert!(rt; is_alike?);
+    Ok(())
+}
+
+/// A reader that gives so many bytes of a text at a time.
+#[derive(Drop)]
+struct Few<'a> {
+    rest: &'a [u8],
+    most: usize,
+}
+
+impl Read for Few<'_> {
+    fn read(&mut self, buf: &mut [u8]) -> io::Result<usize> {
+        let count = self.most.min(self.rest.len()).min(buf.len());
+        let (given, rest) = self.rest.split_at(count);
+        let (front, _) = buf.split_at_mut(count);
+        front.copy_from_slice(given);
+        self.rest = rest;
+        Ok(count)
+    }
+}
+
+/// So many bytes a read, so many threads, and portions of more than so many bytes.
+const READS: [(usize, usize, u32); 10] = [
+    (1, 0, 1000),
+    (2, 0, 1000),
+    (3, 0, 1000),
+    (7, 0, 1000),
+    (2, 2, 0),
+    (3, 2, 1),
+    (7, 2, 2),
+    (3, 3, 7),
+    (7, 8, 20),
+    (7, 2, 1000),
+];
+
+/// The dataset of a text that is read so.
+fn read_few<T: Threads + Sync>(
+    rt: &T,
+    alloc: Global,
+    text: &[u8],
+    way: (usize, usize, u32),
+) -> Result<DataSet, BaseFault> {
+    let (most, threads, portion) = way;
+    let mut reader = Watched::new(Few { rest: text, most });
+    read_by(rt, alloc, &mut reader, threads, portion)
+}
+
+/// Whether it has that canonical text.
+fn is_read_few<T: Threads + Sync>(
+    rt: &T,
+    alloc: Global,
+    text: &[u8],
+    way: (usize, usize, u32),
+    canonical: &str,
+) -> Result<bool, BaseFault> {
+    let dataset = read_few(rt, alloc, text, way)?;
+    let is_told = is_told(alloc, &dataset, canonical);
+    drop(dataset);
+    Ok(is_told?)
+}
+
+fn check_few<T: Threads + Sync + Abort>(
+    rt: &T,
+    alloc: Global,
+    table: &[(&str, &str)],
+) -> Result<(), BaseFault> {
+    for way in &READS {
+        for (text, canonical) in table {
+            let is_read = is_read_few(rt, alloc, text.as_bytes(), *way, canonical)?;
+            assert!(rt; is_read, "{way:?} {text:?}");
+        }
+    }
+    Ok(())
+}
+
+#[test]
+fn a_few_bytes_a_read(rt: HostRuntime) -> Result<(), BaseFault> {
+    check_few(&rt, rt.alloc(), &TEXTS)?;
+    check_few(&rt, rt.alloc(), &CUT)
+}
+
+/// Seven lines, the last without an end, and the canonical text of what they spell.
+const LINE_ENDS: (&str, &str) = (
+    "\r\n<x:c> <x:p> <x:a> .\r<x:b> <x:p> <x:a> .\r\n<x:a> <x:p> <x:a> .\n\r\r\n<x:d> <x:p> <x:a> .",
+    "<x:a> <x:p> <x:a> .\n<x:b> <x:p> <x:a> .\n<x:c> <x:p> <x:a> .\n<x:d> <x:p> <x:a> .\n",
+);
+
+/// The seven lines behind so many spaces, and what follows.
+fn shifted(alloc: Global, spaces: usize, back: &str) -> Result<String, AllocError> {
+    let mut text = String::new(alloc);
+    for _ in 0..spaces {
+        text.push(' ')?;
+    }
+    text.push_str(LINE_ENDS.0)?;
+    text.push_str(back)?;
+    Ok(text)
+}
+
+// Each line end comes at each place of a piece. A line of CR LF that is cut is one line.
+#[test]
+fn line_ends_at_piece_ends(rt: HostRuntime) -> Result<(), BaseFault> {
+    for spaces in 0..7 {
+        let good = shifted(rt.alloc(), spaces, "")?;
+        let bad = shifted(rt.alloc(), spaces, "\r\nx")?;
+        for way in &READS {
+            let is_read = is_read_few(&rt, rt.alloc(), good.as_bytes(), *way, LINE_ENDS.1)?;
+            assert!(rt; is_read, "{spaces} {way:?}");
+            let outcome = read_few(&rt, rt.alloc(), bad.as_bytes(), *way);
+            assert!(rt; is_bad_at(outcome, 8)?, "{spaces} {way:?}");
+        }
+    }
+    Ok(())
+}
+
+/// Whether a journal that comes so many bytes a read is read, and written again as it is.
+fn is_journal_read(alloc: Global, text: &str, most: usize) -> Result<bool, Fail> {
+    let mut reader = Watched::new(Few {
+        rest: text.as_bytes(),
+        most,
+    });
+    let bytes = all_of(alloc, &mut reader)?;
+    let lines = read_journal(alloc, bytes.as_slice(), 1)?;
+    let again = write_lines(alloc, &lines, 1)?;
+    Ok(reader.failures == 0 && again.as_slice() == text.as_bytes())
+}
+
+#[test]
+fn journals_in_pieces(rt: HostRuntime) -> Result<(), Fail> {
+    for most in [1, 2, 3, 7, 100_000] {
+        for text in &JOURNALS {
+            assert!(rt; is_journal_read(rt.alloc(), text, most)?, "{most} {text:?}");
+        }
+    }
     Ok(())
 }

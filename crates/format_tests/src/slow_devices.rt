@@ -3,7 +3,7 @@ ghost use Rattle.std.specs.Prelude.{◌<◌, ◌-◌, ◌^◌};
 
 use crate::fixtures::{TWO_GRAPHS, fault_of, two_graphs};
 use canonical_nquads::{WriteFault, canonical_text, write};
-use devices::Watched;
+use devices::{ReadFault, Watched, fill};
 use nquads::{BaseFault, read, read_by};
 use std::alloc::{AllocError, Global};
 use std::io;
@@ -35,10 +35,12 @@ impl Read for Slow<'_> {
     }
 }
 
-/// A writer that takes one byte at a time, and fails at a write or a flush that is counted down to.
+/// A writer that takes so many bytes at a time, and fails at a write or a flush that is counted down
+/// to.
 #[derive(Drop)]
 struct Narrow {
     text: Vec<u8>,
+    most: usize,
     good_calls: usize,
 }
 
@@ -48,13 +50,9 @@ impl Write for Narrow {
             return Err(io::Error::from(io::ErrorKind::Other));
         }
         self.good_calls -= 1;
-        match buf {
-            [first, ..] => {
-                self.text.push(*first)?;
-                Ok(1)
-            }
-            [] => Ok(0),
-        }
+        let (taken, _) = buf.split_at(self.most.min(buf.len()));
+        self.text.extend_from_slice(taken)?;
+        Ok(taken.len())
     }
 
     fn flush(&mut self) -> io::Result<()> {
@@ -135,26 +133,40 @@ fn write_failed(outcome: Result<(), WriteFault>) -> Result<bool, WriteFault> {
     }
 }
 
-/// Whether the write of a dataset fails once, with so many bytes of its text written.
-fn is_cut_at(alloc: Global, dataset: &DataSet, good_calls: usize) -> Result<bool, Fail> {
+/// Whether the write of a dataset to a writer that takes so many bytes at a time, in so many calls,
+/// fails once, with what it took written, unless that is all.
+fn is_cut_at(
+    alloc: Global,
+    dataset: &DataSet,
+    most: usize,
+    good_calls: usize,
+) -> Result<bool, Fail> {
     let text = room(alloc)?;
-    let mut writer = Watched::new(Narrow { text, good_calls });
+    let mut writer = Watched::new(Narrow {
+        text,
+        most,
+        good_calls,
+    });
     let outcome = write(alloc, &mut writer, dataset, 1);
-    let is_cut = writer.failures == 1
-        && writer.inner.text.len() == good_calls
+    let taken = good_calls.saturating_mul(most).min(TWO_GRAPHS.len());
+    let failures = if taken < TWO_GRAPHS.len() { 1 } else { 0 };
+    let is_cut = writer.failures == failures
+        && writer.inner.text.len() == taken
         && TWO_GRAPHS.as_bytes().starts_with(&writer.inner.text);
     drop(writer);
-    Ok(write_failed(outcome)? && is_cut)
+    Ok(write_failed(outcome)? == (failures == 1) && is_cut)
 }
 
 #[test]
 fn each_write_fails_once(rt: HostRuntime) -> Result<(), Fail> {
     let dataset = two_graphs(rt.alloc())?;
-    for good_calls in 0..TWO_GRAPHS.len() {
-        assert!(rt;
-            is_cut_at(rt.alloc(), &dataset, good_calls)?,
-            "{good_calls}"
-        );
+    for most in [1, 2, 3, 7, 1000] {
+        for good_calls in 0..=TWO_GRAPHS.len() {
+            assert!(rt;
+                is_cut_at(rt.alloc(), &dataset, most, good_calls)?,
+                "{most} {good_calls}"
+            );
+        }
     }
     Ok(())
 }
@@ -187,6 +199,7 @@ fn single_writes(rt: HostRuntime) -> Result<(), Fail> {
     let text = room(rt.alloc())?;
     let mut writer = Watched::new(Narrow {
         text,
+        most: 1,
         good_calls: 2,
     });
     assert!(rt; matches!(writer.write(b"ab"), Ok(1)));
@@ -204,6 +217,7 @@ fn whole_writes(rt: HostRuntime) -> Result<(), Fail> {
     let text = room(rt.alloc())?;
     let mut writer = Watched::new(Narrow {
         text,
+        most: 1,
         good_calls: 3,
     });
     assert!(rt; writer.write_all(b"bc").is_ok());
@@ -215,5 +229,77 @@ fn whole_writes(rt: HostRuntime) -> Result<(), Fail> {
     assert!(rt; writer.flush().is_err());
     assert_eq!(rt; writer.failures, 2);
     assert!(rt; writer.inner.text.as_slice() == b"bc".as_slice());
+    Ok(())
+}
+
+// A writer that takes nothing of a text fails. Of no text there is nothing to take.
+#[test]
+fn writes_of_nothing(rt: HostRuntime) -> Result<(), Fail> {
+    let text = room(rt.alloc())?;
+    let mut writer = Watched::new(Narrow {
+        text,
+        most: 0,
+        good_calls: 9,
+    });
+    assert!(rt; matches!(writer.write(b""), Ok(0)));
+    assert_eq!(rt; writer.failures, 0);
+    assert!(rt; writer.write_all(b"").is_ok());
+    assert_eq!(rt; writer.failures, 0);
+    assert!(rt; writer.write(b"a").is_err());
+    assert_eq!(rt; writer.failures, 1);
+    assert!(rt; writer.write_all(b"ab").is_err());
+    assert_eq!(rt; writer.failures, 2);
+    assert!(rt; writer.inner.text.is_empty() && writer.inner.good_calls == 6);
+    Ok(())
+}
+
+// What is written after a flush, be it an empty text, is to be flushed again.
+#[test]
+fn flushes(rt: HostRuntime) -> Result<(), Fail> {
+    let text = room(rt.alloc())?;
+    let mut writer = Watched::new(Narrow {
+        text,
+        most: 2,
+        good_calls: 0,
+    });
+    assert!(rt; !writer.is_flushed);
+    assert!(rt; writer.flush().is_err());
+    assert!(rt; writer.failures == 1 && !writer.is_flushed);
+    writer.inner.good_calls = 3;
+    assert!(rt; writer.flush().is_ok());
+    assert!(rt; writer.failures == 1 && writer.is_flushed);
+    assert!(rt; writer.write_all(b"").is_ok());
+    assert!(rt; writer.failures == 1 && !writer.is_flushed);
+    assert!(rt; writer.flush().is_ok());
+    assert!(rt; writer.failures == 1 && writer.is_flushed);
+    assert!(rt; writer.write_all(b"ab").is_ok());
+    assert!(rt; writer.failures == 1 && !writer.is_flushed);
+    assert!(rt; writer.flush().is_err());
+    assert!(rt; writer.failures == 2 && !writer.is_flushed);
+    Ok(())
+}
+
+/// Whether a reader fills up what is there to more than a limit, and later on to its end.
+fn is_filled(alloc: Global, limit: u8, more: &[u8], good_reads: usize) -> Result<bool, ReadFault> {
+    let mut bytes = b"ab".to_vec(alloc)?;
+    let mut reader = Watched::new(Slow {
+        rest: b"0123456789",
+        good_reads: 20,
+    });
+    let is_all = fill(&mut reader, &mut bytes, limit as usize)?;
+    let is_more = bytes.as_slice() == more && reader.inner.good_reads == good_reads;
+    if reader.failures != 0 {
+        return Ok(false);
+    }
+    let is_rest = fill(&mut reader, &mut bytes, 1000)?;
+    Ok(is_more && !is_all && is_rest && bytes.as_slice() == b"ab0123456789".as_slice())
+}
+
+#[test]
+fn fills_in_turn(rt: HostRuntime) -> Result<(), ReadFault> {
+    assert!(rt; is_filled(rt.alloc(), 0, b"ab", 20)?);
+    assert!(rt; is_filled(rt.alloc(), 1, b"ab", 20)?);
+    assert!(rt; is_filled(rt.alloc(), 2, b"ab0", 19)?);
+    assert!(rt; is_filled(rt.alloc(), 11, b"ab0123456789", 10)?);
     Ok(())
 }

@@ -75,8 +75,8 @@ pub fn are_short(block: &[Request<Id>]) -> bool
     block.iter().all(is_short)
 }
 
-// What a block over a base comes to, where it has at most a thousand requests.
-fn outcome(alloc: Global, numbered: &Numbered) -> Result<Option<Outcome>, AllocError> {
+/// What a block over a base comes to, request by request, where it has at most a thousand.
+pub fn outcome(alloc: Global, numbered: &Numbered) -> Result<Option<Outcome>, AllocError> {
     let block = numbered.block.as_slice();
     if block.len() > 1000 || !are_short(block) {
         return Ok(None);

@@ -11,13 +11,14 @@ use crate::numbered_blocks::{has_quads, numbered};
 use book::Book;
 use meaning::Reply;
 use numbering::Numbered;
-use reads::{IndexedView, View};
+use reads::IndexedView;
 use std::alloc::{AllocError, Global};
 use std::process::Abort;
 use std::test::Fail;
 
-/// A walk through the book of a block over an empty base.
+/// A walk through the book of a block over a base.
 pub struct Walk {
+    pub base: &'static str,
     pub block: &'static str,
     /// Who does what, and what it is told.
     pub lines: &'static [(u32, Step, Told)],
@@ -25,15 +26,26 @@ pub struct Walk {
     pub journal: &'static str,
     /// How many events are reads of runs.
     reads: usize,
-    /// How many requests are committed. Each adds a quad.
-    committed: usize,
+    /// The replies to the requests that are committed.
+    replies: &'static [Reply],
     quads: &'static str,
 }
 
-pub const WALKS: [Walk; 5] = [
+const ADDED: Reply = Reply::Done {
+    added: 1,
+    removed: 0,
+};
+
+const REMOVED: Reply = Reply::Done {
+    added: 0,
+    removed: 1,
+};
+
+pub const WALKS: [Walk; 6] = [
     // The second request runs before the first has published, and is checked after it. At last it
     // waits for the first one's commit.
     Walk {
+        base: "",
         block: "INSERT DATA { <x:a> <x:p> <x:b> }\n----\nINSERT DATA { <x:a> <x:p> <x:b> , <x:c> }",
         lines: &[
             (1, Take(1), Taken(0)),
@@ -77,11 +89,12 @@ pub const WALKS: [Walk; 5] = [
 02 commit 0001 > committed
 ",
         reads: 5,
-        committed: 2,
+        replies: &[ADDED, ADDED],
         quads: "+ <x:a> <x:p> <x:b>\n+ <x:a> <x:p> <x:c>\n",
     },
     // The second request, by a pattern, is published before the first, and checked after it.
     Walk {
+        base: "",
         block: "INSERT DATA { <x:a> <x:p> <x:b> }\n----\nINSERT { ?x <x:q> <x:c> } WHERE { ?x <x:p> ?y }",
         lines: &[
             (1, Take(1), Taken(0)),
@@ -122,11 +135,12 @@ pub const WALKS: [Walk; 5] = [
 01 commit 0001 > committed
 ",
         reads: 4,
-        committed: 2,
+        replies: &[ADDED, ADDED],
         quads: "+ <x:a> <x:p> <x:b>\n+ <x:a> <x:q> <x:c>\n",
     },
     // It is checked to its end before the first is published, so its stamp is too old to commit.
     Walk {
+        base: "",
         block: "INSERT DATA { <x:a> <x:p> <x:b> }\n----\nINSERT { ?x <x:q> <x:c> } WHERE { ?x <x:p> ?y }",
         lines: &[
             (1, Take(1), Taken(0)),
@@ -173,12 +187,13 @@ pub const WALKS: [Walk; 5] = [
 01 commit 0001 > committed
 ",
         reads: 4,
-        committed: 2,
+        replies: &[ADDED, ADDED],
         quads: "+ <x:a> <x:p> <x:b>\n+ <x:a> <x:q> <x:c>\n",
     },
     // The third request reads what the first has put in and the second has taken out since: its
     // answer is the same, but it came from others.
     Walk {
+        base: "",
         block: "\
             INSERT DATA { <x:a> <x:p> <x:b> }\n----\n\
             DELETE DATA { <x:a> <x:p> <x:b> }\n----\n\
@@ -207,12 +222,75 @@ pub const WALKS: [Walk; 5] = [
 02 check 0002 0 > aborted
 ",
         reads: 3,
-        committed: 0,
+        replies: &[],
         quads: "",
+    },
+    // The third request has read the quad of the base that the first takes out and the second puts
+    // in again: its answer is the same, but it came from others. So it runs once more.
+    Walk {
+        base: "<x:a> <x:p> <x:b> .\n",
+        block: "\
+            DELETE DATA { <x:a> <x:p> <x:b> }\n----\n\
+            INSERT DATA { <x:a> <x:p> <x:b> }\n----\n\
+            INSERT { ?s <x:q> ?o } WHERE { ?s <x:p> ?o }",
+        lines: &[
+            (2, Take(2), Taken(0)),
+            (2, Publish(2, 0), Published),
+            (0, Take(0), Taken(0)),
+            (0, Publish(0, 0), Published),
+            (1, Take(1), Taken(0)),
+            (1, Publish(1, 0), Published),
+            (2, Begin(2, 0), Begun),
+            (2, Check(2, 0), Aborted),
+            (0, Begin(0, 0), Begun),
+            (0, Check(0, 0), Passed),
+            (0, Commit(0), Committed),
+            (1, Begin(1, 0), Begun),
+            (1, Check(1, 0), Passed),
+            (1, Commit(1), Committed),
+            (2, Take(2), Taken(1)),
+            (2, Publish(2, 1), Published),
+            (2, Begin(2, 1), Begun),
+            (2, Check(2, 1), Passed),
+            (2, Check(2, 1), Passed),
+            (2, Commit(2), Committed),
+        ],
+        journal: "sparql-block journal 1
+02 take 0002 > taken 0
+02 read 0002 0 scan - <x:p> - default > answer 1
+02 read 0002 0 scan <x:a> <x:q> <x:b> default > answer 0
+02 publish 0002 0 > published
+00 take 0000 > taken 0
+00 read 0000 0 scan <x:a> <x:p> <x:b> default > answer 1
+00 publish 0000 0 > published
+01 take 0001 > taken 0
+01 read 0001 0 scan <x:a> <x:p> <x:b> default > answer 0
+01 publish 0001 0 > published
+02 begin 0002 0 > begun
+02 check 0002 0 > aborted
+00 begin 0000 0 > begun
+00 check 0000 0 > passed
+00 commit 0000 > committed
+01 begin 0001 0 > begun
+01 check 0001 0 > passed
+01 commit 0001 > committed
+02 take 0002 > taken 1
+02 read 0002 1 scan - <x:p> - default > answer 1
+02 read 0002 1 scan <x:a> <x:q> <x:b> default > answer 0
+02 publish 0002 1 > published
+02 begin 0002 1 > begun
+02 check 0002 1 > passed
+02 check 0002 1 > passed
+02 commit 0002 > committed
+",
+        reads: 6,
+        replies: &[REMOVED, ADDED, ADDED],
+        quads: "+ <x:a> <x:p> <x:b>\n+ <x:a> <x:q> <x:b>\n",
     },
     // A refused request reads nothing. Only who took it may publish it, and what is given up is not
     // committed.
     Walk {
+        base: "",
         block: "INSERT",
         lines: &[
             (0, Take(0), Taken(0)),
@@ -231,7 +309,7 @@ pub const WALKS: [Walk; 5] = [
 00 giveup 0000 0 > given
 ",
         reads: 0,
-        committed: 0,
+        replies: &[],
         quads: "",
     },
 ];
@@ -272,68 +350,41 @@ pub fn walked<'a>(
     Ok(book)
 }
 
-// Whether each of so many requests has added its quad.
-fn have_added(replies: &[Reply], count: usize) -> bool {
-    let one = Reply::Done {
-        added: 1,
-        removed: 0,
-    };
-    let mut so = replies.len() == count;
-    for reply in replies {
-        so = so && *reply == one;
-    }
-    so
-}
-
-// Whether each request that was to be committed has added its quad.
+// Whether the requests that were to be committed have their replies and come to the quads.
 fn is_come_to(alloc: Global, book: &Book<'_>, walk: &Walk) -> Result<bool, AllocError> {
     let outcome = book.outcome(alloc)?;
-    let have_added = have_added(outcome.replies.as_slice(), walk.committed);
+    let are_replies = outcome.replies.as_slice() == walk.replies;
     let has_quads = has_quads(alloc, book.terms(), &outcome.dataset, walk.quads);
     drop(outcome);
     let reads = book.journal().len().checked_sub(walk.lines.len());
-    Ok(have_added && has_quads? && reads == Some(walk.reads))
+    Ok(are_replies && has_quads? && reads == Some(walk.reads))
 }
 
-// Whether a walk over an empty base comes out.
-fn is_walked<'a>(
+// Whether a walk comes out, with its base and block at their numbers.
+fn is_walked(
     rt: &impl Abort,
     alloc: Global,
-    numbered: &'a Numbered,
-    base: &'a IndexedView,
+    numbered: &Numbered,
     walk: &Walk,
-) -> Result<bool, AllocError>
-    requires { IsDataset base.now }
-{
-    let book = walked(rt, alloc, numbered, base, walk.lines)?;
+) -> Result<bool, AllocError> {
+    let book = walked(rt, alloc, numbered, numbered.base.dataset(), walk.lines)?;
     let is_come_to = is_come_to(alloc, &book, walk);
     drop(book);
     is_come_to
 }
 
-// The same with the block at its numbers.
-fn comes_out(rt: &impl Abort, alloc: Global, base: &IndexedView, walk: &Walk) -> Result<bool, Fail>
-    requires { IsDataset base.now }
-{
-    let numbered = numbered(alloc, "", walk.block)?;
-    let is_walked = is_walked(rt, alloc, &numbered, base, walk);
+// Whether a walk comes out.
+fn comes_out(rt: &impl Abort, alloc: Global, walk: &Walk) -> Result<bool, Fail> {
+    let numbered = numbered(alloc, walk.base, walk.block)?;
+    let is_walked = is_walked(rt, alloc, &numbered, walk);
     drop(numbered);
     Ok(is_walked?)
 }
 
-fn check_walks(rt: &impl Abort, alloc: Global, base: &IndexedView) -> Result<(), Fail>
-    requires { IsDataset base.now }
-{
-    for walk in &WALKS {
-        assert!(rt; comes_out(rt, alloc, base, walk)?, "{}", walk.block);
-    }
-    Ok(())
-}
-
 #[test]
 fn walks(rt: HostRuntime) -> Result<(), Fail> {
-    let base = IndexedView::new(rt.alloc(), View::new(rt.alloc()), &[])?;
-    let checked = check_walks(&rt, rt.alloc(), &base);
-    drop(base);
-    checked
+    for walk in &WALKS {
+        assert!(rt; comes_out(&rt, rt.alloc(), walk)?, "{}", walk.block);
+    }
+    Ok(())
 }

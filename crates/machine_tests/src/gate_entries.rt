@@ -2,7 +2,7 @@
 
 use crate::blocks::are_short;
 use crate::lines::{Line, line_of, line_of_kept};
-use crate::numbered_blocks::{count_quads, numbered};
+use crate::numbered_blocks::{count_quads, numbered, repeated};
 use block_machine::Entry;
 use book::Book;
 use numbering::Numbered;
@@ -33,12 +33,19 @@ impl<'r, R: Wait> Gate for Sees<'r, R> {
 
 // Whether the journal has of a worker what the gate saw of it, in that order.
 fn has_seen(book: &Book<'_>, lines: &[(u32, Line)], worker: u32) -> bool {
-    let seen = lines.iter().filter(|line| line.0 == worker);
-    let kept = book
-        .journal()
-        .iter()
-        .filter(|entry| entry.worker() == worker);
-    seen.map(|line| line.1).eq(kept.map(line_of_kept))
+    let journal = book.journal();
+    let mut seen = lines.iter().filter(|line| line.0 == worker);
+    for place in 0..journal.len() {
+        let entry = journal.entry(place);
+        if entry.worker() != worker {
+            continue;
+        }
+        match seen.next() {
+            Some(line) if line.1 == line_of_kept(entry) => (),
+            _ => return false,
+        }
+    }
+    seen.next().is_none()
 }
 
 // Whether the journal has of each of four workers what the gate saw of it and nothing else.
@@ -52,63 +59,65 @@ fn is_outcome(alloc: Global, book: &Book<'_>) -> Result<bool, AllocError> {
     Ok(outcome.replies.len() == 64 && count_quads(&outcome.dataset) == 2)
 }
 
-// Whether four workers, watched by a gate, run the block so.
+// Whether so many workers, watched by a gate, run the block so.
 fn is_run<'a, R: Threads + Wait + Sync>(
     rt: &R,
     alloc: Global,
     numbered: &'a Numbered,
+    workers: u32,
     gate: &Sees<'_, R>,
 ) -> Result<bool, AllocError> {
     let block = numbered.block.as_slice();
-    if block.len() > 1000 || !are_short(block) {
+    if workers == 0 || workers > 4 || block.len() > 1000 || !are_short(block) {
         return Ok(false);
     }
     let (terms, base) = (numbered.base.terms(), numbered.base.dataset());
-    let book = run_book(rt, alloc, terms, base, block, 4, gate)?;
+    let book = run_book(rt, alloc, terms, base, block, workers, gate)?;
     let are_seen = has_all(&book, gate.lines.lock(rt).as_slice());
     let is_outcome = is_outcome(alloc, &book);
     drop(book);
     Ok(are_seen && is_outcome?)
 }
 
-// Whether the gate sees all that they do.
-fn run_four<R: Threads + Wait + Sync>(
+// Whether the gate sees all that so many workers do.
+fn is_seen<R: Threads + Wait + Sync>(
     rt: &R,
     alloc: Global,
     numbered: &Numbered,
+    workers: u32,
 ) -> Result<bool, AllocError> {
     let gate = Sees {
         rt,
         lines: Mutex::new(Vec::new(alloc)),
         is_full: AtomicBool::new(false),
     };
-    Ok(is_run(rt, alloc, numbered, &gate)? && !gate.is_full.load(Ordering::SeqCst))
+    Ok(is_run(rt, alloc, numbered, workers, &gate)? && !gate.is_full.load(Ordering::SeqCst))
 }
 
 const BLOCK: &str =
     "INSERT DATA { <x:a> <x:p> <x:b> }\n----\nINSERT DATA { <x:a> <x:p> <x:b> , <x:c> }";
 
-// A block again and again, 32 times.
-fn long_block(alloc: Global, block: &str) -> Result<String, AllocError> {
-    let mut text = String::from_str(alloc, block)?;
-    for _ in 1..32 {
-        text.push_str("\n----\n")?;
-        text.push_str(block)?;
-    }
-    Ok(text)
+// That block 32 times, at its numbers.
+fn long_numbered(alloc: Global) -> Result<Numbered, Fail> {
+    let block = repeated(alloc, BLOCK, 32)?;
+    numbered(alloc, "", block.as_str())
 }
 
-// That block at its numbers.
-fn long_numbered(alloc: Global) -> Result<Numbered, Fail> {
-    let block = long_block(alloc, BLOCK)?;
-    numbered(alloc, "", block.as_str())
+// Of one worker the gate sees the journal, line by line.
+#[test]
+fn one_thread(rt: HostRuntime) -> Result<(), Fail> {
+    let numbered = long_numbered(rt.alloc())?;
+    let is_seen = is_seen(&rt, rt.alloc(), &numbered, 1);
+    drop(numbered);
+    assert!(rt; is_seen?);
+    Ok(())
 }
 
 #[test]
 fn four_threads(rt: HostRuntime) -> Result<(), Fail> {
     let numbered = long_numbered(rt.alloc())?;
-    let is_run = run_four(&rt, rt.alloc(), &numbered);
+    let is_seen = is_seen(&rt, rt.alloc(), &numbered, 4);
     drop(numbered);
-    assert!(rt; is_run?);
+    assert!(rt; is_seen?);
     Ok(())
 }

@@ -13,6 +13,10 @@ mod book_steps;
 #[cfg(test)]
 mod books;
 #[cfg(test)]
+mod conflicts;
+#[cfg(test)]
+mod counters;
+#[cfg(test)]
 mod gate_entries;
 #[cfg(test)]
 mod lines;
@@ -32,3 +36,7 @@ mod requests;
 mod sharing;
 #[cfg(test)]
 mod single_worker;
+#[cfg(test)]
+mod waiting_calls;
+#[cfg(test)]
+mod waits;

@@ -1,6 +1,7 @@
 //! What workers do and are told, without terms.
 use block_machine::{Entry, Event, Reply};
-use book::{Kept, PackedEntry, Shown};
+use book::{Kept, PackedEntry, Shown, count};
+use datasets::{Id, Read};
 
 /// What a worker does: an event at the request of a place, where it matters with its incarnation.
 #[derive(Clone, Copy, PartialEq, Eq)]
@@ -39,6 +40,9 @@ pub enum Told {
 pub struct Line {
     pub step: Step,
     pub told: Told,
+    /// What was asked, where it was answered, with how many quads or names, or 0 or 1 for whether
+    /// a graph is there.
+    pub answer: Option<(Read<Id>, u64)>,
 }
 
 /// The kind of a reply.
@@ -59,6 +63,36 @@ pub fn told_by(reply: &Reply) -> Told {
     }
 }
 
+// How many quads or names a reply has, or 0 or 1 for whether a graph is there.
+fn count_of(reply: &Reply) -> u64 {
+    match reply {
+        Reply::Answered(answer) => count(answer),
+        _ => 0,
+    }
+}
+
+/// The kind of a reply, with that number.
+pub fn told_with_count(reply: &Reply) -> (Told, u64) {
+    (told_by(reply), count_of(reply))
+}
+
+// What an event asked, where this reply answers it.
+fn answer_of(event: &Event, reply: &Reply) -> Option<(Read<Id>, u64)> {
+    match (event, reply) {
+        (Event::Read(_, _, read), Reply::Answered(answer)) => Some((*read, count(answer))),
+        _ => None,
+    }
+}
+
+// An answered read as a line.
+fn line_of_read(i: usize, n: u64, read: Read<Id>, count: u64) -> Line {
+    Line {
+        step: Step::Read(i, n),
+        told: Told::Answered,
+        answer: Some((read, count)),
+    }
+}
+
 // An event and its reply as a line.
 fn line_by(event: &Event, reply: &Reply) -> Line {
     let step = match event {
@@ -73,6 +107,7 @@ fn line_by(event: &Event, reply: &Reply) -> Line {
     Line {
         step,
         told: told_by(reply),
+        answer: answer_of(event, reply),
     }
 }
 
@@ -84,13 +119,11 @@ pub fn line_of(entry: &Entry) -> Line {
 // What a journal keeps of an event and its reply, as a line.
 fn line_of_whole(kept: &Kept) -> Line {
     match kept {
-        Kept::Answered(i, n, _, _) => Line {
-            step: Step::Read(*i, *n),
-            told: Told::Answered,
-        },
+        Kept::Answered(i, n, read, count) => line_of_read(*i, *n, *read, *count),
         Kept::Published(i, n, _, _) => Line {
             step: Step::Publish(*i, *n),
             told: Told::Published,
+            answer: None,
         },
         Kept::Other(event, reply) => line_by(event, reply),
     }
@@ -99,10 +132,7 @@ fn line_of_whole(kept: &Kept) -> Line {
 /// An entry of a journal as a line.
 pub fn line_of_kept(entry: &PackedEntry) -> Line {
     match entry.shown() {
-        Shown::Answered(i, n, _, _) => Line {
-            step: Step::Read(i, n),
-            told: Told::Answered,
-        },
+        Shown::Answered(i, n, read, count) => line_of_read(i, n, read, count),
         Shown::Other(event, reply) => line_by(&event, &reply),
         Shown::Whole(kept) => line_of_whole(kept),
     }

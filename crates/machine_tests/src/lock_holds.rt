@@ -4,12 +4,11 @@ ghost use Rattle.shared.specs.Calls.{IsSoundAt};
 ghost use Rattle.shared.specs.Duty.{IsPassFor};
 
 use crate::book_inputs::Topic;
-use crate::lines::{Step, Told, told_by};
+use crate::lines::{Step, Told, told_by, told_with_count};
 use crate::numbered_blocks::{numbered, request_at};
 use crate::sharing::{BLOCK, are_told, opened_alone, opened_by_two};
 use crate::single_worker::{executed, published};
 use block_machine::Reply;
-use book::count;
 use datasets::{GraphPlace, QuadPattern, Read};
 use delta::Finished;
 use reads::{IndexedView, Scanned, View};
@@ -203,11 +202,7 @@ fn replies_to_publication<R: Wait>(
 fn told(alloc: Global, replies: &[Reply]) -> Result<Vec<(Told, u64)>, AllocError> {
     let mut told = Vec::new(alloc);
     for reply in replies {
-        let answered = match reply {
-            Reply::Answered(answer) => count(answer),
-            _ => 0,
-        };
-        told.push((told_by(reply), answered))?;
+        told.push(told_with_count(reply))?;
     }
     Ok(told)
 }

@@ -115,6 +115,16 @@ pub fn tell_quads(
     Ok(())
 }
 
+/// The quads of a dataset, each a line with a sign before it.
+pub fn quads_of(alloc: Global, terms: &Dict, dataset: &CompactView) -> Result<Vec<u8>, AllocError> {
+    let mut text = Vec::new(alloc);
+    for piece in dataset.quads() {
+        let list = piece.quads(alloc)?;
+        tell_quads(alloc, terms, b'+', &list, &mut text)?;
+    }
+    Ok(text)
+}
+
 /// Whether these are the quads of a dataset, each a line with a sign before it.
 pub fn has_quads(
     alloc: Global,
@@ -122,12 +132,18 @@ pub fn has_quads(
     dataset: &CompactView,
     quads: &str,
 ) -> Result<bool, AllocError> {
-    let mut text = Vec::new(alloc);
-    for piece in dataset.quads() {
-        let list = piece.quads(alloc)?;
-        tell_quads(alloc, terms, b'+', &list, &mut text)?;
-    }
+    let text = quads_of(alloc, terms, dataset)?;
     Ok(text.as_slice() == quads.as_bytes())
+}
+
+/// A text again and again, so many times, with the line that parts requests between them.
+pub fn repeated(alloc: Global, request: &str, times: u32) -> Result<String, AllocError> {
+    let mut text = String::from_str(alloc, request)?;
+    for _ in 1..times {
+        text.push_str("\n----\n")?;
+        text.push_str(request)?;
+    }
+    Ok(text)
 }
 
 /// How many quads a dataset has.

@@ -1,7 +1,9 @@
 //! Blocks run by a pool whose gate holds workers up until others have got on.
 
 use crate::blocks::are_short;
+use crate::counters::{counter, is_counted_by};
 use crate::numbered_blocks::{has_quads, numbered};
+use crate::waits::Count;
 use block_machine::{Entry, Event, Reply};
 use meaning::Reply as Answer;
 use numbering::Numbered;
@@ -327,5 +329,80 @@ const TOGETHER: Row = Row {
 #[test]
 fn eight_together(rt: HostRuntime) -> Result<(), Fail> {
     assert!(rt; comes_out(&rt, rt.alloc(), &TOGETHER)?);
+    Ok(())
+}
+
+/// Lets one of two workers begin first: the other one is held after its take until the first has
+/// published a run, and then the first until the other has published one.
+#[derive(Drop)]
+struct Turns<'r, R: Wait> {
+    rt: &'r R,
+    first: u32,
+    // How many runs the first worker has published, and how many the other.
+    by_first: Count,
+    by_other: Count,
+    // How many waits were too long.
+    given_up: Count,
+}
+
+impl<'r, R: Wait> Turns<'r, R> {
+    // A worker has published a run.
+    fn publish(&self, worker: u32) {
+        if worker == self.first {
+            self.by_first.raise();
+            self.by_other.await_least(self.rt, 1, &self.given_up);
+        } else {
+            self.by_other.raise();
+        }
+    }
+}
+
+impl<'r, R: Wait> Gate for Turns<'r, R> {
+    fn after(&self, worker: u32, entry: &Entry) {
+        match step_of(entry) {
+            Some((Step::Published, _)) => self.publish(worker),
+            Some((Step::Taken, _)) if worker != self.first => {
+                self.by_first.await_least(self.rt, 1, &self.given_up);
+            }
+            _ => {}
+        }
+    }
+}
+
+// Whether two workers, of which this one begins, count the requests.
+fn count_by_turns<R: Threads + Wait + Sync>(
+    rt: &R,
+    alloc: Global,
+    numbered: &Numbered,
+    first: u32,
+) -> Result<bool, AllocError> {
+    let gate = Turns {
+        rt,
+        first,
+        by_first: Count::new(),
+        by_other: Count::new(),
+        given_up: Count::new(),
+    };
+    let is_counted = is_counted_by(rt, alloc, numbered, 2, &gate);
+    let given_up = gate.given_up.get();
+    drop(gate);
+    Ok(is_counted? && given_up == 0)
+}
+
+// Whether they do, whoever begins.
+fn count_in_both_orders<R: Threads + Wait + Sync>(
+    rt: &R,
+    alloc: Global,
+    numbered: &Numbered,
+) -> Result<bool, AllocError> {
+    Ok(count_by_turns(rt, alloc, numbered, 0)? && count_by_turns(rt, alloc, numbered, 1)?)
+}
+
+#[test]
+fn gates_that_sleep(rt: HostRuntime) -> Result<(), Fail> {
+    let numbered = counter(rt.alloc(), 8)?;
+    let are_counted = count_in_both_orders(&rt, rt.alloc(), &numbered);
+    drop(numbered);
+    assert!(rt; are_counted?);
     Ok(())
 }

@@ -61,47 +61,34 @@ fn is_replayed(
     are_replayed(alloc, numbered, base, lines.as_slice(), journal)
 }
 
-// Whether the journal of a walk has its text, and is replayed to a book whose journal has it too.
-fn is_walk_replayed<'a>(
+// The same of a walk, with its base and block at their numbers.
+fn is_walk_replayed(
     rt: &impl Abort,
     alloc: Global,
-    numbered: &'a Numbered,
-    base: &'a IndexedView,
+    numbered: &Numbered,
     walk: &Walk,
-) -> Result<bool, JournalFault>
-    requires { IsDataset base.now }
-{
+) -> Result<bool, JournalFault> {
+    let base = numbered.base.dataset();
     let book = walked(rt, alloc, numbered, base, walk.lines)?;
     let is_replayed = is_replayed(alloc, numbered, base, &book, walk.journal);
     drop(book);
     is_replayed
 }
 
-// The same of a walk over an empty base.
-fn replays(rt: &impl Abort, alloc: Global, base: &IndexedView, walk: &Walk) -> Result<bool, Fail>
-    requires { IsDataset base.now }
-{
-    let numbered = numbered(alloc, "", walk.block)?;
-    let is_replayed = is_walk_replayed(rt, alloc, &numbered, base, walk);
+// Whether a walk is.
+fn replays(rt: &impl Abort, alloc: Global, walk: &Walk) -> Result<bool, Fail> {
+    let numbered = numbered(alloc, walk.base, walk.block)?;
+    let is_replayed = is_walk_replayed(rt, alloc, &numbered, walk);
     drop(numbered);
     Ok(is_replayed?)
 }
 
-fn check_replays(rt: &impl Abort, alloc: Global, base: &IndexedView) -> Result<(), Fail>
-    requires { IsDataset base.now }
-{
-    for walk in &WALKS {
-        assert!(rt; replays(rt, alloc, base, walk)?, "{}", walk.block);
-    }
-    Ok(())
-}
-
 #[test]
 fn walks_replay(rt: HostRuntime) -> Result<(), Fail> {
-    let base = IndexedView::new(rt.alloc(), View::new(rt.alloc()), &[])?;
-    let checked = check_replays(&rt, rt.alloc(), &base);
-    drop(base);
-    checked
+    for walk in &WALKS {
+        assert!(rt; replays(&rt, rt.alloc(), walk)?, "{}", walk.block);
+    }
+    Ok(())
 }
 
 /// A check of a request's first run behind some steps over an empty base, whether it is wanted to

@@ -202,8 +202,8 @@ fn alone_goes(alloc: Global, topic: &Topic<'_>) -> Result<bool, AllocError>
     Ok(went)
 }
 
-// A numbered block over a base of its own.
-fn topic_of<'a>(numbered: &'a Numbered, base: &'a IndexedView) -> Topic<'a>
+/// A numbered block over a base of its own.
+pub fn topic_of<'a>(numbered: &'a Numbered, base: &'a IndexedView) -> Topic<'a>
     ensures { result.base ≡ base.now }
 {
     Topic {

@@ -85,7 +85,11 @@ fn a_file_is_not_replaced_in_part(rt: HostRuntime) -> Result<(), Fail> {
         file.write_all(b"new")?;
     }
     assert!(rt; has_text(&rt, "old.nq", "old")?);
-    for path in ["none.nq", "old.nq.sparql-block-new", "none.nq.sparql-block-new"] {
+    for path in [
+        "none.nq",
+        "old.nq.sparql-block-new",
+        "none.nq.sparql-block-new",
+    ] {
         assert!(rt; fs::metadata(&rt, path).is_err(), "{path}");
     }
     Ok(())
@@ -98,7 +102,11 @@ fn a_link_is_written_through(rt: HostRuntime) -> Result<(), Fail> {
     symlink(&rt, "old.nq", "link.nq")?;
     write_to(&rt, "link.nq", "new")?;
     assert!(rt; has_text(&rt, "old.nq", "new")?);
-    assert!(rt; fs::symlink_metadata(&rt, "link.nq")?.file_type().is_symlink());
+    assert!(rt;
+        fs::symlink_metadata(&rt, "link.nq")?
+            .file_type()
+            .is_symlink()
+    );
     Ok(())
 }
 
