@@ -1,31 +1,31 @@
 /* Refuses one allocation of a program that is run with this library preloaded: the one whose number, counted
-   from 1, the variable REFUSE gives. At the end it writes how many were asked for to the file that COUNTED names. */
+   from 1, the variable REFUSE gives. At the end it writes how many were asked for to the file that COUNTED names.
+   A shell that starts the program is let be. */
 #include <errno.h>
+#include <fcntl.h>
 #include <stdio.h>
 #include <stdlib.h>
+#include <string.h>
 #include <sys/syscall.h>
 #include <unistd.h>
 
+extern char *program_invocation_short_name;
+
 static unsigned long asked;
 static unsigned long refused;
-static int ready;
 
-static void begin(void) {
-  if (!ready) {
-    const char *number = getenv("REFUSE");
-    ready = 1;
-    refused = number ? strtoul(number, NULL, 10) : 0;
-  }
+__attribute__((constructor)) static void begin(void) {
+  const char *number = getenv("REFUSE");
+  if (number && strcmp(program_invocation_short_name, "sh") != 0) refused = strtoul(number, NULL, 10);
+  /* what the loader asked for before is not the program's */
+  asked = 0;
 }
 
 static int is_refused(void) {
-  begin();
-  asked++;
-  if (asked == refused) {
-    errno = ENOMEM;
-    return 1;
-  }
-  return 0;
+  /* threads count too */
+  if (__atomic_add_fetch(&asked, 1, __ATOMIC_RELAXED) != refused) return 0;
+  errno = ENOMEM;
+  return 1;
 }
 
 extern void *__libc_malloc(size_t);
@@ -49,15 +49,15 @@ int posix_memalign(void **place, size_t alignment, size_t size) {
   return *place ? 0 : ENOMEM;
 }
 
+/* It takes no memory, so that it counts nothing. */
 static void end(void) {
   const char *name = getenv("COUNTED");
-  unsigned long all = asked;
-  if (name) {
-    FILE *file = fopen(name, "w");
-    if (file) {
-      fprintf(file, "%lu\n", all);
-      fclose(file);
-    }
+  char text[32];
+  int length = snprintf(text, sizeof text, "%lu\n", asked);
+  int file = name ? open(name, O_WRONLY | O_CREAT | O_TRUNC, 0600) : -1;
+  if (file >= 0) {
+    if (write(file, text, length) != length) abort();
+    close(file);
   }
 }
 
