@@ -1,6 +1,7 @@
 -- What a walk has found, and what those steps that are left are refused for.
-use Rattle.std.proofs.Common.{◌≡◌, ℕ, ◌+◌, ◌<◌, Bool, true, false, List, [], ◌∷◌, length, get_or, drop, refl, sym, ap, subst, ◌∙◌}
-use Rattle.std.proofs.lemmas.List.{drop_more}
+use Rattle.std.proofs.Common.{◌≡◌, ℕ, ◌+◌, ◌<◌, ◌≤◌, ◌++◌, Bool, true, false, List, [], ◌∷◌, length, get_or, drop, refl, sym, ap, subst, ◌∙◌}
+use Rattle.std.proofs.lemmas.List.{append-nil, drop_more}
+use Rattle.std.proofs.Math.ListN.{drop_of_length-le}
 use Rattle.std.specs.Prelude.{◌||◌}
 use Rattle.meaning.specs.declared.reply.Refusal.TheVariants as refusal
 use Rattle.syntax_trees.specs.declared.tree.Operation.{Operation}
@@ -47,6 +48,21 @@ stepped s xs i x y w w' all lt is e further are =
     let rest : drop i s.steps ≡ y ∷ drop (i + 1) s.steps =
     ap (drop i) (sym all) ∙ drop_more xs i x lt ∙ (let first = sym is ∙ e in λ j. first j ∷ drop (i + 1) (all j)) in
     subst (λ (k : Kinds). AreKindsIn s k) (ap (kinds_with w) rest ∙ sym (further (drop (i + 1) s.steps))) are
+
+-- a step further in steps that others follow
+pub steps_further : (xs : List Step) (i : ℕ) (x y : Step) (w w' : Walk) → i < length xs → x ≡ get_or xs i x → x ≡ y → ((steps : List Step) → kinds_with w' steps ≡ kinds_with w (y ∷ steps))
+    → (rest : List Step) → kinds_with w' (drop (i + 1) xs ++ rest) ≡ kinds_with w (drop i xs ++ rest)
+steps_further xs i x y w w' lt is e further rest =
+    let left : drop i xs ≡ y ∷ drop (i + 1) xs = drop_more xs i x lt ∙ ap (λ (s : Step). s ∷ drop (i + 1) xs) (sym is ∙ e) in
+    further (drop (i + 1) xs ++ rest) ∙ sym (ap (λ (ss : List Step). kinds_with w (ss ++ rest)) left)
+
+pub steps_done : (xs : List Step) (i : ℕ) (w : Walk) → length xs ≤ i → (rest : List Step) → kinds_with w rest ≡ kinds_with w (drop i xs ++ rest)
+steps_done xs i w le rest = sym (ap (λ (ss : List Step). kinds_with w (ss ++ rest)) (drop_of_length-le xs le))
+
+-- all steps of a request
+pub all_seen : (s : Syntax) (w w' : Walk) (xs : List Step) (kinds : Kinds) → xs ≡ s.steps → AreKindsIn s (kinds_with w s.steps) → ((rest : List Step) → kinds_with w' rest ≡ kinds_with w (xs ++ rest))
+    → kinds ≡ kinds_with w' [] → AreKindsIn s kinds
+all_seen s w w' xs kinds same are further is = subst (λ (k : Kinds). AreKindsIn s k) (sym (is ∙ further [] ∙ ap (kinds_with w) (append-nil xs ∙ same))) are
 
 -- nothing is left
 none_left : (found : Bool) → found ≡ (found || false)

@@ -9,4 +9,4 @@ mod kinds;
 mod walk;
 
 pub use kinds::Kinds;
-pub use walk::{Walk, kinds_in};
+pub use walk::{Walk, kinds_in, see_steps};

@@ -1,6 +1,7 @@
 //! A walk over the steps of a request, in which its faults are found.
-ghost use Rattle.std.specs.Prelude.{◌≡◌, ◌||◌, ◌^◌, ◌∷◌, [], List, nat_lt, IfOk, OnOk};
+ghost use Rattle.std.specs.Prelude.{◌≡◌, ◌||◌, ◌^◌, ◌<◌, ◌∷◌, ◌++◌, [], List, nat_lt, IfOk, OnOk};
 ghost use Rattle.syntax_trees.specs.declared.tree.Step.{Step};
+ghost use Rattle.syntax_trees.specs.declared.tree.Syntax.{Syntax};
 ghost use Rattle.syntax_trees.specs.declared.tree.Step.TheVariants as step;
 ghost use Rattle.names.specs.Names.{declare};
 ghost use Rattle.faults.specs.Faults.{operation_count};
@@ -65,6 +66,17 @@ impl<'a> Walk<'a> {
         }
     }
 
+    /// The walk before the first step of a request of more than 2^20 bytes. It takes no memory.
+    pub fn of_long_text(alloc: Global) -> Walk<'a>
+        ensures { (s : Syntax) → 2 ^ 20 < s.length → AreKindsIn s (kinds_with result s.steps) }
+    {
+        Walk {
+            prefixes: Prefixes::new(alloc),
+            seen: Labels::new(alloc),
+            kinds: Kinds::new(true),
+        }
+    }
+
     /// The next step, a declaration. An error comes only where a growth was refused.
     pub fn declare(&mut self, prefix: &Piece<'a>, iri: &IriText<'a>) -> Result<(), AllocError>
         ensures kinds { OnOk result ((rest : List Step) → kinds_with self.new rest
@@ -121,6 +133,21 @@ fn take<'a>(alloc: Global, walk: &mut Walk<'a>, next: &Step<'a>) -> Result<(), A
     }
 }
 
+/// The next steps of a request. An error comes as for `kinds_in`.
+pub fn see_steps<'a>(
+    alloc: Global,
+    walk: &mut Walk<'a>,
+    steps: &[Step<'a>],
+) -> Result<(), AllocError>
+    ensures { OnOk result ((rest : List Step) → kinds_with walk.new rest
+        ≡ kinds_with walk.old (steps.now ++ rest)) }
+{
+    for step in steps {
+        take(alloc, walk, step)?;
+    }
+    Ok(())
+}
+
 /// The kinds of fault that a request is refused for (SPARQL 1.1 Update, 19.8, notes 8 to 12, and
 /// the limits of this program), found in one walk. An error comes only where a growth was refused,
 /// or where INSERT DATA has 2^32 labels.
@@ -128,8 +155,6 @@ pub fn kinds_in(alloc: Global, syntax: &Syntax<'_>) -> Result<Kinds, AllocError>
     ensures { IfOk result (AreKindsIn syntax.now) }
 {
     let mut walk = Walk::new(alloc, syntax);
-    for step in syntax.steps.as_slice() {
-        take(alloc, &mut walk, step)?;
-    }
+    see_steps(alloc, &mut walk, syntax.steps.as_slice())?;
     Ok(walk.kinds())
 }

@@ -4,3 +4,6 @@ pub mod ChangeLaws
 pub mod OperationLaws
 pub mod StepLaws
 pub mod RequestLaws
+pub mod TailLaws
+pub mod EndLaws
+pub mod FrontLaws

@@ -49,7 +49,7 @@ pub passes_on : (tokens : List Token) (r : Result (List Step) Stop) (e f : Stop)
 passes_on tokens r e f r-is e-is fails = subst (λ (r : Result (List Step) Stop). AreRead tokens r) (sym (r-is ∙ ap (λ (e : Stop). let r : Result (List Step) Stop = Err e in r) e-is)) fails
 
 module _ (below : Below) where
-  nothing_left : {ss : List Step} → ReadsRequest [] ss → ss ≡ []
+  pub nothing_left : {ss : List Step} → ReadsRequest [] ss → ss ≡ []
   nothing_left nothing = refl
   nothing_left (prefix word r) = absurd (let taken = keyword_takes word in omega arith)
   nothing_left (last is) = absurd (no_tokens below is)

@@ -2,7 +2,8 @@
 //! and groups (SPARQL 1.1 Update, 19.8).
 //!
 //! Stands on `groups`, `triples`, `productions`, `lexer` and `syntax_trees`. Used above: `parse`
-//! gives the one reading of a text, or the text has none.
+//! gives the one reading of a text, or the text has none; `front_steps` gives the first steps of a
+//! reading.
 #![tactic(auto)]
 
 mod graphs;
@@ -11,4 +12,4 @@ mod operation;
 mod request;
 mod updates;
 
-pub use request::parse;
+pub use request::{front_steps, parse};

@@ -1,12 +1,14 @@
 //! Declarations of prefixes, and requests.
 ghost use Rattle.std.specs.Prelude.{◌≡◌, MatchOption, IfOk, None, Some};
 ghost use Rattle.grammar.specs.Reads.{IsParsed};
+ghost use Rattle.grammar.specs.Fronts.{IsFrontRead};
 ghost use Rattle.productions.specs.Steps.{Gives};
 ghost use Rattle.grammar.specs.Reading.{namespace_at, reference_at, declared_at, ended_at, done_at, step_at, AreRead, IsRead};
 
 use crate::laws::quads_and_groups_are_read;
 use crate::operation::operation_at;
-use lexer::{IriText, Piece, Sign, Stop, Token, tokens};
+use lexer::laws::one_cut;
+use lexer::{IriText, Piece, Sign, Stop, Token, step_tokens, tokens};
 use productions::{after_keyword, kept};
 use sets::Items;
 use std::alloc::{AllocError, Global};
@@ -111,6 +113,20 @@ fn read(alloc: Global, text: &str) -> Result<Items<Step<'_>>, Stop>
 {
     let tokens = tokens(alloc, text)?;
     steps_of(alloc, tokens.as_slice())
+}
+
+/// The first steps of a text, to where one may end, and the text that follows them, which is
+/// shorter. So the tokens and the tree of one operation are in memory, and not those of a whole
+/// request. `NoReading` comes only where the text has none, `Memory` only where a growth was
+/// refused.
+pub fn front_steps(alloc: Global, text: &[u8]) -> Result<(Items<Step<'_>>, &[u8]), Stop>
+    ensures { IsFrontRead text.now result }
+{
+    one_cut();
+    quads_and_groups_are_read();
+    let (tokens, rest) = step_tokens(alloc, text)?;
+    let steps = steps_of(alloc, tokens.as_slice())?;
+    Ok((steps, rest))
 }
 
 /// The reading of a request's text (SPARQL 1.1 Update, 19.8), which has one at most. `None` comes

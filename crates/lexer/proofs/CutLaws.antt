@@ -130,7 +130,7 @@ data BeginsWith (text : List ℕ) (all : List Token) : Type 0 where
   begins : (front rest : List ℕ) (t : Token) (ts : List Token) → IsLongest text front rest t → Cuts rest ts → all ≡ t ∷ ts → BeginsWith text all
   ends : text ≡ [] → all ≡ [] → BeginsWith text all
 
-skip_len : (inside : Bool) (bs : List ℕ) → length (skip_from inside bs) ≤ length bs
+pub skip_len : (inside : Bool) (bs : List ℕ) → length (skip_from inside bs) ≤ length bs
 skip_len inside [] = omega arith
 skip_len true (b ∷ bs) =
     let t = skip_len true bs in

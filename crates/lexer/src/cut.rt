@@ -1,11 +1,12 @@
 //! All tokens of a text.
-ghost use Rattle.std.specs.Prelude.{◌≡◌, IfOk, IfErr, Some, None};
+ghost use Rattle.std.specs.Prelude.{◌≡◌, ◌+◌, ◌<◌, ◌^◌, IfOk, IfErr, Some, None};
 ghost use Rattle.lexer.specs.Reading.{NoneAhead, token_at};
-ghost use Rattle.lexer.specs.Gives.{IsCut};
+ghost use Rattle.lexer.specs.Ends.{depth_after, is_end};
+ghost use Rattle.lexer.specs.Gives.{IsCut, IsFrontCut};
 
 use crate::scan::{edge_at, skip, token_at};
 use crate::stop::Stop;
-use crate::token::Token;
+use crate::token::{Sign, Token};
 use iris::laws::runs_are_longest;
 use std::alloc::Global;
 
@@ -52,4 +53,52 @@ pub fn tokens(alloc: Global, text: &str) -> Result<Vec<Token<'_>>, Stop>
     ensures { IsCut text.now result }
 {
     tokens_of(alloc, text.as_bytes())
+}
+
+/// How many braces are open behind a token, where so many are before it.
+fn depth_after(token: &Token<'_>, depth: usize) -> usize
+    requires { depth + 1 < 2 ^ 64 }
+    ensures { result ≡ depth_after token.now depth }
+{
+    match token {
+        Token::Sign(Sign::OpenBrace) => depth + 1,
+        Token::Sign(Sign::CloseBrace) => depth.saturating_sub(1),
+        _ => depth,
+    }
+}
+
+/// Whether a token is a `;`, and no brace is open.
+fn is_end(token: &Token<'_>, depth: usize) -> bool
+    ensures { result ≡ is_end token.now depth }
+{
+    match token {
+        Token::Sign(Sign::Semicolon) => depth == 0,
+        _ => false,
+    }
+}
+
+/// The tokens at the front of a text, to the first `;` outside braces, which is the last of them,
+/// or to the text's end; and the text that follows them. `NoReading` comes only where the text
+/// can't be cut into tokens, `Memory` only where a growth was refused.
+pub fn step_tokens(alloc: Global, text: &[u8]) -> Result<(Vec<Token<'_>>, &[u8]), Stop>
+    ensures { IsFrontCut text.now result }
+{
+    runs_are_longest();
+    let mut tokens = Vec::new(alloc);
+    let mut rest = skip(text);
+    let most = rest.len();
+    let mut edge = most;
+    let mut depth = 0;
+    while !rest.is_empty() {
+        edge = edge_at(rest, edge);
+        let (token, after) = longest(rest, edge)?;
+        let ends = is_end(&token, depth);
+        depth = depth_after(&token, depth);
+        tokens.push(token)?;
+        rest = skip(after);
+        if ends {
+            return Ok((tokens, rest));
+        }
+    }
+    Ok((tokens, rest))
 }

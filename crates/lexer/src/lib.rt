@@ -1,7 +1,7 @@
 //! The tokens of a request, as slices of its text.
 //!
 //! Stands on `iris`. Used above: `tokens` gives the one list of tokens that the text is cut into,
-//! or there is none.
+//! or there is none; `step_tokens` gives the first of them, to where a step may end.
 #![tactic(auto)]
 
 mod cut;
@@ -15,7 +15,7 @@ mod strings;
 mod tags;
 mod token;
 
-pub use cut::tokens;
+pub use cut::{step_tokens, tokens};
 pub use pieces::{
     AnyForm, Digits, DigitsForm, Form, FormedPiece, IriForm, IriText, Label, LabelForm, LocalForm,
     LocalPart, Piece, Quoted, Tag,

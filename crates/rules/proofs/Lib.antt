@@ -3,3 +3,4 @@ pub mod CutLaws
 pub mod SideLaws
 pub mod Sent
 pub mod TermLaws
+pub mod LongLaws

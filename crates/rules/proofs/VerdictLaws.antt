@@ -199,7 +199,7 @@ unread_checked text o parsed is = record {
 
 -- ---- the same without the update
 
-judged_is : (text : List ℕ) (s : Syntax) → IsParsed text (Some s) → (r : Option Refusal) → IsFirstFault s r → IsJudged text r
+pub judged_is : (text : List ℕ) (s : Syntax) → IsParsed text (Some s) → (r : Option Refusal) → IsFirstFault s r → IsJudged text r
 judged_is text s parsed None v = (translated s.steps, record { syntax = s; reads = parsed.0; free = v; is = refl })
 judged_is text s parsed (Some k) v = record {
   holds = fault parsed.0 v.0;

@@ -4,3 +4,4 @@ pub mod Cutting
 pub mod Cuts
 pub mod Terms
 pub mod Parts
+pub mod Long

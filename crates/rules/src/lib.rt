@@ -11,6 +11,7 @@ mod cut;
 mod fault;
 pub mod laws;
 mod lent;
+mod long;
 mod request;
 mod splitting;
 

@@ -8,6 +8,7 @@ ghost use Rattle.faults.specs.Kinds.{is_among};
 ghost use Rattle.faults.specs.Walk.{kinds_with};
 ghost use Rattle.rules.specs.Refusal.{IsFirst, IsFirstFault, IsVerdict, IsChecked, IsJudged};
 
+use crate::long::refusal_of_long;
 use algebra::Operation;
 use faults::{Kinds, Walk, kinds_in};
 use grammar::parse;
@@ -19,6 +20,9 @@ use syntax_trees::{Operation as Written, Step, Syntax};
 use terms::Term;
 use translation::operation_of;
 
+/// How many bytes a text has at most that is read whole.
+const MOST_WHOLE: usize = 1 << 20;
+
 /// The operations of an accepted request, in order.
 pub type Update = Items<Operation<Term>>;
 
@@ -27,7 +31,7 @@ pub type Checked = Request<Term>;
 
 /// The first of these kinds of fault.
 #[tactic(auto, using(crate::proofs::VerdictLaws::first_kinds))]
-fn first_of(kinds: Kinds) -> Option<Refusal>
+pub fn first_of(kinds: Kinds) -> Option<Refusal>
     ensures { IsFirst (is_among kinds) result }
 {
     if kinds.syntax {
@@ -107,6 +111,9 @@ pub fn check(alloc: Global, syntax: Syntax<'_>) -> Result<Checked, AllocError>
 pub fn checked(alloc: Global, text: &str) -> Result<Checked, AllocError>
     ensures { IfOk result (IsChecked text.now) }
 {
+    if text.len() > MOST_WHOLE {
+        return Ok(Err(refusal_of_long(alloc, text.as_bytes())?));
+    }
     match parse(alloc, text)? {
         Some(syntax) => check(alloc, syntax),
         None => Ok(Err(Refusal::Syntax)),
@@ -120,6 +127,9 @@ pub type Verdict = Option<Refusal>;
 pub fn judged(alloc: Global, text: &str) -> Result<Verdict, AllocError>
     ensures { IfOk result (IsJudged text.now) }
 {
+    if text.len() > MOST_WHOLE {
+        return Ok(Some(refusal_of_long(alloc, text.as_bytes())?));
+    }
     match parse(alloc, text)? {
         Some(syntax) => first_fault(alloc, &syntax),
         None => Ok(Some(Refusal::Syntax)),

@@ -1,5 +1,13 @@
+use Rattle.std.proofs.Common.{◌<◌, ◌^◌, length, subst, sym}
+use Rattle.rules.specs.Refusal.{IsRefusal}
 use Rattle.rules.proofs.VerdictLaws.{verdict_checked, unread_checked}
 use Rattle.rules.proofs.request.checked.Goals as goal
+
+pub refusal_of_long-requires : goal.refusal_of_long-requires
+refusal_of_long-requires c = subst (λ text. 2 ^ 20 < length text) (sym c.as_bytes.ensures.value) c.if-text-gt-MOST_WHOLE.true
+
+pub returns-then-text-gt-MOST_WHOLE : goal.returns-then-text-gt-MOST_WHOLE
+returns-then-text-gt-MOST_WHOLE c = subst (λ text. IsRefusal text c.in_ok-refusal_of_long.field-0) c.as_bytes.ensures.value c.in_ok-refusal_of_long.ensures
 
 pub returns-in-Some : goal.returns-in-Some
 returns-in-Some c = verdict_checked _ _ c.in-Some.syntax _ c.in_ok-syntax.ensures c.in-Some.is c.check.ensures
