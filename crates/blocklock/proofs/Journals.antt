@@ -1,14 +1,14 @@
 -- Journals that go on from one another, and lists of views.
-use Rattle.std.proofs.Common.{◌≡◌, ◌≢◌, ℕ, zero, suc, ◌+◌, ◌<◌, eqb, ne_eqb, cond, Bool, true, false, List, [], ◌∷◌, ◌++◌, length, set, refl, sym, ap, subst, ◌∙◌, ◌⊎◌, inl, inr, ⊎_elim, arith, append_assoc, append-nil}
+use Rattle.std.proofs.Common.{◌≡◌, ◌≢◌, ℕ, zero, suc, ◌+◌, ◌<◌, eqb, ne_eqb, cond, Bool, true, false, List, [], ◌∷◌, ◌++◌, length, drop, set, refl, sym, ap, subst, ◌∙◌, ◌⊎◌, inl, inr, ⊎_elim, arith, append_assoc, append-nil}
 use Rattle.std.proofs.lemmas.Bool.{eqb-true}
 use Rattle.std.proofs.Common.{All, Some}
 use Rattle.std.specs.Prelude.{slice_get}
-use Rattle.std.proofs.lemmas.List.Elements.{All-push}
+use Rattle.std.proofs.lemmas.List.Elements.{All-push, All-append, All-drop, filter_passes}
 use mathlib.Core.Logic.{dite}
 use native.Mathlib.Decide.{ℕ_discrete}
 use mathlib.Core.Option.{some, some-injective, some-ne-none}
 use lib.ListN.{get_elem?}
-use Rattle.blocklock.specs.History.{of_worker, BeginsWith}
+use Rattle.blocklock.specs.History.{of_worker, AreBelow, BeginsWith}
 
 module _ {E : Type 0} (worker_of : E → ℕ) where
   none_step : (v w : ℕ) (x : E) (rest : List E) → of_worker worker_of w rest ≡ [] → v ≢ w → (b : Bool) → eqb (worker_of x) v ≡ b → of_worker worker_of w (cond b (x ∷ rest) rest) ≡ []
@@ -23,15 +23,33 @@ module _ {E : Type 0} (worker_of : E → ℕ) where
   pub none_of_others : (v w : ℕ) (xs : List E) → of_worker worker_of v xs ≡ xs → v ≢ w → of_worker worker_of w xs ≡ []
   none_of_others v w xs all apart = subst (λ l. of_worker worker_of w l ≡ []) all (of_worker-none v w xs apart)
 
+  pub none_below : (n : ℕ) → AreBelow worker_of n []
+  none_below n k d less = absurd (omega arith)
+
+  -- entries of one worker who has a seat
+  pub one_below : (w n : ℕ) (xs : List E) → of_worker worker_of w xs ≡ xs → w < n → AreBelow worker_of n xs
+  one_below w n xs all below =
+      subst (AreBelow worker_of n) all
+      (λ k d less. let is = eqb-true _ w (filter_passes (λ e. eqb (worker_of e) w) xs k d less) in omega (arith, is, below))
+
+  pub more_below : (n : ℕ) (xs ys : List E) → AreBelow worker_of n xs → AreBelow worker_of n ys → AreBelow worker_of n (xs ++ ys)
+  more_below n xs ys a b = All-append (λ e. worker_of e < n) xs ys a b
+
+  -- entries that are added behind a journal's start
+  pub added_below : (n start : ℕ) (xs ys : List E) → AreBelow worker_of n (drop start xs) → AreBelow worker_of n ys → AreBelow worker_of n (drop start (xs ++ ys))
+  added_below n zero xs ys a b = more_below n xs ys a b
+  added_below n (suc start) [] ys a b = All-drop (λ e. worker_of e < n) (suc start) ys b
+  added_below n (suc start) (x ∷ xs) ys a b = added_below n start xs ys a b
+
 module _ {E : Type 0} where
-  pub begins_refl : (xs : List E) → BeginsWith xs xs
+  abbrev pub begins_refl : (xs : List E) → BeginsWith xs xs
   begins_refl xs = ([], sym (append-nil xs))
 
-  pub begins_is : (xs ys : List E) → xs ≡ ys → BeginsWith xs ys
+  abbrev pub begins_is : (xs ys : List E) → xs ≡ ys → BeginsWith xs ys
   begins_is xs ys e = ([], e ∙ sym (append-nil ys))
 
   -- a journal that goes on from one that goes on from a third
-  pub begins_further : (xs ys zs more : List E) → BeginsWith ys zs → xs ≡ ys ++ more → BeginsWith xs zs
+  abbrev pub begins_further : (xs ys zs more : List E) → BeginsWith ys zs → xs ≡ ys ++ more → BeginsWith xs zs
   begins_further xs ys zs more b e = (b.0 ++ more, e ∙ (ap (λ l. l ++ more) b.1 ∙ append_assoc zs b.0 more))
 
 module _ {A : Type 0} where

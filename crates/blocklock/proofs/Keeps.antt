@@ -1,5 +1,6 @@
 -- Each step on the lock's table keeps its rule.
-use Rattle.std.proofs.Common.{◌≡◌, ◌≢◌, ℕ, zero, suc, ◌<◌, eqb, true, false, true≢false, List, [], ◌∷◌, ◌++◌, length, set, get_or, get_or-set_same, length-set, Option, Some, refl, sym, ap, subst, ◌∙◌, ⊎_elim, arith, append-nil}
+use Rattle.std.proofs.Common.{◌≡◌, ◌≢◌, ℕ, zero, suc, ◌<◌, eqb, true, false, true≢false, List, [], ◌∷◌, ◌++◌, length, drop, set, get_or, get_or-set_same, length-set, Option, Some, refl, sym, ap, subst, ◌∙◌, ⊎_elim, arith, append-nil}
+use Rattle.std.proofs.lemmas.List.{drop_all}
 use Rattle.std.proofs.lemmas.List.Elements.{filter-append}
 use Rattle.std.proofs.lemmas.Bool.{false_from_ne_true, both_ways}
 use Rattle.std.proofs.lemmas.Option.{same_Some}
@@ -9,12 +10,12 @@ use native.Mathlib.Decide.{ℕ_discrete}
 use lib.ListN.{get_elem?}
 use Rattle.atomic_table.specs.Table.{State, Me, step, keeps, takes, gives, Allows, Splits, Joins, Final, Seen, opening}
 use Rattle.atomic_table.proofs.Lists.{at_set, set_again, set_here, set_else, at_longer}
-use Rattle.blocklock.specs.History.{History, of_worker, BeginsWith}
+use Rattle.blocklock.specs.History.{History, of_worker, AreBelow}
 use Rattle.blocklock.specs.declared.view.View.{View}
 use Rattle.blocklock.specs.Rule.{Owns, Covers, AllCovered, Follows, Kept, seeing, TakesBook, took, gave, first_view, rest_of, one_of, joined, spent}
 use Rattle.atomic_table.specs.Seated.{TableId}
-use Rattle.blocklock.specs.Passes.{IsSeatOf, MayGive}
-use Rattle.blocklock.proofs.Journals.{none_of_others, begins_refl, begins_is, begins_further, at_pushed, set_there}
+use Rattle.blocklock.specs.Passes.{seated, IsSeatOf, Takes, MayGive}
+use Rattle.blocklock.proofs.Journals.{none_of_others, none_below, one_below, more_below, added_below, begins_refl, begins_is, begins_further, at_pushed, set_there}
 
 module _ {S E : Type 0} where
   -- no two seats stand for one worker
@@ -48,27 +49,30 @@ module _ {T S E : Type 0} (worker_of : E → ℕ) (history : T → History S E) 
   Mine = Me (Option T) (View S E)
 
   -- the try finds the book at home
-  take_free : (n id : ℕ) (subject : S) (me : Mine) → me.0.told ≡ [] → (s : St) (r : Kept worker_of history subject s) → length s.homes ≡ n → get_elem? s.views id ≡ some me.0 → get_or s.words 0 0 ≡ 0
-      → (b : T) × (get_elem? s.homes 0 ≡ some (some (Some b))) × Kept worker_of history subject (record { words = set s.words 0 1; homes = set s.homes 0 none; views = set s.views id (seeing me.0 (history b).journal true) })
+  take_free : (n id : ℕ) (subject : S) (seats start : ℕ) (me : Mine) → me.0.told ≡ [] → (s : St) (r : Kept worker_of history subject seats start s) → length s.homes ≡ n → get_elem? s.views id ≡ some me.0 → get_or s.words 0 0 ≡ 0
+      → (b : T) × (get_elem? s.homes 0 ≡ some (some (Some b))) × Kept worker_of history subject seats start (record { words = set s.words 0 1; homes = set s.homes 0 none; views = set s.views id (seeing me.0 (history b).journal true) })
       × TakesBook worker_of history me (seeing me.0 (history b).journal true, (0, Some b) ∷ me.1)
-  take_free n id subject me told s r wide at free =
+  take_free n id subject seats start me told s r wide at free =
       let home = r.free free in
       let b : T = home.0 in
       let is : history b ≡ record { subject = subject; journal = r.journal } = home.2 in
       let same : (history b).journal ≡ r.journal = ap (λ (h : History S E). h.journal) is in
       let w : View S E = seeing me.0 (history b).journal true in
-      let mine : Follows worker_of subject r.journal me.0 = r.follow id me.0 at in
+      let mine : Follows worker_of subject seats r.journal me.0 = r.follow id me.0 at in
       let one : get_or (set s.words 0 1) 0 0 ≡ 1 = get_or-set_same s.words 0 1 0 (omega (arith, r.words)) in (
         b,
         home.1,
         record {
           journal = r.journal;
+          workers = r.workers;
           words = length-set s.words 0 1 ∙ r.words;
-          follow = all_set (λ _ u. Follows worker_of subject r.journal u) s.views id w (λ k u _ e. r.follow k u e)
+          follow = all_set (λ _ u. Follows worker_of subject seats r.journal u) s.views id w (λ k u _ e. r.follow k u e)
               (record {
                 begins = begins_is r.journal (history b).journal (sym same);
                 own = λ x o. ((mine.own x o).0, ap (of_worker worker_of x) (sym same));
                 told = subst (AllCovered worker_of me.0.subject (history b).journal) (sym told) tt;
+                seat = mine.seat;
+                workers = λ x o. none_below worker_of seats;
               });
           apart = apart_set s.views id me.0 w r.apart at (λ x o. o);
           free = λ z. absurd (omega arith);
@@ -85,19 +89,21 @@ module _ {T S E : Type 0} (worker_of : E → ℕ) (history : T → History S E) 
           book = b;
           was_free = home.3 id me.0 at;
           has = refl;
-          begins = subst (λ l. BeginsWith l me.0.seen) (sym same) mine.begins;
+          begins = (mine.begins.0, same ∙ mine.begins.1);
+          workers = λ x o. subst (λ n. AreBelow worker_of n mine.begins.0) (sym (mine.seat x o).0) (mine.workers x o);
           own = λ x o. (ap (λ (h : History S E). h.subject) is ∙ sym (mine.own x o).0, ap (of_worker worker_of x) same ∙ (mine.own x o).1);
         },
       )
 
   -- the try finds it taken
-  take_taken : (id : ℕ) (subject : S) (me : Mine) (s : St) (r : Kept worker_of history subject s) → get_elem? s.views id ≡ some me.0 → get_or s.words 0 0 ≢ 0
-      → Kept worker_of history subject (record { words = set s.words 0 1; homes = s.homes; views = set s.views id me.0 })
-  take_taken id subject me s r at held =
+  take_taken : (id : ℕ) (subject : S) (seats start : ℕ) (me : Mine) (s : St) (r : Kept worker_of history subject seats start s) → get_elem? s.views id ≡ some me.0 → get_or s.words 0 0 ≢ 0
+      → Kept worker_of history subject seats start (record { words = set s.words 0 1; homes = s.homes; views = set s.views id me.0 })
+  take_taken id subject seats start me s r at held =
       let one : get_or (set s.words 0 1) 0 0 ≡ 1 = get_or-set_same s.words 0 1 0 (omega (arith, r.words)) in
-      subst (λ vs. Kept worker_of history subject (record { words = set s.words 0 1; homes = s.homes; views = vs })) (sym (set_again s.views id me.0 at))
+      subst (λ vs. Kept worker_of history subject seats start (record { words = set s.words 0 1; homes = s.homes; views = vs })) (sym (set_again s.views id me.0 at))
       (record {
         journal = r.journal;
+        workers = r.workers;
         words = length-set s.words 0 1 ∙ r.words;
         follow = r.follow;
         apart = r.apart;
@@ -105,16 +111,31 @@ module _ {T S E : Type 0} (worker_of : E → ℕ) (history : T → History S E) 
         taken = λ _. r.taken held;
       })
 
-  pub takes_book : (n id : ℕ) (subject : S) (me : Mine) → me.0.told ≡ [] → Allows (Kept worker_of history subject) n id me 0 (λ _. 1) (took worker_of history (step n 0 1 0 none) me)
-  takes_book n id subject me told s r wide at _ =
+  pub takes_book : (n id : ℕ) (subject : S) (seats start : ℕ) (me : Mine) → me.0.told ≡ [] → Allows (Kept worker_of history subject seats start) n id me 0 (λ _. 1) (took worker_of history (step n 0 1 0 none) me)
+  takes_book n id subject seats start me told s r wide at _ =
       dite (ℕ_discrete (get_or s.words 0 0) 0)
-      (λ free. let t = take_free n id subject me told s r wide at free in (seeing me.0 (history t.0).journal true, takes 0 (Some t.0), t.1, t.2, ((λ _. t.3), (λ held. absurd (held free)))))
-      (λ held. (me.0, keeps, tt, take_taken id subject me s r at held, ((λ free. absurd (held free)), (λ _. refl))))
+      (λ free. let t = take_free n id subject seats start me told s r wide at free in (seeing me.0 (history t.0).journal true, takes 0 (Some t.0), t.1, t.2, ((λ _. t.3), (λ held. absurd (held free)))))
+      (λ held. (me.0, keeps, tt, take_taken id subject seats start me s r at held, ((λ free. absurd (held free)), (λ _. refl))))
+
+  -- and so the pass of this seat takes it
+  pub takes_it : (w : ℕ) (id id' : TableId) (me mid : Mine) (v : View S E) (b : T) → IsSeatOf w me → (t : TakesBook worker_of history me mid) → id' ≡ id → v ≡ mid.0 → b ≡ t.book
+      → Takes worker_of (seated id w me.0) (history b) (seated id' w v)
+  takes_it w id id' me mid v b seat t same_id same_view same_book =
+      let from = seat.from in
+      let until = seat.until in
+      let mine : Owns me.0 w = (omega arith, omega arith) in
+      let own = t.own w mine in
+      subst (λ (x : T). Takes worker_of (seated id w me.0) (history x) (seated id' w v)) (sym same_book)
+      (record {
+        was_free = t.was_free;
+        includes = record { subject = own.0; begins = t.begins; mine = own.1; workers = t.workers w mine };
+        sees = (λ k. seated (same_id k) w (same_view k)) ∙ ap (λ (m : Mine). seated id w m.0) t.has;
+      })
 
   -- a seat that holds the book has seen all
-  held_by : (id : ℕ) (subject : S) (v : View S E) (s : St) (r : Kept worker_of history subject s) → get_elem? s.views id ≡ some v → v.holds ≡ true
+  held_by : (id : ℕ) (subject : S) (seats start : ℕ) (v : View S E) (s : St) (r : Kept worker_of history subject seats start s) → get_elem? s.views id ≡ some v → v.holds ≡ true
       → (v.seen ≡ r.journal) × (get_or s.words 0 0 ≢ 0) × ((k : ℕ) (u : View S E) → get_elem? s.views k ≡ some u → u.holds ≡ true → k ≡ id)
-  held_by id subject v s r at holds =
+  held_by id subject seats start v s r at holds =
       dite (ℕ_discrete (get_or s.words 0 0) 0)
       (λ free. absurd (both_ways v.holds ((r.free free).3 id v at) holds))
       (λ held. let out = r.taken held in let here : id ≡ out.0 = out.5 id v at holds in
@@ -131,22 +152,25 @@ module _ {T S E : Type 0} (worker_of : E → ℕ) (history : T → History S E) 
     pub subject : (history b).subject ≡ v.subject
     pub more : List E
     pub goes_on : (history b).journal ≡ v.seen ++ more
+    pub mine : of_worker worker_of worker more ≡ more
     pub none_else : (w : ℕ) → (Owns v w → ⊥) → of_worker worker_of w more ≡ []
 
-  gives_at : (n id : ℕ) (subject : S) (v : View S E) (b : T) (rest_slots : List (ℕ × Option T)) → 0 < n → MayGiveBook v b → (s : St) (r : Kept worker_of history subject s) → length s.homes ≡ n → get_elem? s.views id ≡ some v
-      → Kept worker_of history subject (record { words = set s.words 0 0; homes = set s.homes 0 (some (Some b)); views = set s.views id (seeing v (history b).journal false) })
-  gives_at n id subject v b rest_slots some_slot may s r wide at =
-      let held = held_by id subject v s r at may.holds in
+  gives_at : (n id : ℕ) (subject : S) (seats start : ℕ) (v : View S E) (b : T) (rest_slots : List (ℕ × Option T)) → 0 < n → MayGiveBook v b → (s : St) (r : Kept worker_of history subject seats start s) → length s.homes ≡ n → get_elem? s.views id ≡ some v
+      → Kept worker_of history subject seats start (record { words = set s.words 0 0; homes = set s.homes 0 (some (Some b)); views = set s.views id (seeing v (history b).journal false) })
+  gives_at n id subject seats start v b rest_slots some_slot may s r wide at =
+      let held = held_by id subject seats start v s r at may.holds in
       let now : List E = (history b).journal in
       let w : View S E = seeing v now false in
-      let mine : Follows worker_of subject r.journal v = r.follow id v at in
+      let mine : Follows worker_of subject seats r.journal v = r.follow id v at in
       let goes : now ≡ r.journal ++ may.more = may.goes_on ∙ ap (λ l. l ++ may.more) held.0 in
       let zero_now : get_or (set s.words 0 0) 0 0 ≡ 0 = get_or-set_same s.words 0 0 0 (omega (arith, r.words)) in
       let subjects : v.subject ≡ subject = (mine.own may.worker may.stands).0 in
+      let below : AreBelow worker_of seats may.more = one_below worker_of may.worker seats may.more may.mine (mine.seat may.worker may.stands).1 in
       record {
         journal = now;
+        workers = subst (λ l. AreBelow worker_of seats (drop start l)) (sym goes) (added_below worker_of seats start r.journal may.more r.workers below);
         words = length-set s.words 0 0 ∙ r.words;
-        follow = all_set (λ _ u. Follows worker_of subject now u) s.views id w
+        follow = all_set (λ _ u. Follows worker_of subject seats now u) s.views id w
             (λ k u other e. let f = r.follow k u e in record {
               begins = begins_further now r.journal u.seen may.more f.begins goes;
               own = λ x o. let p = f.own x o in (
@@ -157,8 +181,16 @@ module _ {T S E : Type 0} (worker_of : E → ℕ) (history : T → History S E) 
                     ∙ (append-nil (of_worker worker_of x r.journal) ∙ p.1))),
               );
               told = f.told;
+              seat = f.seat;
+              workers = λ x o. more_below worker_of seats f.begins.0 may.more (f.workers x o) below;
             })
-            (record { begins = begins_refl now; own = λ x o. ((mine.own x o).0, refl); told = subst (AllCovered worker_of v.subject now) (sym may.told) tt });
+            (record {
+              begins = begins_refl now;
+              own = λ x o. ((mine.own x o).0, refl);
+              told = subst (AllCovered worker_of v.subject now) (sym may.told) tt;
+              seat = mine.seat;
+              workers = λ x o. none_below worker_of seats;
+            });
         apart = apart_set s.views id v w r.apart at (λ x o. o);
         free = λ _. (
           b,
@@ -169,15 +201,15 @@ module _ {T S E : Type 0} (worker_of : E → ℕ) (history : T → History S E) 
         taken = λ ne. absurd (ne zero_now);
       }
 
-  pub gives_book : (n id : ℕ) (subject : S) (v : View S E) (b : T) (more : List (ℕ × Option T)) (me : Mine) → me ≡ (v, (0, Some b) ∷ more) → 0 < n → MayGiveBook v b
-      → Allows (Kept worker_of history subject) n id me 0 (λ _. 0) (λ _. gave history (step n 0 0 0 none) me 0)
-  gives_book n id subject v b more me is some_slot may =
-      subst (λ (m : Mine). Allows (Kept worker_of history subject) n id m 0 (λ _. 0) (λ _. gave history (step n 0 0 0 none) m 0)) (sym is)
+  pub gives_book : (n id : ℕ) (subject : S) (seats start : ℕ) (v : View S E) (b : T) (more : List (ℕ × Option T)) (me : Mine) → me ≡ (v, (0, Some b) ∷ more) → 0 < n → MayGiveBook v b
+      → Allows (Kept worker_of history subject seats start) n id me 0 (λ _. 0) (λ _. gave history (step n 0 0 0 none) me 0)
+  gives_book n id subject seats start v b more me is some_slot may =
+      subst (λ (m : Mine). Allows (Kept worker_of history subject seats start) n id m 0 (λ _. 0) (λ _. gave history (step n 0 0 0 none) m 0)) (sym is)
       (λ s r wide at _. (
         seeing v (history b).journal false,
         gives,
         tt,
-        gives_at n id subject v b more some_slot may s r wide at,
+        gives_at n id subject seats start v b more some_slot may s r wide at,
         λ b' is'. let same : b ≡ b' = slot_is b b' is' in λ i. (seeing v (history (same i)).journal false, more),
       ))
     where
@@ -187,7 +219,7 @@ module _ {T S E : Type 0} (worker_of : E → ℕ) (history : T → History S E) 
       slot_is : (x y : T) → (0, Some x) ∷ more ≡ (0, Some y) ∷ more → x ≡ y
       slot_is x y e = same_Some x y (ap (λ (p : ℕ × Option T). p.1) (first_same (0, Some x) (0, Some y) e))
 
-  pub may_give : (w : ℕ) (me : Mine) (table : TableId) (b : T) → IsSeatOf w me → MayGive worker_of (record { table = table; worker = w; subject = me.0.subject; seen = me.0.seen; holds = me.0.holds }) (history b) → MayGiveBook me.0 b
+  pub may_give : (w : ℕ) (me : Mine) (table : TableId) (b : T) → IsSeatOf w me → MayGive worker_of (seated table w me.0) (history b) → MayGiveBook me.0 b
   may_give w me table b seat may = let from = seat.from in let until = seat.until in record {
     holds = may.holds;
     told = seat.told;
@@ -196,21 +228,24 @@ module _ {T S E : Type 0} (worker_of : E → ℕ) (history : T → History S E) 
     subject = may.subject;
     more = may.goes_on.0;
     goes_on = may.goes_on.1;
+    mine = may.goes_on.2;
     none_else = λ x other. none_of_others worker_of w x may.goes_on.0 may.goes_on.2 (λ e. other (omega arith, omega arith));
   }
 
   -- a seat that stands for several workers gives the first of them away
-  pub deals : (id : ℕ) (subject : S) (v : View S E) → v.holds ≡ false → v.told ≡ [] → v.from < v.until → Splits (Kept worker_of history subject) id v (rest_of v) (one_of v)
-  deals id subject v idle told more s r at =
+  pub deals : (id : ℕ) (subject : S) (seats start : ℕ) (v : View S E) → v.holds ≡ false → v.told ≡ [] → v.from < v.until → Splits (Kept worker_of history subject seats start) id v (rest_of v) (one_of v)
+  deals id subject seats start v idle told more s r at =
       let left : View S E = rest_of v in
       let right : View S E = one_of v in
       let vs : List (View S E) = set s.views id left in
-      let mine : Follows worker_of subject r.journal v = r.follow id v at in
-      let part : (w : View S E) → w.seen ≡ v.seen → w.subject ≡ v.subject → w.told ≡ v.told → ((x : ℕ) → Owns w x → Owns v x) → Follows worker_of subject r.journal w
-      = λ w seen same_subject same_told less. record {
-        begins = subst (BeginsWith r.journal) (sym seen) mine.begins;
+      let mine : Follows worker_of subject seats r.journal v = r.follow id v at in
+      let part : (w : View S E) → w.seen ≡ v.seen → w.subject ≡ v.subject → w.told ≡ v.told → w.seats ≡ v.seats → ((x : ℕ) → Owns w x → Owns v x) → Follows worker_of subject seats r.journal w
+      = λ w seen same_subject same_told same_seats less. record {
+        begins = (mine.begins.0, mine.begins.1 ∙ ap (λ l. l ++ mine.begins.0) (sym seen));
         own = λ x o. let p = mine.own x (less x o) in (same_subject ∙ p.0, p.1 ∙ ap (of_worker worker_of x) (sym seen));
         told = subst (AllCovered worker_of w.subject w.seen) (sym (same_told ∙ told)) tt;
+        seat = λ x o. let p = mine.seat x (less x o) in (same_seats ∙ p.0, p.1);
+        workers = λ x o. mine.workers x (less x o);
       } in
       let left_less : (x : ℕ) → Owns left x → Owns v x = λ x o. (omega arith, o.1) in
       let right_less : (x : ℕ) → Owns right x → Owns v x = λ x o. (o.0, omega arith) in
@@ -219,8 +254,9 @@ module _ {T S E : Type 0} (worker_of : E → ℕ) (history : T → History S E) 
       let unheld : (k : ℕ) (u : View S E) → u.holds ≡ true → right ≡ u → ⊥ = λ k u h e. both_ways u.holds (ap (λ (y : View S E). y.holds) (sym e) ∙ idle) h in
       record {
         journal = r.journal;
+        workers = r.workers;
         words = r.words;
-        follow = all (λ _ u. Follows worker_of subject r.journal u) (λ k u _ e. r.follow k u e) (part left refl refl refl left_less) (part right refl refl refl right_less);
+        follow = all (λ _ u. Follows worker_of subject seats r.journal u) (λ k u _ e. r.follow k u e) (part left refl refl refl refl left_less) (part right refl refl refl refl right_less);
         apart = λ j k a b x ja kb ax bx.
             ⊎_elim
             (λ (old_a : get_elem? vs j ≡ some a). ⊎_elim
@@ -252,28 +288,30 @@ module _ {T S E : Type 0} (worker_of : E → ℕ) (history : T → History S E) 
           (at_set views id j (rest_of v) a ja)
 
   -- the seat that holds the book takes in another, which stands for a worker
-  pub takes_in : (any : S) (id : ℕ) (subject : S) (v : View S E) (other : ℕ) (w : View S E) → v.holds ≡ true → Owns v v.from → Owns w w.from → Joins (Kept worker_of history subject) id v other w (joined v w) (spent any)
-  takes_in any id subject v other w holds mine_stands stands s r at apart there =
-      let held = held_by id subject v s r at holds in
+  pub takes_in : (any : S) (id : ℕ) (subject : S) (seats start : ℕ) (v : View S E) (other : ℕ) (w : View S E) → v.holds ≡ true → Owns v v.from → Owns w w.from → Joins (Kept worker_of history subject seats start) id v other w (joined v w) (spent any)
+  takes_in any id subject seats start v other w holds mine_stands stands s r at apart there =
+      let held = held_by id subject seats start v s r at holds in
       let both : View S E = joined v w in
       let vs : List (View S E) = set s.views id both in
       let here : get_elem? s.views other ≡ some w = sym (set_else s.views id other both apart) ∙ there in
-      let mine : Follows worker_of subject r.journal v = r.follow id v at in
-      let theirs : Follows worker_of subject r.journal w = r.follow other w here in
+      let mine : Follows worker_of subject seats r.journal v = r.follow id v at in
+      let theirs : Follows worker_of subject seats r.journal w = r.follow other w here in
       let own = theirs.own w.from stands in
-      let covers : Covers worker_of v.subject v.seen (record { worker = w.from; subject = w.subject; seen = w.seen }) = record {
+      let covers : Covers worker_of v.subject v.seen (record { worker = w.from; subject = w.subject; seen = w.seen; seats = w.seats }) = record {
         same_subject = own.0 ∙ sym (mine.own v.from mine_stands).0;
-        begins = subst (λ l. BeginsWith l w.seen) (sym held.0) theirs.begins;
+        begins = (theirs.begins.0, held.0 ∙ theirs.begins.1);
         own = ap (of_worker worker_of w.from) held.0 ∙ own.1;
+        workers = subst (λ n. AreBelow worker_of n theirs.begins.0) (sym (theirs.seat w.from stands).0) (theirs.workers w.from stands);
       } in
       let all : (P : ℕ → View S E → Type 0) → ((k : ℕ) (u : View S E) → k ≢ id → get_elem? s.views k ≡ some u → P k u) → P id both → P other (spent any) → (k : ℕ) (u : View S E) → get_elem? (set vs other (spent any)) k ≡ some u → P k u
       = λ P others one two. all_set P vs other (spent any) (λ k u _ e. all_set P s.views id both others one k u e) two in
       record {
         journal = r.journal;
+        workers = r.workers;
         words = r.words;
-        follow = all (λ _ u. Follows worker_of subject r.journal u) (λ k u _ e. r.follow k u e)
-            (record { begins = mine.begins; own = mine.own; told = (covers, mine.told) })
-            (record { begins = (r.journal, refl); own = λ x o. absurd (omega arith); told = tt });
+        follow = all (λ _ u. Follows worker_of subject seats r.journal u) (λ k u _ e. r.follow k u e)
+            (record { begins = mine.begins; own = mine.own; told = (covers, mine.told); seat = mine.seat; workers = mine.workers })
+            (record { begins = (r.journal, refl); own = λ x o. absurd (omega arith); told = tt; seat = λ x o. absurd (omega arith); workers = λ x o. absurd (omega arith) });
         apart = apart_set vs other w (spent any) (apart_set s.views id v both r.apart at (λ x o. o)) there (λ x o. absurd (omega arith));
         free = λ z. absurd (held.1 z);
         taken = λ ne. (
@@ -287,24 +325,32 @@ module _ {T S E : Type 0} (worker_of : E → ℕ) (history : T → History S E) 
       }
 
   -- the table at the start
-  pub starts : (b : T) (h : History S E) → history b ≡ h → Kept worker_of history h.subject (opening (0 ∷ []) (Some b ∷ []) (first_view h))
-  starts b h is = record {
+  pub starts : (b : T) (h : History S E) (seats : ℕ) → history b ≡ h → Kept worker_of history h.subject seats (length h.journal) (opening (0 ∷ []) (Some b ∷ []) (first_view seats h))
+  starts b h seats is = record {
     journal = h.journal;
+    workers = subst (AreBelow worker_of seats) (sym (drop_all (length h.journal) h.journal (omega arith))) (none_below worker_of seats);
     words = refl;
-    follow = only (λ _ u. Follows worker_of h.subject h.journal u) (record { begins = begins_refl h.journal; own = λ x o. (refl, refl); told = tt });
+    follow = only (λ _ u. Follows worker_of h.subject seats h.journal u) (record { begins = begins_refl h.journal; own = λ x o. (refl, refl); told = tt; seat = λ x o. (refl, o.1); workers = λ x o. none_below worker_of seats });
     apart = λ j k u v x ju kv _ _. at_zero j u ju ∙ sym (at_zero k v kv);
     free = λ _. (b, refl, is, only (λ _ u. u.holds ≡ false) refl);
     taken = λ ne. absurd (ne refl);
   }
     where
-      at_zero : (k : ℕ) (u : View S E) → get_elem? (first_view h ∷ []) k ≡ some u → k ≡ 0
+      at_zero : (k : ℕ) (u : View S E) → get_elem? (first_view seats h ∷ []) k ≡ some u → k ≡ 0
       at_zero zero u e = refl
       at_zero (suc k) u e = absurd (some-ne-none u (sym e))
 
-      only : (P : ℕ → View S E → Type 0) → P 0 (first_view h) → (k : ℕ) (u : View S E) → get_elem? (first_view h ∷ []) k ≡ some u → P k u
-      only P p zero u e = subst (P 0) (some-injective (first_view h) u e) p
+      only : (P : ℕ → View S E → Type 0) → P 0 (first_view seats h) → (k : ℕ) (u : View S E) → get_elem? (first_view seats h ∷ []) k ≡ some u → P k u
+      only P p zero u e = subst (P 0) (some-injective (first_view seats h) u e) p
       only P p (suc k) u e = absurd (some-ne-none u (sym e))
 
   -- the last state covers all that were taken in
-  pub closes : (id : ℕ) (subject : S) (v : View S E) (ws : List ℕ) (xs : List (Option T)) → Final (Seen (Kept worker_of history subject) id v) ws xs → AllCovered worker_of v.subject v.seen v.told
-  closes id subject v ws xs f = let end = f.1 in let r = end.0 in let mine : Follows worker_of subject r.journal v = r.follow id v end.1 in mine.told
+  pub closes : (id : ℕ) (subject : S) (seats start : ℕ) (v : View S E) (ws : List ℕ) (xs : List (Option T)) → Final (Seen (Kept worker_of history subject seats start) id v) ws xs → AllCovered worker_of v.subject v.seen v.told
+  closes id subject seats start v ws xs f = let end = f.1 in let r = end.0 in let mine : Follows worker_of subject seats r.journal v = r.follow id v end.1 in mine.told
+
+  -- and all that the seat that holds the book has seen beyond the start is of workers who have seats
+  pub closes_below : (id : ℕ) (subject : S) (seats start : ℕ) (v : View S E) (ws : List ℕ) (xs : List (Option T)) → v.holds ≡ true → Final (Seen (Kept worker_of history subject seats start) id v) ws xs
+      → AreBelow worker_of seats (drop start v.seen)
+  closes_below id subject seats start v ws xs holds f =
+      let end = f.1 in
+      subst (λ l. AreBelow worker_of seats (drop start l)) (sym (held_by id subject seats start v f.0 end.0 end.1 holds).0) end.0.workers

@@ -6,7 +6,6 @@ use Rattle.std.specs.contracts.alloc.Global as Global
 use Rattle.std.specs.contracts.boxed.Box as Box
 use Rattle.std.specs.contracts.impls.GlobalAllocator.TheImpl as heap
 use Rattle.std.specs.contracts.option.Option as Option
-use Rattle.std.specs.contracts.snapshot.Snapshot as Snapshot
 use Rattle.std.proofs.option.Option.TheSendSync as option
 use Rattle.atomic_table.specs.contracts.owned.Table as Table
 use Rattle.atomic_table.specs.contracts.shared.Seat as Seat
@@ -15,8 +14,9 @@ use Rattle.atomic_table.proofs.owned.Table.TheSendSync as a_table
 use Rattle.blocklock.specs.declared.journaled.Journaled.{Ghosts}
 use Rattle.blocklock.specs.contracts.lock.BlockLock as BlockLock
 use Rattle.blocklock.specs.contracts.pass.Pass as Pass
+use Rattle.blocklock.specs.contracts.plays.Key as Key
 use Rattle.blocklock.specs.contracts.plays.Rule as Rule
-use Rattle.blocklock.specs.contracts.plays.RuleTableRuleSlotViewOfSnapshot.TheImpl as rule
+use Rattle.blocklock.specs.contracts.plays.RuleTableRuleSlotViewOfKey.TheImpl as rule
 use Rattle.blocklock.specs.contracts.view.View as View
 
 module _ (T T' T'' : RattleType) (g : Ghosts T.Denot T'.Denot T''.Denot) (s : IsSend T) where
@@ -29,8 +29,8 @@ module _ (T T' T'' : RattleType) (g : Ghosts T.Denot T'.Denot T''.Denot) (s : Is
   pub pass : IsSend (Pass.the_row T T' T'' g)
   pass = let e = seat in search sendable depth 20
 
-  table : IsSync (Table.the_field (Option.the_row (Box.the_row T Global.the_row heap.ghosts)) (View.the_row T' T'') (Snapshot.the_row T) Rule.the_row Global.the_row (rule.ghosts T T' T'' g rule.no_dict rule.no_dict) heap.ghosts).row
-  table = a_table.the_field_sync (Option.the_row (Box.the_row T Global.the_row heap.ghosts)) (View.the_row T' T'') (Snapshot.the_row T) Rule.the_row Global.the_row (rule.ghosts T T' T'' g rule.no_dict rule.no_dict) heap.ghosts slot crossing.send crossing.sync crossing.frees
+  table : IsSync (Table.the_field (Option.the_row (Box.the_row T Global.the_row heap.ghosts)) (View.the_row T' T'') (Key.the_row T) Rule.the_row Global.the_row (rule.ghosts T T' T'' g rule.no_dict rule.no_dict) heap.ghosts).row
+  table = a_table.the_field_sync (Option.the_row (Box.the_row T Global.the_row heap.ghosts)) (View.the_row T' T'') (Key.the_row T) Rule.the_row Global.the_row (rule.ghosts T T' T'' g rule.no_dict rule.no_dict) heap.ghosts slot crossing.send crossing.sync crossing.frees
 
   pub lock : IsSync (BlockLock.the_row T T' T'' g)
   lock = let t = table in search sendable depth 20

@@ -1,11 +1,11 @@
 -- The rule of the lock's table, and what each step tells.
-use Rattle.std.specs.Prelude.{◌≡◌, ◌≢◌, ℕ, ◌+◌, ◌<◌, ◌≤◌, Bool, true, false, List, [], ◌∷◌, length, slice_index, Option, Some}
+use Rattle.std.specs.Prelude.{◌≡◌, ◌≢◌, ℕ, ◌+◌, ◌<◌, ◌≤◌, Bool, true, false, List, [], ◌∷◌, length, drop, slice_index, Option, Some}
 use mathlib.Core.Option.{some}
 use lib.ListN.{get_elem?}
 use Rattle.atomic_table.specs.Table.{State, Me, Step, rest}
 use Rattle.blocklock.specs.declared.view.View.{View}
 use Rattle.blocklock.specs.declared.view.Told.{Told}
-use Rattle.blocklock.specs.History.{History, of_worker, BeginsWith}
+use Rattle.blocklock.specs.History.{History, of_worker, AreBelow, BeginsWith}
 
 module _ {S E : Type 0} where
   -- the seat stands for this worker
@@ -16,8 +16,9 @@ module _ {S E : Type 0} where
   abbrev pub seeing : View S E → List E → Bool → View S E
   seeing v seen holds = record v { seen = seen; holds = holds }
 
-  abbrev pub first_view : History S E → View S E
-  first_view h = record { subject = h.subject; from = 0; until = 64; seen = h.journal; holds = false; told = [] }
+  abbrev pub first_view : ℕ → History S E → View S E
+  first_view seats h =
+      record { subject = h.subject; from = 0; until = seats; seen = h.journal; holds = false; told = []; seats = seats; start = length h.journal }
 
   abbrev pub rest_of : View S E → View S E
   rest_of v = record v { from = v.from + 1 }
@@ -26,29 +27,32 @@ module _ {S E : Type 0} where
   one_of v = record v { until = v.from + 1 }
 
   abbrev pub joined : View S E → View S E → View S E
-  joined v w = record v { told = record { worker = w.from; subject = w.subject; seen = w.seen } ∷ v.told }
+  joined v w = record v { told = record { worker = w.from; subject = w.subject; seen = w.seen; seats = w.seats } ∷ v.told }
 
   abbrev pub spent : S → View S E
-  spent any_subject = record { subject = any_subject; from = 0; until = 0; seen = []; holds = false; told = [] }
+  spent any_subject = record { subject = any_subject; from = 0; until = 0; seen = []; holds = false; told = []; seats = 0; start = 0 }
 
 module _ {S E : Type 0} (worker_of : E → ℕ) where
   -- what a seat has seen begins with what another had seen, and has no other entries of that one's
-  -- worker
+  -- worker, nor of a worker who has no seat
   pub record Covers (subject : S) (seen : List E) (t : Told S E) : Type 0 where
     pub same_subject : t.subject ≡ subject
     pub begins : BeginsWith seen t.seen
     pub own : of_worker worker_of t.worker seen ≡ of_worker worker_of t.worker t.seen
+    pub workers : AreBelow worker_of t.seats begins.0
 
   abbrev pub AllCovered : S → List E → List (Told S E) → Type 0
   AllCovered subject seen [] = Unit {0}
   AllCovered subject seen (t ∷ ts) = Covers subject seen t × AllCovered subject seen ts
 
   -- the current journal begins with what a seat has seen, and has no other entries of the seat's
-  -- workers
-  pub record Follows (subject : S) (journal : List E) (v : View S E) : Type 0 where
+  -- workers, nor of a worker who has no seat
+  pub record Follows (subject : S) (seats : ℕ) (journal : List E) (v : View S E) : Type 0 where
     pub begins : BeginsWith journal v.seen
     pub own : (w : ℕ) → Owns v w → (v.subject ≡ subject) × (of_worker worker_of w journal ≡ of_worker worker_of w v.seen)
     pub told : AllCovered v.subject v.seen v.told
+    pub seat : (w : ℕ) → Owns v w → (v.seats ≡ seats) × (w < seats)
+    pub workers : (w : ℕ) → Owns v w → AreBelow worker_of seats begins.0
 
 module _ {S E : Type 0} where
   -- one seat holds the book, and has seen all
@@ -69,11 +73,13 @@ module _ {T S E : Type 0} (history : T → History S E) where
 
 module _ {T S E : Type 0} (worker_of : E → ℕ) (history : T → History S E) where
   -- There is a current journal, which goes on from what every seat has seen. The book at home has
-  -- it, or the seat that holds the book has seen it
-  pub record Kept (subject : S) (s : State (Option T) (View S E)) : Type 0 where
+  -- it, or the seat that holds the book has seen it. What it has after its start is of workers who
+  -- have seats
+  pub record Kept (subject : S) (seats start : ℕ) (s : State (Option T) (View S E)) : Type 0 where
     pub journal : List E
+    pub workers : AreBelow worker_of seats (drop start journal)
     pub words : length s.words ≡ 1
-    pub follow : (k : ℕ) (v : View S E) → get_elem? s.views k ≡ some v → Follows worker_of subject journal v
+    pub follow : (k : ℕ) (v : View S E) → get_elem? s.views k ≡ some v → Follows worker_of subject seats journal v
     pub apart : (j k : ℕ) (u v : View S E) (w : ℕ) → get_elem? s.views j ≡ some u → get_elem? s.views k ≡ some v → Owns u w → Owns v w → j ≡ k
     pub free : slice_index s.words 0 ≡ 0 → AtHome history subject journal s
     pub taken : slice_index s.words 0 ≢ 0 → IsOut journal s
@@ -84,6 +90,7 @@ module _ {T S E : Type 0} (worker_of : E → ℕ) (history : T → History S E) 
     pub was_free : m.0.holds ≡ false
     pub has : n ≡ (seeing m.0 (history book).journal true, (0, Some book) ∷ m.1)
     pub begins : BeginsWith (history book).journal m.0.seen
+    pub workers : (w : ℕ) → Owns m.0 w → AreBelow worker_of m.0.seats begins.0
     pub own : (w : ℕ) → Owns m.0 w → ((history book).subject ≡ m.0.subject) × (of_worker worker_of w (history book).journal ≡ of_worker worker_of w m.0.seen)
 
   abbrev pub took : Step (Option T) → Me (Option T) (View S E) → ℕ → Me (Option T) (View S E) → Type 0

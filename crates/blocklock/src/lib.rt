@@ -3,7 +3,8 @@
 //!
 //! The contract used above: what is taken has a journal that begins with all that the taker's pass
 //! has seen, and whose entries of the pass's worker are those that it has seen. So the journals
-//! that passes see are beginnings of one history.
+//! that passes see are beginnings of one history. All that is added to it is of workers who have
+//! passes.
 #![tactic(auto)]
 
 mod into_pass;

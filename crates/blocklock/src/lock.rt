@@ -1,11 +1,12 @@
-ghost use Rattle.std.specs.Prelude.{◌≡◌, ℕ, ◌<◌, ◌≤◌, true, false, [], Some, length, map, slice_get, vec_len, All, IfOk, OnErr};
+ghost use Rattle.std.specs.Prelude.{◌≡◌, ℕ, ◌<◌, ◌≤◌, true, false, [], Some, length, drop, map, slice_get, vec_len, All, IfOk, OnErr};
+ghost use Rattle.blocklock.specs.History.{AreBelow};
 ghost use Rattle.blocklock.specs.Rule.{rest_of};
-ghost use Rattle.blocklock.specs.Passes.{Includes, Takes, MayGive, Watches, IsIdleAt, given, fresh_pass, told_of, dealer};
+ghost use Rattle.blocklock.specs.Passes.{Includes, Takes, MayGive, Watches, IsIdleAt, given, fresh_pass, told_of, table_of, dealer};
 
 use crate::into_pass::IntoPass;
 use crate::journaled::Journaled;
 use crate::pass::Pass;
-use crate::plays::{Give, One, Rule, Slot, Take, TakeIn, ViewOf};
+use crate::plays::{Give, Key, One, Rule, Slot, Take, TakeIn, ViewOf};
 use atomic_table::{Seat, Table};
 use std::alloc::{AllocError, Global};
 use std::hint::spin_loop;
@@ -21,19 +22,20 @@ const LOOKS_A_YIELD: u32 = 128;
 #[derive(Clone, Copy)]
 pub struct Busy;
 
-/// A book that the passes of its workers take in turn. To a contract it is the name of its table.
+/// A book that the passes of its workers take in turn. To a contract it is its table: which it is,
+/// how many workers have passes, and how long the journal was at first.
 #[derive(Drop)]
 pub struct BlockLock<B: Journaled> {
-    table: Table<Slot<B>, ViewOf<B>, Snapshot<B>, Rule, Global>,
+    table: Table<Slot<B>, ViewOf<B>, Key<B>, Rule, Global>,
 }
 
 impl<B: Journaled> Model for BlockLock<B> {
-    ghost use Rattle.std.specs.Prelude.{◌≡◌};
-    ghost use Rattle.atomic_table.specs.Seated.{TableId};
+    ghost use Rattle.std.specs.Prelude.{◌≡◌, length};
+    ghost use Rattle.blocklock.specs.Passes.{LockTable};
 
-    ghost Value = { TableId };
+    ghost Value = { LockTable };
 
-    ghost view = { λ l. l.table.shared.table_id };
+    ghost view = { λ l. record { id = l.table.shared.table_id; seats = l.table.shared.key.seats; start = length (B.history l.table.shared.key.book.value).journal } };
 
     ghost invariant = { λ l. (l.table.shared.table_id.words ≡ 1) × (l.table.shared.table_id.slots ≡ 1) };
 }
@@ -46,10 +48,20 @@ pub struct Held<'a, B: Journaled> {
 
 impl<B: Journaled> BlockLock<B> {
     // The lock, and the seat of the passes that are still to be dealt.
-    fn of(alloc: Global, book: B) -> Result<(BlockLock<B>, Seat<Slot<B>, ViewOf<B>>), AllocError>
-        ensures { IfOk result (λ r. (r.1.table_id ≡ r.0) × (r.1.me ≡ dealer (B.history book) 0)) }
+    fn of(
+        alloc: Global,
+        book: B,
+        seats: u32,
+    ) -> Result<(BlockLock<B>, Seat<Slot<B>, ViewOf<B>>), AllocError>
+        ensures seat { IfOk result (λ r. (r.1.table_id ≡ r.0.id)
+            × (r.1.me ≡ dealer seats (B.history book) 0)) }
+        ensures lock { IfOk result (λ r. (r.0.seats ≡ seats)
+            × (r.0.start ≡ length (B.history book).journal)) }
     {
-        let key = Snapshot::of(&book);
+        let key = Key {
+            book: Snapshot::of(&book),
+            seats,
+        };
         let mut slots = Vec::with_capacity(alloc, 1)?;
         slots.push_reserved(Some(Box::new(alloc, book)?));
         match Table::new(alloc, &[0], slots, &key) {
@@ -60,7 +72,7 @@ impl<B: Journaled> BlockLock<B> {
 
     // The pass of the next worker.
     fn deal(&self, seat: &mut Seat<Slot<B>, ViewOf<B>>, worker: u32) -> Pass<B>
-        requires own { seat.old.table_id ≡ self.now }
+        requires own { table_of seat.old.table_id seat.old.me.0 ≡ self.now }
         requires next { (seat.old.me.0.from ≡ worker) × (worker < seat.old.me.0.until)
             × (seat.old.me.1 ≡ []) }
         requires idle { (seat.old.me.0.holds ≡ false) × (seat.old.me.0.told ≡ []) }
@@ -81,7 +93,8 @@ impl<B: Journaled> BlockLock<B> {
         }
     }
 
-    /// The lock, with a pass for each worker, which has seen the book's journal.
+    /// The lock, with a pass for each worker, which has seen the book's journal. No other worker
+    /// has a pass.
     pub fn new(
         alloc: Global,
         book: B,
@@ -91,8 +104,10 @@ impl<B: Journaled> BlockLock<B> {
         ensures count { IfOk result (λ r. vec_len r.1 ≡ seats) }
         ensures passes { IfOk result (λ r. (k : ℕ) → k < seats
             → slice_get r.1.items k ≡ Some (fresh_pass r.0 (B.history book) k)) }
+        ensures lock { IfOk result (λ r. (r.0.seats ≡ seats)
+            × (r.0.start ≡ length (B.history book).journal)) }
     {
-        let (lock, mut seat) = BlockLock::of(alloc, book)?;
+        let (lock, mut seat) = BlockLock::of(alloc, book, seats)?;
         let mut passes = Vec::with_capacity(alloc, seats as usize)?;
         for worker in 0..seats {
             passes.push_reserved(lock.deal(&mut seat, worker));
@@ -162,7 +177,7 @@ impl<B: Journaled> BlockLock<B> {
 
     // The seat that holds the book takes in all other passes.
     fn take_in<P: IntoPass<B>>(&self, seat: &mut Seat<Slot<B>, ViewOf<B>>, mut passes: Vec<P>)
-        requires own { (seat.old.table_id ≡ self.now)
+        requires own { (seat.old.table_id ≡ self.now.id)
             × All (λ p. IsIdleAt self.now (P.pass_of p)) passes.items }
         requires holds { (seat.old.me.0.holds ≡ true) × (seat.old.me.0.from < seat.old.me.0.until)
             × (seat.old.me.0.told ≡ []) }
@@ -181,12 +196,13 @@ impl<B: Journaled> BlockLock<B> {
     }
 
     /// Ends the sharing. The book's journal begins with what each pass has seen, and has no other
-    /// entries of its worker.
+    /// entries of its worker. All that was added to it is of workers who have passes.
     pub fn close<R: Wait, P: IntoPass<B>>(self, rt: &R, mut passes: Vec<P>) -> B
         requires some { 0 < vec_len passes }
         requires passes { All (λ p. IsIdleAt self (P.pass_of p)) passes.items }
-        ensures { All (λ p. Includes B.worker_of (P.pass_of p) (B.history result))
+        ensures includes { All (λ p. Includes B.worker_of (P.pass_of p) (B.history result))
             passes.items }
+        ensures workers { AreBelow B.worker_of self.seats (drop self.start (B.history result).journal) }
     {
         let last = passes.pop().unwrap();
         let mut pass = last.into_pass();

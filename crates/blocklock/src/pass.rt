@@ -17,9 +17,9 @@ impl<B: Journaled> Model for Pass<B> {
 
     ghost Value = { PassView B.Subject B.Entry };
 
-    ghost use Rattle.blocklock.specs.Passes.{IsSeatOf};
+    ghost use Rattle.blocklock.specs.Passes.{IsSeatOf, seated};
 
-    ghost view = { λ p. record { table = p.seat.table_id; worker = p.worker; subject = p.seat.me.0.subject; seen = p.seat.me.0.seen; holds = p.seat.me.0.holds } };
+    ghost view = { λ p. seated p.seat.table_id p.worker p.seat.me.0 };
 
     ghost invariant = { λ p. IsSeatOf p.worker p.seat.me };
 }

@@ -1,4 +1,5 @@
 // The rule of the table, and the kinds of step.
+ghost use Rattle.std.specs.Prelude.{length};
 ghost use Rattle.blocklock.specs.Rule.{Kept, first_view, took, gave, rest_of, one_of, joined, spent};
 
 use crate::journaled::Journaled;
@@ -15,10 +16,17 @@ pub(crate) type ViewOf<B> = View<<B as Journaled>::Subject, <B as Journaled>::En
 
 pub(crate) struct Rule;
 
-impl<B: Journaled> TableRule<Slot<B>, ViewOf<B>, Snapshot<B>> for Rule {
-    ghost holds = { λ key. Kept B.worker_of (λ b. B.history b.value) (B.history key.value).subject };
+// What a table is told when it is made: the book that is put in, and how many workers have passes.
+#[derive(Drop)]
+pub(crate) struct Key<B> {
+    pub(crate) book: Snapshot<B>,
+    pub(crate) seats: u32,
+}
 
-    ghost first = { λ key. first_view (B.history key.value) };
+impl<B: Journaled> TableRule<Slot<B>, ViewOf<B>, Key<B>> for Rule {
+    ghost holds = { λ key. Kept B.worker_of (λ b. B.history b.value) (B.history key.book.value).subject key.seats (length (B.history key.book.value).journal) };
+
+    ghost first = { λ key. first_view key.seats (B.history key.book.value) };
 }
 
 // To try to take the word.

@@ -12,11 +12,17 @@ pub struct View<S, E> {
     pub holds: bool,
     // Seats that were taken in.
     pub told: LinkedList<Told<S, E>>,
+    // How many workers have seats.
+    pub seats: u32,
+    // How many entries the journal had at first.
+    pub start: usize,
 }
 
-// A seat that was taken in: its worker, what its book is about, and what it had seen.
+// A seat that was taken in: its worker, what its book is about, what it had seen, and how many
+// workers have seats.
 pub struct Told<S, E> {
     pub worker: u32,
     pub subject: S,
     pub seen: LinkedList<E>,
+    pub seats: u32,
 }

@@ -5,6 +5,8 @@ ghost use Rattle.dict.specs.Dictionary.{numbers};
 ghost use Rattle.meaning.specs.Run.{run};
 ghost use Rattle.reads.specs.Reads.{IsDataset};
 ghost use Rattle.update.specs.Asked.{AreShort};
+ghost use Rattle.blocklock.specs.History.{AreBelow};
+ghost use Rattle.shared.specs.Calls.{owner};
 ghost use Rattle.shared.specs.Duty.{IsPassFor};
 
 use crate::crew::Crew;
@@ -35,6 +37,7 @@ fn opened<'a>(
     requires dataset { IsDataset base.now }
     requires workers { (0 < workers) × (workers ≤ 64) }
     ensures count { IfOk result (λ r. length r.1.items ≡ workers) }
+    ensures seats { IfOk result (λ r. r.0.seats ≡ workers) }
     ensures passes { IfOk result (λ r. All (IsPassFor
         (record {
           table = r.0;
@@ -48,8 +51,8 @@ fn opened<'a>(
 
 /// Runs a block on a base to its end, by this many workers, from 1 to 64, each on a thread of its
 /// own where one can be had; the calling thread is one of them. Where it returns, all requests are
-/// committed in the book. The gate sees each answered event. An error comes only where a growth was
-/// refused.
+/// committed in the book, and each entry of its journal is of one of these workers. The gate sees
+/// each answered event. An error comes only where a growth was refused.
 pub fn run_book<'a, R: Threads + Wait + Sync, G: Gate + Sync>(
     rt: &R,
     alloc: Global,
@@ -68,6 +71,7 @@ pub fn run_book<'a, R: Threads + Wait + Sync, G: Gate + Sync>(
     ensures base { IfOk result (λ book. book.base ≡ base.now) }
     ensures block { IfOk result (λ book. book.block ≡ block.now) }
     ensures whole { IfOk result (λ book. length block.now ≤ (state_of book).front) }
+    ensures workers { IfOk result (λ book. AreBelow owner workers book.history) }
 {
     let (shared, passes) = opened(alloc, terms, base, block, workers)?;
     let pace = Pace::new();

@@ -3,7 +3,7 @@ use Rattle.std.proofs.Common.{◌≡◌, ℕ, ◌+◌, ◌-◌, ◌<◌, ◌≤�
 use Rattle.std.proofs.lemmas.Bool.{eq-eqb}
 use Rattle.std.proofs.lemmas.List.{length-map, length-replicate, take-append-drop, take_all, take_more, drop_more, get_or-replicate, get_or-map}
 use Rattle.std.proofs.lemmas.List.FromFn.{length-map-range_with_len, get_or-map-range_with_len}
-use Rattle.std.proofs.lemmas.List.Elements.{filter-append}
+use Rattle.std.proofs.lemmas.List.Elements.{filter-append, All-append, All-nil}
 use Rattle.incarnations.specs.declared.state.Entry.{Entry}
 use Rattle.incarnations.specs.declared.state.Event.{Event}
 use Rattle.incarnations.specs.declared.state.Event.TheVariants.{Read as ReadOf, Check, Commit}
@@ -13,7 +13,7 @@ use Rattle.block_machine.specs.Serial.{IsHistory}
 use Rattle.reads.specs.Reads.{View, Read}
 use Rattle.reads.specs.Questions.{Question}
 use Rattle.book.specs.Run.{Run, state_of, setting_of}
-use Rattle.blocklock.specs.History.{of_worker, GoesOn}
+use Rattle.blocklock.specs.History.{of_worker, AreBelow, GoesOn}
 use Rattle.blocklock.specs.Passes.{Takes, Watches, given}
 use Rattle.shared.specs.declared.kept.Subject.{Subject}
 use Rattle.shared.specs.Calls.{Viewed, owner, history_of, run_of, entry, Answers}
@@ -29,12 +29,19 @@ module _ (a b c : Viewed) (first : Watches owner a b) where
   about : b.subject ≡ a.subject
   about = ap (λ (v : Viewed). v.subject) first.sees
 
+  -- what the pass saw then, behind what it had seen more
+  below_more : (es : List Entry) → AreBelow owner b.table.seats es → AreBelow owner a.table.seats (first.begins.0 ++ es)
+  below_more es h =
+      All-append (λ e. owner e < a.table.seats) first.begins.0 es first.workers
+      (subst (λ n. AreBelow owner n es) (ap (λ (v : Viewed). v.table.seats) first.sees) h)
+
   watches_more : Watches owner b c → Watches owner a c
   watches_more h =
       record {
         sees = h.sees ∙ ap (λ (v : Viewed). record v { seen = c.seen }) first.sees;
         begins = (first.begins.0 ++ h.begins.0, h.begins.1 ∙ ap (λ es. es ++ h.begins.0) first.begins.1 ∙ append_assoc a.seen first.begins.0 h.begins.0);
         mine = h.mine ∙ first.mine;
+        workers = below_more h.begins.0 h.workers;
       }
 
   answers_more : (event : Event) (reply : Reply) → Answers b c event reply → Answers a c event reply
@@ -48,6 +55,7 @@ module _ (a b c : Viewed) (first : Watches owner a b) where
         between = first.begins.0 ++ h.between;
         ends = h.ends ∙ (λ t. seen t ++ entry (by t) event reply ∷ []);
         none_else = filter-append (λ e. eqb (owner e) a.worker) first.begins.0 h.between ∙ (λ t. none t ++ none_then t);
+        workers = below_more h.between h.workers;
         allowed = subst (λ (t : ℕ × Subject × List Entry). IsAllowed t.1.base (state_of (run_of t.1 t.2)) t.0 event reply) (λ t. (by t, about t, seen t)) h.allowed;
         lawful = subst (λ (s : Subject). IsHistory (setting_of (run_of s c.seen)) c.seen) about h.lawful;
       }
@@ -131,6 +139,7 @@ module _ (p : Viewed) (book : Run) (is_about : (history_of book).subject ≡ p.s
         between = [];
         ends = ends ∙ (λ t. same t ++ entry (own t) e r ∷ []);
         none_else = refl;
+        workers = All-nil (λ e. owner e < p.table.seats);
         allowed = subst (λ (t : ℕ × Subject × List Entry). IsAllowed t.1.base (state_of (run_of t.1 t.2)) t.0 e r) (λ t. (own t, is_about t, same t)) allowed;
         lawful = subst (λ (s : Subject). IsHistory (setting_of (run_of s book'.history)) book'.history) still lawful;
       } in

@@ -1,6 +1,6 @@
 -- A pass that took the book and gave it back with one more entry.
-use Rattle.std.proofs.Common.{◌≡◌, ℕ, eqb, false, List, [], ◌∷◌, ◌++◌, length, length-append, refl, sym, ap, subst, ◌∙◌, arith, append-nil, Some, Result, Ok, Err, IfOk, OnErr}
-use Rattle.std.proofs.lemmas.List.Elements.{filter-append}
+use Rattle.std.proofs.Common.{◌≡◌, ◌<◌, ℕ, eqb, false, List, [], ◌∷◌, ◌++◌, length, length-append, refl, sym, ap, subst, ◌∙◌, arith, append-nil, Some, Result, Ok, Err, IfOk, OnErr}
+use Rattle.std.proofs.lemmas.List.Elements.{filter-append, All-nil}
 use Rattle.std.proofs.lemmas.List.{nil_from_length}
 use Rattle.incarnations.specs.declared.state.Entry.{Entry}
 use Rattle.incarnations.specs.declared.state.Event.{Event}
@@ -10,9 +10,11 @@ use Rattle.block_machine.specs.Machine.{IsAllowed}
 use Rattle.block_machine.specs.Serial.{IsHistory}
 use Rattle.book.specs.Run.{Run, state_of, setting_of, IsSoundEvent}
 use Rattle.blocklock.specs.History.{of_worker}
-use Rattle.blocklock.specs.Passes.{Takes, Watches}
+use Rattle.blocklock.specs.Passes.{Takes, Watches, given}
 use Rattle.shared.specs.declared.kept.Subject.{Subject}
-use Rattle.shared.specs.Calls.{Viewed, owner, history_of, run_of, entry, Answers, Unmade, Made}
+use Rattle.shared.specs.Calls.{Viewed, owner, history_of, run_of, entry, Answers, Unmade, Made, Tried}
+use Rattle.shared.specs.declared.refused.Refused.{Refused}
+use Rattle.shared.specs.declared.refused.Refused.TheVariants.{Busy, OutOfMemory}
 
 -- the earlier journal's entries of the worker are all of the later one's, so what lies between has
 -- none
@@ -56,6 +58,7 @@ module _ (old mid : Viewed) (book : Run) (takes : Takes owner old (history_of bo
         between = takes.includes.begins.0;
         ends = ap (λ (p : Viewed). p.seen) gave ∙ (λ i. seen i ++ entry (worker i) event reply ∷ []);
         none_else = none_between old.worker old.seen takes.includes.begins.0 (ap (of_worker owner old.worker) (sym takes.includes.begins.1) ∙ takes.includes.mine);
+        workers = takes.includes.workers;
         allowed = subst (λ (t : ℕ × Subject × List Entry). IsAllowed t.1.base (state_of (run_of t.1 t.2)) t.0 event reply) (λ i. (worker i, subject i, seen i)) allowed;
         lawful = subst (λ (s : Subject). IsHistory (setting_of (run_of s new.seen)) new.seen) subject lawful;
       }
@@ -75,7 +78,12 @@ module _ (old mid : Viewed) (book : Run) (takes : Takes owner old (history_of bo
         };
         begins = (takes.includes.begins.0, now ∙ takes.includes.begins.1);
         mine = (λ i. of_worker owner (by i) (now i)) ∙ takes.includes.mine;
+        workers = takes.includes.workers;
       }
+
+  -- the book was given back as it was taken
+  pub watches_given : (new : Viewed) → new ≡ given mid (history_of book) → Watches owner old new
+  watches_given new gave = watches new (gave ∙ (λ i. record mid { seen = sym (ap (λ (p : Viewed). p.seen) takes.sees) i; holds = false }))
 
   -- and what it has seen is a history
   pub unmade : (new : Viewed) → new ≡ record mid { holds = false } → IsHistory (setting_of (run_of mid.subject new.seen)) new.seen → Unmade old new
@@ -91,6 +99,17 @@ module _ (old mid : Viewed) (book : Run) (takes : Takes owner old (history_of bo
 -- a call that left the pass as it was
 pub unmade_so : (p q : Viewed) → q ≡ p → Unmade p q
 unmade_so p q same = subst (Unmade p) (sym same) (record {
-  watches = record { sees = refl; begins = ([], sym (append-nil p.seen)); mine = refl };
+  watches = record { sees = refl; begins = ([], sym (append-nil p.seen)); mine = refl; workers = All-nil (λ e. owner e < p.table.seats) };
   lawful = λ h. h;
 })
+
+-- memory ran out before the book was taken
+pub made_not : {X : Type 0} (p : Viewed) (event : Event) (r : Result Reply X) (x : X) → r ≡ Err x → Made p p event r
+made_not p event r x is = subst (Made p p event) (sym is) (unmade_so p p refl)
+
+pub tried_not : (p : Viewed) (event : Event) (r : Result Reply Refused) (x : Refused) → r ≡ Err x → Tried p p event r
+tried_not p event r x is = subst (Tried p p event) (sym is) (by_why x)
+  where
+    by_why : (x : Refused) → Tried p p event (Err x)
+    by_why Busy = refl
+    by_why OutOfMemory = unmade_so p p refl

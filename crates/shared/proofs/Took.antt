@@ -2,6 +2,7 @@
 -- take of a request or without.
 use Rattle.std.proofs.Common.{◌≡◌, ◌<◌, ℕ, Bool, true, false, length, append-nil, inl, inr, List, [], ◌∷◌, ◌++◌, Option, Some, None, Result, Ok, Err, IfOk, OnErr, refl, sym, ap, subst, ◌∙◌}
 use Rattle.std.specs.Prelude.{IfSome}
+use Rattle.std.proofs.lemmas.List.Elements.{All-nil}
 use Rattle.incarnations.specs.declared.state.Event.{Event}
 use Rattle.incarnations.specs.declared.state.Reply.{Reply}
 use Rattle.block_machine.specs.Machine.{IsAllowed}
@@ -90,7 +91,7 @@ took_next old mid new before held read after worker most r takes is_held is_read
 -- what a pass knows that holds a book of which it has seen all
 holds_it : (p : Viewed) (book : Run) → (history_of book).subject ≡ p.subject → Takes owner (given p (history_of book)) (history_of book) (record p { seen = book.history; holds = true })
 holds_it p book about =
-    record { was_free = refl; includes = record { subject = about; begins = ([], sym (append-nil book.history)); mine = refl }; sees = refl }
+    record { was_free = refl; includes = record { subject = about; begins = ([], sym (append-nil book.history)); mine = refl; workers = All-nil (λ e. owner e < p.table.seats) }; sees = refl }
 
 pub took_while : {X : Type 0} (p : Viewed) (book book' : Run) (worker most : ℕ) (r : Result Next X) → (history_of book).subject ≡ p.subject → worker ≡ p.worker → IsHistory (setting_of book) book.history
     → IfOk r (λ t. IsNext (state_of book) t.task) → IfOk r (λ t. t.taken ≡ None → (taking most t.task ≡ None) × (book' ≡ book))

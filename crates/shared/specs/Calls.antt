@@ -11,7 +11,7 @@ use Rattle.incarnations.specs.declared.state.Entry.{Entry}
 use Rattle.block_machine.specs.Machine.{IsAllowed}
 use Rattle.block_machine.specs.Serial.{IsHistory}
 use Rattle.book.specs.Run.{Run, state_of, setting_of, kept}
-use Rattle.blocklock.specs.History.{History, of_worker}
+use Rattle.blocklock.specs.History.{History, of_worker, AreBelow}
 use Rattle.blocklock.specs.Passes.{PassView, Watches}
 use Rattle.shared.specs.declared.kept.Subject.{Subject}
 use Rattle.shared.specs.declared.refused.Refused.{Refused}
@@ -42,18 +42,19 @@ abbrev pub entry : ℕ → Event → Reply → Entry
 entry worker event reply = record { worker = worker; event = kept event reply; reply = reply }
 
 -- The pass has seen a history that begins with what it had seen, ends with this event and its
--- reply, and has no other new entry of its worker. The reply is lawful where the event was made,
--- and the history throughout.
+-- reply, and has no other new entry of its worker, nor of a worker who has no pass. The reply is
+-- lawful where the event was made, and the history throughout.
 pub record Answers (old new : Viewed) (event : Event) (reply : Reply) : Type 0 where
   pub sees : new ≡ record old { seen = new.seen }
   pub between : List Entry
   pub ends : new.seen ≡ (old.seen ++ between) ++ entry old.worker event reply ∷ []
   pub none_else : of_worker owner old.worker between ≡ []
+  pub workers : AreBelow owner old.table.seats between
   pub allowed : IsAllowed old.subject.base (state_of (run_of old.subject (old.seen ++ between))) old.worker event reply
   pub lawful : IsHistory (setting_of (run_of old.subject new.seen)) new.seen
 
 -- A call was not made, since a growth was refused: the pass has at most seen more, with no new
--- entry of its worker, and what it has seen is a history if what it had seen is one.
+-- entry of its worker or of one who has no pass, and what it has seen is a history if what it had seen is one.
 pub record Unmade (old new : Viewed) : Type 0 where
   pub watches : Watches owner old new
   pub lawful : IsHistory (setting_of (run_of old.subject old.seen)) old.seen → IsHistory (setting_of (run_of old.subject new.seen)) new.seen

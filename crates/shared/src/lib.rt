@@ -3,7 +3,8 @@
 //!
 //! The contract used above: a call that is answered leaves the pass with a lawful history that goes
 //! on from what it had seen, ends with the call's entry, and has no other new entry of its worker.
-//! At the end the journal begins with what each pass has seen.
+//! At the end the journal begins with what each pass has seen. All entries are of workers who have
+//! passes.
 #![tactic(auto)]
 
 mod in_turn;

@@ -5,6 +5,7 @@ ghost use Rattle.block_machine.specs.Machine.{IsAllowed};
 ghost use Rattle.block_machine.specs.Scans.{questions_of};
 ghost use Rattle.block_machine.specs.Serial.{IsHistory};
 ghost use Rattle.book.specs.Run.{state_of, setting_of, IsSoundEvent};
+ghost use Rattle.blocklock.specs.History.{AreBelow};
 ghost use Rattle.blocklock.specs.Passes.{IsIdleAt, Includes, Takes, MayGive, Watches, fresh_pass, given};
 ghost use Rattle.scheduler.specs.Task.{IsNext};
 ghost use Rattle.shared.specs.Calls.{owner, history_of, run_of, entry, IsSoundAt, Made, Tried, Has};
@@ -26,18 +27,23 @@ use std::alloc::{AllocError, Global};
 use std::marker::Model;
 use std::sync::Wait;
 
-/// A book that threads share. To a contract it is the name of its lock's table.
+/// A book that threads share. To a contract it is its lock's table, with how many workers have
+/// passes.
 #[derive(Drop)]
 pub struct SharedBlock<'a> {
     pub(crate) lock: BlockLock<Kept<'a>>,
 }
 
 impl<'a> Model for SharedBlock<'a> {
-    ghost use Rattle.atomic_table.specs.Seated.{TableId};
+    ghost use Rattle.std.specs.Prelude.{◌≡◌};
+    ghost use Rattle.blocklock.specs.Passes.{LockTable};
 
-    ghost Value = { TableId };
+    ghost Value = { LockTable };
 
     ghost view = { λ s. s.lock };
+
+    // Before any event.
+    ghost invariant = { λ s. s.lock.start ≡ 0 };
 }
 
 // Gives the book back.
@@ -83,7 +89,7 @@ fn make<'a>(
 
 impl<'a> SharedBlock<'a> {
     /// The shared book of a base and a block before any event, with a pass for each worker, from
-    /// worker 0 on.
+    /// worker 0 on. No other worker has a pass.
     pub fn new(
         alloc: Global,
         terms: &'a Dict,
@@ -94,6 +100,7 @@ impl<'a> SharedBlock<'a> {
         requires dataset { IsDataset base.now }
         requires seats { (0 < seats) × (seats ≤ 64) }
         ensures count { IfOk result (λ r. vec_len r.1 ≡ seats) }
+        ensures seats { IfOk result (λ r. r.0.seats ≡ seats) }
         ensures passes { IfOk result (λ r. (k : ℕ) → k < seats
             → slice_get r.1.items k ≡ Some
             (fresh_pass r.0 (history_of (record
@@ -193,11 +200,13 @@ impl<'a> SharedBlock<'a> {
     }
 
     /// Ends the sharing. The book's journal begins with what each pass has seen, and has no other
-    /// entries of its worker; no commit that a pass knew of is taken back.
+    /// entries of its worker; no commit that a pass knew of is taken back. All its entries are of
+    /// workers who have passes.
     pub fn close<R: Wait>(self, rt: &R, passes: Vec<Pass<'a>>) -> Book<'a>
         requires some { 0 < vec_len passes }
         requires passes { All (IsIdleAt self) passes.items }
         ensures includes { All (λ p. Includes owner p (history_of result)) passes.entry.items }
+        ensures workers { AreBelow owner self.entry.seats result.history }
         ensures fronts { All (λ p. (state_of (run_of p.subject p.seen)).front
             ≤ (state_of result).front) passes.entry.items }
     {

@@ -1,5 +1,7 @@
-use Rattle.std.proofs.Common.{ap}
+use Rattle.std.proofs.Common.{ℕ, ap, subst}
+use Rattle.blocklock.specs.History.{AreBelow}
 use Rattle.shared.specs.declared.kept.Subject.{Subject}
+use Rattle.shared.specs.Calls.{owner}
 use Rattle.pool.proofs.Passes.{subject_is, front_is}
 use Rattle.pool.proofs.run.run_book.Goals as goal
 
@@ -19,3 +21,6 @@ pub returns-clause-whole : goal.returns-clause-whole
 returns-clause-whole g c =
     front_is (record { table = c.in_ok-shared.shared; subject = record { terms = c.args.terms.now; base = c.args.base.now; block = c.args.block.now } }) c.close.result _ c.in_ok-passes.passes.items _
     c.in_ok-shared.ensures.count c.requires.some c.in_ok-passes.ensures c.close.ensures.fronts
+
+pub returns-clause-workers : goal.returns-clause-workers
+returns-clause-workers g c = subst (λ (n : ℕ). AreBelow owner n c.close.result.history) c.in_ok-shared.ensures.seats c.close.ensures.workers

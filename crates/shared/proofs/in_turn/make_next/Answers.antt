@@ -15,6 +15,11 @@ returns-in_err-reserve c =
     let told = err_from_is_err_and c.from_residual.result c.from_residual.ensures.1 in
     went_nowhere _ _ c.requires.subject _ _ _ _ c.from_residual.result told.0 told.1 (search rules) (search rules)
 
+pub returns-in_err-reply : goal.returns-in_err-reply
+returns-in_err-reply c =
+    let told = err_from_is_err_and c.from_residual-in_err-reply.result c.from_residual-in_err-reply.ensures.1 in
+    went_nowhere _ _ c.requires.subject _ _ _ _ c.from_residual-in_err-reply.result told.0 told.1 (search rules) (search rules)
+
 pub returns : goal.returns
 returns c =
     went_one c.args.pass.now c.args.book.now c.requires.subject c.step_scanned.new.self c.worker.result c.args.event.now c.in_ok-reply.reply c.lets_go_on-goes_on.result c.args.replies.now.items c.push_reserved.new.self.items

@@ -5,5 +5,5 @@ use Rattle.blocklock.proofs.lock.BlockLock.new.Given as goal
 
 abbrev pub invariant-loop-worker : goal.invariant-loop-worker
 invariant-loop-worker g l =
-    (l.seat.table_id ≡ l.lock) × (l.seat.me ≡ dealer (g.B.Journaled.history l.fn.book) l.worker) × (l.seats ≤ vec_capacity l.passes) × (vec_len l.passes ≡ l.worker)
+    (l.seat.table_id ≡ l.lock.id) × (l.seat.me ≡ dealer l.seats (g.B.Journaled.history l.fn.book) l.worker) × (l.seats ≤ vec_capacity l.passes) × (vec_len l.passes ≡ l.worker)
     × ((k : ℕ) → k < l.worker → slice_get l.passes.items k ≡ Some (fresh_pass l.lock (g.B.Journaled.history l.fn.book) k))

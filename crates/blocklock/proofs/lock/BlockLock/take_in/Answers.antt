@@ -17,10 +17,10 @@ join_seat-requires g c =
     let from = w.from in
     let until = w.until in (
       search rules,
-      ap (λ p. p.table) is ∙ (idle.0 ∙ sym c.self.view_is),
+      ap (λ p. p.table.id) is ∙ ap (λ t. t.id) (idle.0 ∙ sym c.self.view_is),
       no_slots _ _ w (ap (λ p. p.holds) is ∙ idle.1),
       search rules,
-      takes_in _ _ _ _ _ _ _ _ (ap (λ v. v.holds) i.3 ∙ c.requires.holds.0) (omega arith, omega arith) (omega arith, omega arith),
+      takes_in _ _ _ _ _ _ _ _ _ _ (ap (λ v. v.holds) i.3 ∙ c.requires.holds.0) (omega arith, omega arith) (omega arith, omega arith),
     )
 
 pub loop-next-preserved : goal.loop-next-preserved
@@ -34,5 +34,5 @@ loop-next-preserved g c =
       (All-pop (λ p. IsIdleAt c.args.self.now (pass_of p)) _ c.pop.new.self.items (Some c.in-Some.next) c.in-Some.ensures.items i.2).0,
       taken_in c.args.seat.now.me.0 c.loop-next.seat.me.0 c.join_seat.new.seat.me.0 c.pass.inside.seat.me.0 i.3 is,
       told_more pass_of c.pop.new.self.items c.loop-next.passes.items c.args.passes.items c.in-Some.next c.loop-next.seat.me.0 c.join_seat.new.seat.me.0 c.pass.inside.seat.me.0 c.in-Some.ensures.items is
-          (sym (ap (λ p. p.worker) view) ∙ sym c.pass.invariant.from) (sym (ap (λ p. p.subject) view)) (sym (ap (λ p. p.seen) view)) i.4,
+          (sym (ap (λ p. p.worker) view) ∙ sym c.pass.invariant.from) (sym (ap (λ p. p.subject) view)) (sym (ap (λ p. p.seen) view)) (sym (ap (λ p. p.table.seats) view)) i.4,
     )

@@ -10,4 +10,4 @@ store-requires g c =
     let worker_of = g.B.Journaled.worker_of in
     let history = g.B.Journaled.history in
     let may = may_give worker_of (λ b. history b.value) c.pass.inside.worker seat.me seat.table_id book c.pass.invariant (subst (λ p. MayGive worker_of p (history book.value)) (sym c.pass.view_is) c.requires.1) in
-    (search rules, search rules, gives_book worker_of (λ b. history b.value) _ _ _ _ _ _ _ c.exchange.ensures.3 (omega arith) may)
+    (search rules, search rules, gives_book worker_of (λ b. history b.value) _ _ _ _ _ _ _ _ _ c.exchange.ensures.3 (omega arith) may)

@@ -1,7 +1,18 @@
-use Rattle.std.proofs.Common.{arith, ap}
+use Rattle.std.proofs.Common.{[], ◌++◌, ◌∙◌, arith, ap, sym, append-nil}
+use Rattle.std.proofs.lemmas.Result.{err_from_is_err_and}
+use Rattle.shared.specs.InTurn.{checking, committing}
 use Rattle.shared.specs.declared.kept.Kept.{Kept}
-use Rattle.shared.proofs.InTurn.{adds}
+use Rattle.shared.proofs.InTurn.{adds, in_turn_refused}
 use Rattle.shared.proofs.shared_block.SharedBlock.settle.Goals as goal
+
+pub returns-in_err-reserve : goal.returns-in_err-reserve
+returns-in_err-reserve g c =
+    let told = err_from_is_err_and c.from_residual.result c.from_residual.ensures.1 in
+    record {
+      replies = [];
+      added = c.in_err-reserve.ensures.items ∙ sym (append-nil c.args.replies.now.items);
+      in_turn = in_turn_refused c.args.pass.now (checking c.args.i c.args.n c.args.notes ++ committing c.args.i c.args.until) c.from_residual.result told.0 (omega arith) told.1;
+    }
 
 pub returns : goal.returns
 returns g c =

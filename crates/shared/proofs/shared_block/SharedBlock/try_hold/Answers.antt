@@ -1,6 +1,5 @@
 use Rattle.std.proofs.Common.{◌≡◌, ◌∙◌, ap, sym, subst, IfOk}
-use Rattle.atomic_table.specs.Seated.{TableId}
-use Rattle.blocklock.specs.Passes.{Takes}
+use Rattle.blocklock.specs.Passes.{LockTable, Takes}
 use Rattle.shared.specs.Calls.{Viewed, owner, history_of}
 use Rattle.shared.proofs.Passes.{still_about}
 use Rattle.shared.proofs.shared_block.SharedBlock.try_hold.Goals as goal
@@ -13,4 +12,4 @@ invariant_of-pass c =
 
 pub returns-clause-held : goal.returns-clause-held
 returns-clause-held c =
-    subst (λ (t : TableId × Viewed). IfOk c.try_hold.result (λ h. (h.lock.now ≡ t.0) × Takes owner t.1 (history_of h.book.value.book) c.try_hold.new.pass)) (λ k. (c.self.view_is k, c.pass.view_is k)) c.try_hold.ensures.held
+    subst (λ (t : LockTable × Viewed). IfOk c.try_hold.result (λ h. (h.lock.now ≡ t.0) × Takes owner t.1 (history_of h.book.value.book) c.try_hold.new.pass)) (λ k. (c.self.view_is k, c.pass.view_is k)) c.try_hold.ensures.held
