@@ -1,6 +1,6 @@
 -- Which reads are near a request: a run that reads only these conflicts with another only where
 -- their quads meet.
-use Rattle.std.specs.Prelude.{Bool, true, false, not, ◌&&◌, ◌||◌, List, Option, Some, None, is_none, is_some}
+use Rattle.std.specs.Prelude.{Bool, true, false, ◌&&◌, ◌||◌, List, Option, Some, None, is_none}
 use Rattle.std.specs.List.{list_any}
 use Rattle.std.specs.Option.{option_map, option_cmp}
 use Rattle.std.specs.declared.cmp.Ordering.{Ordering}
@@ -44,16 +44,11 @@ is_any (Only g) = false
 abbrev pub is_free : {K : Type 0} → QuadPattern K → Bool
 is_free p = is_none p.subject && (is_none p.predicate && (is_none p.object && is_any p.graph))
 
--- a question for one quad: each of the four places is bound
-abbrev pub is_bound : {K : Type 0} → QuadPattern K → Bool
-is_bound p = is_some p.subject && (is_some p.predicate && (is_some p.object && not (is_any p.graph)))
-
--- a read for more graphs than one: of all quads, of all names, or whether one quad or one name is
--- there
-abbrev pub is_of_graphs : {K : Type 0} → Read K → Bool
-is_of_graphs (Scan p) = is_free p || is_bound p
-is_of_graphs (GraphIs g) = true
-is_of_graphs Graphs = true
+-- a read for more graphs than one: the scan of all quads, or the question for all names
+abbrev pub is_of_all : {K : Type 0} → Read K → Bool
+is_of_all (Scan p) = is_free p
+is_of_all (GraphIs g) = false
+is_of_all Graphs = true
 
 module _ {K : Type 0} (R : K → K → Ordering) where
   -- whether the name of a graph is written where the pattern goes into a graph
@@ -139,8 +134,8 @@ module _ {K : Type 0} (R : K → K → Ordering) where
   abbrev pub is_near_target : Target K → Read K → Bool
   is_near_target (target.Graph g) read = is_of_graph (Some g) read
   is_near_target target.Default read = is_of_graph None read
-  is_near_target target.Named read = is_of_graphs read
-  is_near_target target.All read = is_of_graphs read
+  is_near_target target.Named read = is_of_all read
+  is_near_target target.All read = is_of_all read
 
   abbrev pub is_near_graphs : GraphOperation K → Read K → Bool
   is_near_graphs (graphs.Create g) read = is_of_graph (Some g) read

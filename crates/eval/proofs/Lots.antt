@@ -1,6 +1,6 @@
 -- Scans that are asked for at once, and the notes of them.
 use Rattle.std.specs.Prelude.{Bool, true, filter, map, drop}
-use Rattle.std.proofs.Common.{◌≡◌, ◌≤◌, ◌<◌, ◌+◌, ◌-◌, ℕ, zero, suc, List, [], ◌∷◌, ◌++◌, length, get_or, Option, Some, refl, sym, ap, ◌∙◌, subst, arith, add-one, drop-cons}
+use Rattle.std.proofs.Common.{◌≡◌, ◌≤◌, ◌<◌, ◌+◌, ℕ, zero, suc, List, [], ◌∷◌, length, get_or, Option, Some, refl, ap, ◌∙◌, subst, arith, add-one, drop-cons}
 use Rattle.sets.proofs.Every.{all_map}
 use Rattle.datasets.specs.declared.id.Id.{Id}
 use Rattle.datasets.specs.declared.read.Read.TheVariants.{Scan}

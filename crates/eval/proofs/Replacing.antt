@@ -6,7 +6,7 @@ use Rattle.sets.specs.Sets.{has, set_of, union, without}
 use Rattle.sets.proofs.SetLaws.{same_set, sorted-set_of, has-set_of, has-union, has-without, set_twice}
 use Rattle.datasets.specs.declared.id.Id.{Id}
 use Rattle.datasets.specs.declared.quad.Quad.{Quad}
-use Rattle.datasets.specs.Dataset.{quad_order, names_of}
+use Rattle.datasets.specs.Dataset.{names_of}
 use Rattle.datasets.specs.Id.{id_order, id_total, id_exact, quad_total, quad_exact}
 use Rattle.reads.specs.Reads.{View, Delta, applied}
 use Rattle.eval.specs.Changes.{replaced_change, with_replaced}

@@ -1,12 +1,12 @@
 //! Graph names through changes.
-ghost use Rattle.std.specs.Prelude.{◌≡◌, Bool, true, List, Some, IfOk};
+ghost use Rattle.std.specs.Prelude.{◌≡◌, ◌∷◌, [], Bool, true, List, Some, IfOk, OnOk};
 ghost use Rattle.sets.specs.Sets.{has};
 ghost use Rattle.datasets.specs.Id.{id_order};
 ghost use Rattle.datasets.specs.declared.id.Id.{Id as Name};
 ghost use Rattle.datasets.specs.declared.read.Read.TheVariants as reading;
 ghost use Rattle.reads.specs.Reads.{View, Read as Reading, applied, told_is, told_names};
 ghost use Rattle.reads.specs.Runs.{Agrees};
-ghost use Rattle.asking.specs.Goes.{Goes, stop_of};
+ghost use Rattle.asking.specs.Goes.{AreNoted, Goes, stop_of};
 
 use crate::changes::{is_named_after, names_after};
 use asking::ask;
@@ -56,7 +56,7 @@ pub fn is_graph<S: Source>(
 }
 
 /// The names of the graphs, in each changed dataset that agrees with the notes. It asks for the
-/// names and nothing else.
+/// names and nothing else, and notes them.
 pub fn graphs<S: Source>(
     alloc: Global,
     changes: &Delta,
@@ -66,6 +66,7 @@ pub fn graphs<S: Source>(
     ensures goes { (allowed : Reading → Bool) → allowed reading.Graphs ≡ true
         → Goes S.asks allowed source.old source.new notes.old.items notes.new.items
         (stop_of result) }
+    ensures noted { OnOk result (AreNoted (reading.Graphs ∷ []) notes.old.items notes.new.items) }
     ensures seen { IfOk result (λ names. (d : View) → Agrees notes.new.items d
         → names.items ≡ (applied changes.now d).names) }
 {

@@ -7,7 +7,7 @@ ghost use Rattle.datasets.specs.declared.quad.Quad.{Quad as QuadOf};
 ghost use Rattle.datasets.specs.declared.read.Read.TheVariants.{Scan};
 ghost use Rattle.reads.specs.Reads.{View, Read as Reading, applied, told_quads};
 ghost use Rattle.reads.specs.Runs.{Agrees};
-ghost use Rattle.asking.specs.Goes.{Goes, stop_of};
+ghost use Rattle.asking.specs.Goes.{AreNoted, Goes, stop_of};
 ghost use Rattle.eval.specs.Changes.{seen_through};
 
 use crate::changes::quads_after;
@@ -38,7 +38,7 @@ pub(crate) fn told_after(
 }
 
 /// The quads of a pattern, in each changed dataset that agrees with the notes. It asks for the
-/// pattern's quads and nothing else.
+/// pattern's quads and nothing else, and notes them.
 pub fn scan<S: Source>(
     alloc: Global,
     pattern: &QuadPattern<Id>,
@@ -49,6 +49,8 @@ pub fn scan<S: Source>(
     ensures goes { (allowed : Reading → Bool) → allowed (Scan pattern.now) ≡ true
         → Goes S.asks allowed source.old source.new notes.old.items notes.new.items
         (stop_of result) }
+    ensures noted { OnOk result (AreNoted (Scan pattern.now ∷ []) notes.old.items
+        notes.new.items) }
     ensures seen { IfOk result (λ quads. (d : View) → Agrees notes.new.items d
         → quads ≡ filter (matches id_order pattern.now) (applied changes.now d).quads) }
 {

@@ -27,6 +27,8 @@ use Rattle.asking.specs.Near.{is_of_graph, is_near_target, is_near_graphs}
 use Rattle.reads.specs.Reads.{View, Read, Delta, applied}
 use Rattle.reads.specs.Presence.{scan_for}
 use Rattle.update.specs.Asked.{AskedQuads, AskedNames, IsWithin}
+use Rattle.reads.specs.declared.note.Note.{Note}
+use Rattle.update.specs.Known.{is_free_scan, has_free_scan, or_told}
 use Rattle.update.specs.Graphs.{target_of, is_among, quads_of, place_of, whole, name_list, name_leaving}
 use Rattle.update.proofs.GraphEffects.{among_one}
 
@@ -59,7 +61,7 @@ second_near how from to r e = or_right _ _ (sym (one_near to r) ∙ e)
 
 -- ---- names
 
-named_more : (allowed more : Read → Bool) → ((r : Read) → allowed r ≡ true → more r ≡ true) → (names : List Id) → AskedNames allowed names → AskedNames more names
+pub named_more : (allowed more : Read → Bool) → ((r : Read) → allowed r ≡ true → more r ≡ true) → (names : List Id) → AskedNames allowed names → AskedNames more names
 named_more allowed more f [] h = tt
 named_more allowed more f (g ∷ names) h = (f (GraphIs g) h.0, named_more allowed more f names h.1)
 
@@ -78,14 +80,15 @@ leaving_near transfer.Move from to = named_more (is_of_graph id_order from) (is_
 
 -- ---- quads
 
--- a quad of a graph that is named
-quad_near : (t : Target Id) (q : Quad Id) → is_among t q.graph ≡ true → is_near_target id_order t (scan_for q) ≡ true
-quad_near (target.Graph g) q e = e
-quad_near target.Default q e = sym (among_one None q.graph) ∙ e
-quad_near target.Named q e = refl
-quad_near target.All q e = refl
+-- a quad of a graph that is named: near that graph, or told of, where all quads were asked for
+quad_near : (t : Target Id) (notes : List Note) → (is_free_scan (Scan (whole (place_of t))) ≡ true → has_free_scan notes ≡ true)
+    → (q : Quad Id) → is_among t q.graph ≡ true → or_told (is_near_target id_order t) notes (scan_for q) ≡ true
+quad_near (target.Graph g) notes f q e = or_left _ _ e
+quad_near target.Default notes f q e = or_left _ _ (sym (among_one None q.graph) ∙ e)
+quad_near target.Named notes f q e = f refl
+quad_near target.All notes f q e = f refl
 
-kept_if : {A : Type 0} (P : A → Type 0) (x : A) (xs : List A) (b : Bool) → (b ≡ true → P x) → AllByRecursion P xs → AllByRecursion P (if b then x ∷ xs else xs)
+pub kept_if : {A : Type 0} (P : A → Type 0) (x : A) (xs : List A) (b : Bool) → (b ≡ true → P x) → AllByRecursion P xs → AllByRecursion P (if b then x ∷ xs else xs)
 kept_if P x xs true f h = (f refl, h)
 kept_if P x xs false f h = h
 
@@ -93,8 +96,9 @@ all_kept : {A : Type 0} (P : A → Type 0) (p : A → Bool) → ((x : A) → p x
 all_kept P p f [] = tt
 all_kept P p f (x ∷ xs) = kept_if P x (filter p xs) (p x) (f x) (all_kept P p f xs)
 
-pub quads_near : (t : Target Id) (quads : List (Quad Id)) → AskedQuads (is_near_target id_order t) (quads_of t quads)
-quads_near t quads = all_kept (λ q. is_near_target id_order t (scan_for q) ≡ true) (λ q. is_among t q.graph) (quad_near t) quads
+pub quads_near : (t : Target Id) (notes : List Note) → (is_free_scan (Scan (whole (place_of t))) ≡ true → has_free_scan notes ≡ true)
+    → (quads : List (Quad Id)) → AskedQuads (or_told (is_near_target id_order t) notes) (quads_of t quads)
+quads_near t notes f quads = all_kept (λ q. or_told (is_near_target id_order t) notes (scan_for q) ≡ true) (λ q. is_among t q.graph) (quad_near t notes f) quads
 
 pub asked_more : (allowed more : Read → Bool) → ((r : Read) → allowed r ≡ true → more r ≡ true) → (quads : List (Quad Id)) → AskedQuads allowed quads → AskedQuads more quads
 asked_more allowed more f [] h = tt

@@ -5,23 +5,22 @@ use Rattle.std.proofs.lemmas.Bool.{false≢true}
 use Rattle.std.proofs.lemmas.List.{append-nil}
 use Rattle.sets.specs.Sets.{has, set_of}
 use Rattle.sets.proofs.SetLaws.{sorted-set_of}
-use Rattle.sets.proofs.Every.{all_kept, all_map, all_joined}
 use Rattle.std.specs.List.Sorted.{IsStrictlySortedBy}
 use Rattle.datasets.specs.declared.id.Id.{Id}
 use Rattle.datasets.specs.declared.quad.Quad.{Quad}
 use Rattle.datasets.specs.declared.read.Read.TheVariants.{Scan, GraphIs, Graphs}
 use Rattle.datasets.specs.Dataset.{quad_order}
 use Rattle.datasets.specs.Id.{id_order, id_total}
-use Rattle.reads.specs.Reads.{View, Delta, Read, Answer, says}
+use Rattle.reads.specs.Reads.{View, Read, Answer, says}
 use Rattle.reads.specs.Runs.{Agrees}
 use Rattle.reads.specs.declared.note.Note.{Note}
-use Rattle.asking.specs.Goes.{AreAllowed, AreNoted}
+use Rattle.asking.specs.Goes.{AreNoted}
 use Rattle.asking.proofs.Notes.{noted_behind}
 use Rattle.update.specs.Told.{first_told}
 use Rattle.update.specs.Whole.{WholeGraphs, is_known, told_in, KnowsWhole}
 use Rattle.reads.specs.Presence.{scan_for}
-use Rattle.update.specs.Asked.{has_quads, has_name, AskedQuads, AskedNames, IsWithin}
-use Rattle.update.specs.Known.{is_of_graphs, names_in, WhatIsKnown, told_of, Knows, scans_for_untold, questions_for_untold, reads_for_untold, Tell}
+use Rattle.update.specs.Asked.{has_quads, has_name}
+use Rattle.update.specs.Known.{is_of_graphs, names_in, WhatIsKnown, told_of, Knows, scans_for_untold, questions_for_untold, Tell}
 use Rattle.update.proofs.Told.{has_it}
 use Rattle.update.proofs.ToldScans.{first_is, or_is}
 
@@ -115,25 +114,6 @@ no_names k later = chosen k.has_graphs
     chosen false = refl
 
 -- ---- the notes of a lot
-
--- what asks for the quads of which it wasn't told is allowed where what asks for all of them is
-pub allowed_untold : (allowed : Read → Bool) (k : WhatIsKnown) (quads : List (Quad Id)) → AskedQuads allowed quads → AreAllowed allowed (scans_for_untold k quads)
-allowed_untold allowed k quads h =
-    all_map (λ r. allowed r ≡ true) (λ q. scan_for q) _ (all_kept (λ q. allowed (scan_for q) ≡ true) (λ q. is_none (told_of k q)) quads h)
-
--- and so with names
-allowed_names : (allowed : Read → Bool) (k : WhatIsKnown) (names : List Id) → AskedNames allowed names → AreAllowed allowed (questions_for_untold k names)
-allowed_names allowed k names h = chosen k.has_graphs
-  where
-    chosen : (b : Bool) → AreAllowed allowed (if b then [] else map (λ g. GraphIs g) names)
-    chosen true = tt
-    chosen false = all_map (λ r. allowed r ≡ true) (λ g. GraphIs g) names h
-
--- and with all that a change speaks of
-pub allowed_all : (allowed : Read → Bool) (k : WhatIsKnown) (c : Delta) → IsWithin allowed c → AreAllowed allowed (reads_for_untold k c)
-allowed_all allowed k c h =
-    let names = all_joined (λ r. allowed r ≡ true) _ _ (allowed_names allowed k c.there h.there) (allowed_names allowed k c.gone h.gone) in
-    all_joined (λ r. allowed r ≡ true) _ _ (allowed_untold allowed k c.present h.present) (all_joined (λ r. allowed r ≡ true) _ _ (allowed_untold allowed k c.absent h.absent) names)
 
 -- the last notes are those of what was asked for at once
 pub lot_told : (k : WhatIsKnown) (reads : List Read) (notes notes' tail : List Note) (n : ℕ) (d : View)

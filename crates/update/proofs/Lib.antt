@@ -12,4 +12,6 @@ pub mod GraphNearness
 pub mod WholeGraphs
 pub mod ToldScans
 pub mod KnownQuads
+pub mod FreeScans
+pub mod ToldReads
 pub mod NewNotes

@@ -1,5 +1,5 @@
 -- Notes of reads that were not asked for before.
-use Rattle.std.specs.Prelude.{ℕ, Bool, true, false, nat_lt, if◌then◌else◌}
+use Rattle.std.specs.Prelude.{Bool, true, false, nat_lt, if◌then◌else◌}
 use Rattle.std.specs.Option.{option_map}
 use Rattle.std.proofs.Common.{◌≡◌, ◌≤◌, List, [], ◌∷◌, ◌++◌, length, Option, Some, None, Result, refl, sym, ap, subst, ◌∙◌, append_assoc}
 use Rattle.std.proofs.lemmas.List.{append-nil, append_cancel_left}
@@ -18,7 +18,7 @@ use Rattle.reads.specs.Runs.{Agrees}
 use Rattle.reads.specs.declared.note.Note.{Note}
 use Rattle.reads.specs.declared.source.Stop.{Stop}
 use Rattle.solution.specs.Limits.{up_to}
-use Rattle.update.specs.Once.{is_noted, AreNew, AddsNew, is_many, HasFew, AsksOnce}
+use Rattle.update.specs.Once.{is_noted, AreNew, AddsNew, is_many, AsksOnce}
 
 pub adds_nothing : (notes : List Note) → AddsNew notes notes
 adds_nothing notes = ([], sym (append-nil notes), tt)

@@ -1,5 +1,5 @@
 -- What the answers to scans tell is what there is.
-use Rattle.std.specs.Prelude.{IfSome, filter, if◌then◌else◌}
+use Rattle.std.specs.Prelude.{IfSome, if◌then◌else◌}
 use Rattle.std.specs.Option.{option_or}
 use Rattle.std.proofs.Common.{◌≡◌, Bool, true, false, ◌&&◌, List, [], ◌∷◌, ◌++◌, Option, Some, None, refl, sym, ap, subst, ◌∙◌}
 use Rattle.std.proofs.Math.Bool.{and-true}
@@ -17,19 +17,22 @@ use Rattle.reads.specs.declared.note.Note.{Note}
 use Rattle.reads.proofs.Asked.{or_none}
 use Rattle.update.specs.Told.{ToldScan, quads_in, told_by, first_told, IsTold, AreTold}
 
--- a scan's answer, where it agrees with the dataset, is told
-pub scan_is_told : (p : QuadPattern Id) (a : Answer) (d : View) → a ≡ says (Scan p) d → quads_in a ≡ filter (matches id_order p) d.quads
+-- the quads of a scan's answer, where it agrees with the dataset, are told
+pub scan_is_told : (p : QuadPattern Id) (a told : Answer) (d : View)
+    → ((q : Quad Id) → has (quad_order id_order) (quads_in told) q ≡ has (quad_order id_order) (quads_in a) q)
+    → a ≡ says (Scan p) d → IsTold d (record { pattern = p; quads = quads_in told })
 unfolding says
-scan_is_told p a d e = ap quads_in e
+scan_is_told p a told d same e q m =
+    let D = has (quad_order id_order) d.quads q in
+    same q
+    ∙ ap (λ z. has (quad_order id_order) (quads_in z) q) e
+    ∙ has-filter (quad_total id_total) (quad_exact id_order id_exact) (matches id_order p) q d.quads
+    ∙ ap (λ b. D && b) m
+    ∙ and-true D
 
 one_is : (s : ToldScan) (q : Quad Id) (d : View) (b : Bool) → matches id_order s.pattern q ≡ b → IsTold d s
     → IfSome (if b then Some (has (quad_order id_order) s.quads q) else None) (λ so. so ≡ has (quad_order id_order) d.quads q)
-one_is s q d true e told =
-    let D = has (quad_order id_order) d.quads q in
-    ap (λ qs. has (quad_order id_order) qs q) told
-    ∙ has-filter (quad_total id_total) (quad_exact id_order id_exact) (matches id_order s.pattern) q d.quads
-    ∙ ap (λ b. D && b) e
-    ∙ and-true D
+one_is s q d true e told = told q e
 one_is s q d false e told = tt
 
 pub or_is : (P : Bool → Type 0) (a b : Option Bool) → IfSome a P → IfSome b P → IfSome (option_or a b) P

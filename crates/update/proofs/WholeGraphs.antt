@@ -113,7 +113,7 @@ one_more : {A : Type 0} (o : Option A) (xs ys : List A) → (xs ++ option_to_lis
 one_more None xs ys = ap (λ zs. zs ++ ys) (append-nil xs)
 one_more (Some x) xs ys = append_assoc xs (x ∷ []) ys
 
-drop_next : {A : Type 0} (xs : List A) (i : ℕ) (x : A) → i < length xs → x ≡ get_or xs i x → drop i xs ≡ x ∷ drop (i + 1) xs
+pub drop_next : {A : Type 0} (xs : List A) (i : ℕ) (x : A) → i < length xs → x ≡ get_or xs i x → drop i xs ≡ x ∷ drop (i + 1) xs
 drop_next xs i x lt is = rw add-one (drop-cons xs i x lt ∙ ap (λ (y : _). y ∷ drop (suc i) xs) (sym is))
 
 pub placed_more : (notes : List Note) (i : ℕ) (n : Note) (places next : List (GraphPlace Id)) → i < length notes → n ≡ get_or notes i n

@@ -1,5 +1,6 @@
 -- What notes tell of quads, and of the names of all graphs.
-use Rattle.std.specs.Prelude.{◌≡◌, ◌++◌, Bool, true, false, List, [], map, filter, Option, is_none, if◌then◌else◌}
+use Rattle.std.specs.Prelude.{◌≡◌, ◌++◌, Bool, true, false, ◌||◌, List, [], map, filter, Option, is_none, if◌then◌else◌}
+use Rattle.std.specs.List.{list_any}
 use Rattle.std.specs.Option.{option_or}
 use Rattle.sets.specs.Sets.{has}
 use Rattle.datasets.specs.declared.id.Id.{Id}
@@ -7,6 +8,7 @@ use Rattle.datasets.specs.declared.quad.Quad.{Quad}
 use Rattle.datasets.specs.declared.read.Read.TheVariants.{Scan, GraphIs, Graphs}
 use Rattle.datasets.specs.Dataset.{Quads, Is, Names}
 use Rattle.datasets.specs.Id.{id_order}
+use Rattle.asking.specs.Near.{is_free}
 use Rattle.reads.specs.Reads.{View, Delta, Read, Answer}
 use Rattle.reads.specs.Runs.{Agrees}
 use Rattle.reads.specs.declared.note.Note.{Note}
@@ -19,6 +21,30 @@ abbrev pub is_of_graphs : Read → Bool
 is_of_graphs (Scan p) = false
 is_of_graphs (GraphIs g) = false
 is_of_graphs Graphs = true
+
+-- whether a read is the scan of all quads
+abbrev pub is_free_scan : Read → Bool
+is_free_scan (Scan p) = is_free p
+is_free_scan (GraphIs g) = false
+is_free_scan Graphs = false
+
+-- whether one of the notes is of the scan of all quads
+abbrev pub has_free_scan : List Note → Bool
+has_free_scan notes = list_any (λ n. is_free_scan n.read) notes
+
+-- whether one of the notes is of the names of all graphs
+abbrev pub has_names : List Note → Bool
+has_names notes = list_any (λ n. is_of_graphs n.read) notes
+
+-- whether notes tell what a read asks for, as they tell of all quads, or the names of all graphs
+abbrev pub is_told : List Note → Read → Bool
+is_told notes (Scan p) = has_free_scan notes
+is_told notes (GraphIs g) = has_names notes
+is_told notes Graphs = has_names notes
+
+-- whether a read is allowed, or notes tell what it asks for
+abbrev pub or_told : (Read → Bool) → List Note → Read → Bool
+or_told allowed notes r = allowed r || is_told notes r
 
 -- the names that an answer tells, none where it is of another kind
 abbrev pub names_in : Answer → List Id
@@ -43,6 +69,12 @@ pub record Knows (k : WhatIsKnown) (d : View) : Type 0 where
   pub scans : AreTold d k.scans
   pub whole : KnowsWhole k.whole d
   pub graphs : k.has_graphs ≡ true → (g : Id) → has id_order k.graphs g ≡ has id_order d.names g
+
+-- where notes tell of all quads, it was told of each whether it is there; where they tell the names
+-- of all graphs, these were told
+pub record KnowsAll (k : WhatIsKnown) (notes : List Note) : Type 0 where
+  pub quads : has_free_scan notes ≡ true → (q : Quad Id) → is_none (told_of k q) ≡ false
+  pub names : has_names notes ≡ true → k.has_graphs ≡ true
 
 -- the scans for those of the quads of which it wasn't told whether they are there, in their order
 abbrev pub scans_for_untold : WhatIsKnown → List (Quad Id) → List Read

@@ -10,6 +10,7 @@ ghost use Rattle.reads.specs.Runs.{Agrees};
 ghost use Rattle.asking.specs.Goes.{Goes, stop_of};
 ghost use Rattle.update.specs.Asked.{AskedQuads, IsWithin};
 ghost use Rattle.update.specs.Changed.{changed};
+ghost use Rattle.update.specs.Known.{or_told};
 ghost use Rattle.update.specs.Graphs.{quads_of as the_quads_of, leaving as the_leaving, name_leaving as the_name_leaving};
 
 use crate::lists::joined;
@@ -67,7 +68,7 @@ fn cleared<S: Source>(
         → changed (applied changes.now d) outcome
         ≡ graphs_after id_order (graph_operation.Clear target.now) (applied changes.now d)) }
     ensures within { IfOk result (λ outcome. IfOk outcome
-        (λ own. IsWithin (is_near_target id_order target.now) own)) }
+        (λ own. IsWithin (or_told (is_near_target id_order target.now) notes.new.items) own)) }
 {
     let exists = is_there(alloc, target, changes, source, notes)?;
     if !exists {
@@ -98,7 +99,7 @@ fn dropped<S: Source>(
         → changed (applied changes.now d) outcome
         ≡ graphs_after id_order (graph_operation.Drop target.now) (applied changes.now d)) }
     ensures within { IfOk result (λ outcome. IfOk outcome
-        (λ own. IsWithin (is_near_target id_order target.now) own)) }
+        (λ own. IsWithin (or_told (is_near_target id_order target.now) notes.new.items) own)) }
 {
     let exists = is_there(alloc, target, changes, source, notes)?;
     if !exists {
@@ -148,7 +149,8 @@ fn leaving<S: Source>(
         → quads.items ≡ the_leaving how found.items
         (the_quads_of to.now (applied changes.now d).quads)) }
     ensures within { (allowed : Reading → Bool) →
-        ((r : Reading) → is_near_target id_order to.now r ≡ true → allowed r ≡ true)
+        ((r : Reading) → or_told (is_near_target id_order to.now) notes.new.items r ≡ true
+        → allowed r ≡ true)
         → AskedQuads allowed found.items → IfOk result (λ quads. AskedQuads allowed quads.items) }
 {
     match how {
@@ -189,7 +191,8 @@ fn transferred<S: Source>(
         → changed (applied changes.now d) outcome
         ≡ graphs_after id_order (graph_operation.Transfer how from to) (applied changes.now d)) }
     ensures within { IfOk result (λ outcome. IfOk outcome
-        (λ own. IsWithin (is_near_graphs id_order (graph_operation.Transfer how from to)) own)) }
+        (λ own. IsWithin (or_told (is_near_graphs id_order (graph_operation.Transfer how from to))
+        notes.new.items) own)) }
 {
     if is_same_graph(from, to) {
         return Ok(Ok(Delta::new(alloc)));
@@ -223,7 +226,7 @@ fn own_change<S: Source>(
         → changed (applied changes.now d) outcome
         ≡ graphs_after id_order operation.now (applied changes.now d)) }
     ensures within { IfOk result (λ outcome. IfOk outcome
-        (λ own. IsWithin (is_near_graphs id_order operation.now) own)) }
+        (λ own. IsWithin (or_told (is_near_graphs id_order operation.now) notes.new.items) own)) }
 {
     match operation {
         GraphOperation::Create(name) => created(alloc, *name, changes, source, notes),
@@ -251,7 +254,8 @@ pub fn graphs<S: Source>(
     ensures effect { IfOk result (λ outcome. (d : View) → Agrees notes.new.items d
         → changed d outcome ≡ graphs_after id_order operation.now (applied changes.now d)) }
     ensures within { (allowed : Reading → Bool) →
-        ((r : Reading) → is_near_graphs id_order operation.now r ≡ true → allowed r ≡ true)
+        ((r : Reading) → or_told (is_near_graphs id_order operation.now) notes.new.items r ≡ true
+        → allowed r ≡ true)
         → IsWithin allowed changes.now → IfOk result
         (λ outcome. IfOk outcome (λ change. IsWithin allowed change)) }
 {

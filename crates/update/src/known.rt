@@ -5,7 +5,7 @@ ghost use Rattle.sets.specs.Sets.{has};
 ghost use Rattle.datasets.specs.Id.{id_order};
 ghost use Rattle.reads.specs.Reads.{View};
 ghost use Rattle.reads.specs.Runs.{Agrees};
-ghost use Rattle.update.specs.Known.{is_of_graphs as the_is_of_graphs, names_in as the_names_in, told_of, Knows};
+ghost use Rattle.update.specs.Known.{is_of_graphs as the_is_of_graphs, names_in as the_names_in, told_of, has_names, Knows, KnowsAll};
 
 use crate::told_scan::{ToldScan, first_scans, first_told};
 use crate::whole::{WholeGraphs, whole_of};
@@ -57,8 +57,9 @@ fn names_in(answer: &Answered) -> &[Id]
 
 // Whether the notes tell the names of all graphs, and these names.
 fn graphs_told(alloc: Global, notes: &[Note]) -> Result<(bool, Vec<Id>), AllocError>
-    ensures { IfOk result (λ told. (d : View) → Agrees notes.now d → told.0 ≡ true
+    ensures told { IfOk result (λ told. (d : View) → Agrees notes.now d → told.0 ≡ true
         → told.1.items ≡ d.names) }
+    ensures all { IfOk result (λ told. told.0 ≡ has_names notes.now) }
 {
     for note in notes {
         if is_of_graphs(note) {
@@ -69,9 +70,11 @@ fn graphs_told(alloc: Global, notes: &[Note]) -> Result<(bool, Vec<Id>), AllocEr
     Ok((false, Vec::new(alloc)))
 }
 
-/// What the notes tell of quads, and of the names of all graphs.
+/// What the notes tell of quads, and of the names of all graphs. Whatever was answered, a scan of
+/// all quads tells of each quad.
 pub fn known_of(alloc: Global, notes: &[Note]) -> Result<Known, AllocError>
-    ensures { IfOk result (λ known. (d : View) → Agrees notes.now d → Knows known d) }
+    ensures knows { IfOk result (λ known. (d : View) → Agrees notes.now d → Knows known d) }
+    ensures all { IfOk result (λ known. KnowsAll known notes.now) }
 {
     let (scans, place) = first_scans(alloc, notes)?;
     let whole = whole_of(alloc, &notes[place..])?;

@@ -2,10 +2,10 @@
 ghost use Rattle.std.specs.Prelude.{◌≡◌, Bool, IfOk};
 ghost use Rattle.reads.specs.Reads.{View, Read as Reading, applied, IsDataset};
 ghost use Rattle.reads.specs.Runs.{Agrees};
-ghost use Rattle.asking.specs.Goes.{Goes, stop_of};
+ghost use Rattle.asking.specs.Goes.{AreAllowed, Goes, stop_of};
 ghost use Rattle.update.specs.Asked.{IsWithin};
 ghost use Rattle.update.specs.Changed.{difference, IsNewOf};
-ghost use Rattle.update.specs.Known.{Knows};
+ghost use Rattle.update.specs.Known.{or_told, reads_for_untold, Knows};
 
 use crate::known::{Known, known_of};
 use crate::lot::new_at_once;
@@ -31,7 +31,8 @@ fn new_in_turn<S: Source>(
 ) -> Result<Delta, Stop>
     requires { (d : View) → Agrees notes.old.items d → Knows known.now d }
     ensures goes { (allowed : Reading → Bool)
-        → IsWithin allowed (record changes.now { absent = others.now; gone = other_names.now })
+        → AreAllowed allowed (reads_for_untold known.now
+        (record changes.now { absent = others.now; gone = other_names.now }))
         → Goes S.asks allowed source.old source.new notes.old.items notes.new.items
         (stop_of result) }
     ensures told { IfOk result (λ change. (d : View) → Agrees notes.new.items d
@@ -64,7 +65,8 @@ pub fn least_of<S: Source>(
     source: &mut S,
     notes: &mut Vec<Note>,
 ) -> Result<Delta, Stop>
-    ensures goes { (allowed : Reading → Bool) → IsWithin allowed changes.now
+    ensures goes { (allowed : Reading → Bool)
+        → IsWithin (or_told allowed notes.old.items) changes.now
         → Goes S.asks allowed source.old source.new notes.old.items notes.new.items
         (stop_of result) }
     ensures least { IfOk result (λ change. (d : View) → IsDataset d → Agrees notes.new.items d

@@ -6,8 +6,7 @@ ghost use Rattle.datasets.specs.declared.id.Id.{Id as Number};
 ghost use Rattle.reads.specs.Reads.{View, Read as Reading};
 ghost use Rattle.reads.specs.Runs.{Agrees};
 ghost use Rattle.reads.specs.Same.{bool_eq};
-ghost use Rattle.asking.specs.Goes.{Goes, stop_of};
-ghost use Rattle.update.specs.Asked.{IsWithin};
+ghost use Rattle.asking.specs.Goes.{AreAllowed, Goes, stop_of};
 ghost use Rattle.update.specs.Changed.{IsNewOf};
 ghost use Rattle.update.specs.Known.{questions_for_untold, reads_for_untold, Knows, Tell};
 
@@ -136,7 +135,8 @@ pub fn new_at_once<S: Source>(
 ) -> Result<Delta, Stop>
     requires { (d : View) → Agrees notes.old.items d → Knows known.now d }
     ensures goes { (allowed : Reading → Bool)
-        → IsWithin allowed (record changes.now { absent = others.now; gone = other_names.now })
+        → AreAllowed allowed (reads_for_untold known.now
+        (record changes.now { absent = others.now; gone = other_names.now }))
         → Goes S.asks allowed source.old source.new notes.old.items notes.new.items
         (stop_of result) }
     ensures told { IfOk result (λ change. (d : View) → Agrees notes.new.items d

@@ -12,6 +12,7 @@ ghost use Rattle.asking.specs.Goes.{Goes, stop_of};
 ghost use Rattle.update.specs.Asked.{IsWithin};
 ghost use Rattle.update.specs.Changed.{changed};
 ghost use Rattle.update.specs.Failures.{performed_so};
+ghost use Rattle.update.specs.Known.{or_told};
 
 use crate::graphs::graphs;
 use crate::modify::modify;
@@ -84,7 +85,8 @@ fn perform_one<S: Source>(
         → changed d outcome ≡ effect_of (numbers dict.now) place op operation.now
         (applied changes.now d)) }
     ensures within { (allowed : Reading → Bool) →
-        ((r : Reading) → is_near id_order operation.now r ≡ true → allowed r ≡ true)
+        ((r : Reading) → or_told (is_near id_order operation.now) notes.new.items r ≡ true
+        → allowed r ≡ true)
         → IsWithin allowed changes.now → IfOk result
         (λ outcome. IfOk outcome (λ change. IsWithin allowed change)) }
 {
@@ -116,7 +118,8 @@ pub fn perform<S: Source>(
     ensures effect { IfOk result (λ outcome. (d : View) → IsDataset d → Agrees notes.new.items d
         → performed_so d outcome ≡ performed (numbers dict.now) place 0 operations.now d) }
     ensures within { IfOk result (λ outcome. IfOk outcome
-        (λ change. IsWithin (is_near_request id_order operations.now) change)) }
+        (λ change. IsWithin (or_told (is_near_request id_order operations.now) notes.new.items)
+        change)) }
 {
     let mut changes = Delta::new(alloc);
     let mut op: u32 = 0;

@@ -5,13 +5,12 @@ ghost use Rattle.datasets.specs.Id.{id_order};
 ghost use Rattle.datasets.specs.declared.id.Id.{Id as Number};
 ghost use Rattle.datasets.specs.declared.quad.Quad.{Quad as TheQuad};
 ghost use Rattle.datasets.specs.Dataset.{quad_order};
-ghost use Rattle.datasets.specs.declared.read.Read.TheVariants as read;
 ghost use Rattle.reads.specs.Reads.{View, Read as Reading};
 ghost use Rattle.reads.specs.Runs.{Agrees};
 ghost use Rattle.reads.specs.Same.{bool_eq};
 ghost use Rattle.asking.specs.Goes.{AreAllowed, AreNoted, Goes, stop_of};
-ghost use Rattle.update.specs.Asked.{has_quads as the_has_quads, has_name as the_has_name, AskedQuads, AskedNames};
-ghost use Rattle.update.specs.Known.{scans_for_untold as the_scans_for_untold, Knows, Tell};
+ghost use Rattle.update.specs.Asked.{has_quads as the_has_quads, has_name as the_has_name};
+ghost use Rattle.update.specs.Known.{scans_for_untold as the_scans_for_untold, questions_for_untold, Knows, Tell};
 
 use crate::known::Known;
 use asking::{ask, ask_all};
@@ -55,7 +54,8 @@ fn is_named<S: Source>(
     source: &mut S,
     notes: &mut Vec<Note>,
 ) -> Result<bool, Stop>
-    ensures goes { (allowed : Reading → Bool) → allowed (read.GraphIs name) ≡ true
+    ensures goes { (allowed : Reading → Bool)
+        → AreAllowed allowed (questions_for_untold known.now (name ∷ []))
         → Goes S.asks allowed source.old source.new notes.old.items notes.new.items
         (stop_of result) }
     ensures told { IfOk result (λ so. (d : View) → Knows known.now d → Agrees notes.new.items d
@@ -119,7 +119,8 @@ fn ask_for_untold<S: Source>(
     source: &mut S,
     notes: &mut Vec<Note>,
 ) -> Result<(), Stop>
-    ensures goes { (allowed : Reading → Bool) → AskedQuads allowed quads.now
+    ensures goes { (allowed : Reading → Bool)
+        → AreAllowed allowed (the_scans_for_untold known.now quads.now)
         → Goes S.asks allowed source.old source.new notes.old.items notes.new.items
         (stop_of result) }
     ensures noted { OnOk result (AreNoted (the_scans_for_untold known.now quads.now) notes.old.items
@@ -181,7 +182,8 @@ pub fn quads_that<S: Source>(
     notes: &mut Vec<Note>,
 ) -> Result<Vec<Quad<Id>>, Stop>
     requires { (d : View) → Agrees notes.old.items d → Knows known.now d }
-    ensures goes { (allowed : Reading → Bool) → AskedQuads allowed quads.now
+    ensures goes { (allowed : Reading → Bool)
+        → AreAllowed allowed (the_scans_for_untold known.now quads.now)
         → Goes S.asks allowed source.old source.new notes.old.items notes.new.items
         (stop_of result) }
     ensures told { IfOk result (λ found. (d : View) → Agrees notes.new.items d
@@ -213,7 +215,8 @@ pub fn names_that<S: Source>(
     notes: &mut Vec<Note>,
 ) -> Result<Vec<Id>, Stop>
     requires { (d : View) → Agrees notes.old.items d → Knows known.now d }
-    ensures goes { (allowed : Reading → Bool) → AskedNames allowed names.now
+    ensures goes { (allowed : Reading → Bool)
+        → AreAllowed allowed (questions_for_untold known.now names.now)
         → Goes S.asks allowed source.old source.new notes.old.items notes.new.items
         (stop_of result) }
     ensures told { IfOk result (λ found. (d : View) → Agrees notes.new.items d

@@ -6,6 +6,7 @@ ghost use Rattle.reads.specs.Reads.{View, applied};
 ghost use Rattle.reads.specs.Runs.{Agrees};
 ghost use Rattle.asking.specs.Goes.{Goes, stop_of};
 ghost use Rattle.update.specs.Asked.{AskedQuads, AskedNames};
+ghost use Rattle.update.specs.Known.{or_told};
 ghost use Rattle.update.specs.Graphs.{target_of as the_target_of, is_among as the_is_among, quads_of as the_quads_of, names_of as the_names_of, is_target_there, place_of as the_place_of, whole as the_whole, name_list as the_name_list};
 
 use algebra::Target;
@@ -93,8 +94,8 @@ pub fn quads_of<S: Source>(
         notes.old.items notes.new.items (stop_of result) }
     ensures seen { IfOk result (λ quads. (d : View) → Agrees notes.new.items d
         → quads.items ≡ the_quads_of target.now (applied changes.now d).quads) }
-    ensures within { IfOk result (λ quads. AskedQuads (is_near_target id_order target.now)
-        quads.items) }
+    ensures within { IfOk result (λ quads.
+        AskedQuads (or_told (is_near_target id_order target.now) notes.new.items) quads.items) }
 {
     let pattern = whole(place_of(target));
     let found = scan(alloc, &pattern, changes, source, notes)?;
@@ -115,8 +116,8 @@ pub fn names_of<S: Source>(
         notes.old.items notes.new.items (stop_of result) }
     ensures seen { IfOk result (λ names. (d : View) → Agrees notes.new.items d
         → names.items ≡ the_names_of target.now (applied changes.now d).names) }
-    ensures within { IfOk result (λ names. AskedNames (is_near_target id_order target.now)
-        names.items) }
+    ensures within { IfOk result (λ names.
+        AskedNames (or_told (is_near_target id_order target.now) notes.new.items) names.items) }
 {
     match target {
         Target::Graph(name) => {

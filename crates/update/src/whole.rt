@@ -1,9 +1,10 @@
 //! What notes tell of whole graphs.
-ghost use Rattle.std.specs.Prelude.{◌≡◌, ◌++◌, Bool, IfOk, OnOk, filter_map, option_to_list};
+ghost use Rattle.std.specs.Prelude.{◌≡◌, ◌++◌, Bool, true, IfOk, OnOk, filter_map, option_to_list};
 ghost use Rattle.std.specs.List.{list_any, flat_map};
 ghost use Rattle.reads.specs.Reads.{View};
 ghost use Rattle.reads.specs.Runs.{Agrees};
 ghost use Rattle.update.specs.Whole.{is_whole as the_is_whole, whole_place as the_whole_place, places_told as the_places_told, quads_told as the_quads_told, is_any as the_is_any, is_default as the_is_default, name_at as the_name_at, is_known as the_is_known, told_in, KnowsWhole};
+ghost use Rattle.update.specs.Known.{has_free_scan};
 
 use crate::lists::joined;
 use datasets::{GraphPlace, Id, Quad, QuadPattern, Read};
@@ -154,7 +155,8 @@ fn all_told(alloc: Global, notes: &[Note]) -> Result<Vec<Quad<Id>>, AllocError>
 
 /// What the notes tell of whole graphs.
 pub fn whole_of(alloc: Global, notes: &[Note]) -> Result<WholeGraphs, AllocError>
-    ensures { IfOk result (λ whole. (d : View) → Agrees notes.now d → KnowsWhole whole d) }
+    ensures knows { IfOk result (λ whole. (d : View) → Agrees notes.now d → KnowsWhole whole d) }
+    ensures all { IfOk result (λ whole. has_free_scan notes.now ≡ true → whole.is_all ≡ true) }
 {
     let places = places_told(alloc, notes)?;
     let names = names_at(alloc, &places)?;

@@ -1,4 +1,4 @@
-use Rattle.std.specs.Prelude.{[], ◌∷◌, map, filter}
+use Rattle.std.specs.Prelude.{[], map, filter}
 use Rattle.std.proofs.Common.{List, drop, ap, arith, ◌∙◌}
 use Rattle.std.proofs.lemmas.List.{take_rest}
 use Rattle.algebra.specs.Expressions.{expression_of}

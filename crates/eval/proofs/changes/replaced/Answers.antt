@@ -1,8 +1,8 @@
 use Rattle.std.proofs.Common.{rules, ◌≡◌, ◌++◌, ap, sym, ◌∙◌}
-use Rattle.sets.specs.Sets.{set_of, union, without}
+use Rattle.sets.specs.Sets.{set_of, union}
 use Rattle.sets.proofs.SetLaws.{set_of-set}
-use Rattle.datasets.specs.Dataset.{quad_order, names_of}
-use Rattle.datasets.specs.Id.{id_order, id_total, id_exact, quad_total}
+use Rattle.datasets.specs.Dataset.{names_of}
+use Rattle.datasets.specs.Id.{id_order, id_total, id_exact}
 use Rattle.reads.specs.Reads.{Delta, applied}
 use Rattle.eval.proofs.Outside.{rises_as_set}
 use Rattle.eval.proofs.Replacing.{replaced_is}

@@ -1,5 +1,5 @@
 use Rattle.std.specs.Prelude.{filter}
-use Rattle.std.proofs.Common.{refl, ap, ◌∙◌}
+use Rattle.std.proofs.Common.{◌∷◌, [], refl, ap, ◌∙◌}
 use Rattle.datasets.specs.Id.{id_order}
 use Rattle.datasets.specs.Dataset.{matches}
 use Rattle.reads.specs.Reads.{told_quads, says}
@@ -9,6 +9,9 @@ use Rattle.eval.proofs.scanning.scan.Goals as goal
 
 pub returns-in_err-quads-clause-goes : goal.returns-in_err-quads-clause-goes
 returns-in_err-quads-clause-goes g c allowed near = goes_short _ c.from_residual-in_err-quads.ensures.1 (c.in_ok-answer.ensures.goes allowed near)
+
+pub returns-clause-noted : goal.returns-clause-noted
+returns-clause-noted g c = (_ ∷ [], c.in_ok-answer.ensures.noted, refl)
 
 pub returns-clause-seen : goal.returns-clause-seen
 unfolding says

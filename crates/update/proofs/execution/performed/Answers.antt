@@ -8,6 +8,7 @@ use Rattle.meaning.specs.declared.reply.Reply.TheVariants.{Done}
 use Rattle.reads.specs.Reads.{Delta, Read}
 use Rattle.update.specs.Asked.{IsWithin}
 use Rattle.update.specs.Changed.{difference}
+use Rattle.update.specs.Known.{or_told}
 use Rattle.update.specs.Failures.{performed_so}
 use Rattle.update.specs.declared.operations.Failed.{Failed}
 use Rattle.update.proofs.Differences.{no_difference}
@@ -21,18 +22,18 @@ within_of allowed outcome changes e h = subst (λ (o : Result Delta Failed). IfO
 pub returns-in_err-delta-in-Ok-clause-goes : goal.returns-in_err-delta-in-Ok-clause-goes
 returns-in_err-delta-in-Ok-clause-goes g c =
     let near = is_near_request id_order c.args.operations.now in
-    goes_as _ c.from_residual-in_err-delta-in-Ok.ensures.1 (goes_on c.in_ok-changes.ensures.goes (c.in_err-delta-in-Ok.ensures.goes near (within_of near c.in_ok-changes.field-0 c.in-Ok.changes c.in-Ok.is c.in_ok-changes.ensures.within)))
+    goes_as _ c.from_residual-in_err-delta-in-Ok.ensures.1 (goes_on c.in_ok-changes.ensures.goes (c.in_err-delta-in-Ok.ensures.goes near (within_of (or_told near c.perform.new.notes.items) c.in_ok-changes.field-0 c.in-Ok.changes c.in-Ok.is c.in_ok-changes.ensures.within)))
 
 pub returns-in_ok-delta-in-Ok-clause-goes : goal.returns-in_ok-delta-in-Ok-clause-goes
 returns-in_ok-delta-in-Ok-clause-goes g c =
     let near = is_near_request id_order c.args.operations.now in
-    goes_on c.in_ok-changes.ensures.goes (c.in_ok-delta-in-Ok.ensures.goes near (within_of near c.in_ok-changes.field-0 c.in-Ok.changes c.in-Ok.is c.in_ok-changes.ensures.within))
+    goes_on c.in_ok-changes.ensures.goes (c.in_ok-delta-in-Ok.ensures.goes near (within_of (or_told near c.perform.new.notes.items) c.in_ok-changes.field-0 c.in-Ok.changes c.in-Ok.is c.in_ok-changes.ensures.within))
 
 pub returns-in_ok-delta-in-Ok-clause-least : goal.returns-in_ok-delta-in-Ok-clause-least
 returns-in_ok-delta-in-Ok-clause-least g c d h a =
     let V = numbers c.args.dict.now in
     let near = is_near_request id_order c.args.operations.now in
-    let before = agreed (c.in_ok-delta-in-Ok.ensures.goes near (within_of near c.in_ok-changes.field-0 c.in-Ok.changes c.in-Ok.is c.in_ok-changes.ensures.within)) d a in
+    let before = agreed (c.in_ok-delta-in-Ok.ensures.goes near (within_of (or_told near c.perform.new.notes.items) c.in_ok-changes.field-0 c.in-Ok.changes c.in-Ok.is c.in_ok-changes.ensures.within)) d a in
     let done = sym (ap (performed_so d) c.in-Ok.is) ∙ c.in_ok-changes.ensures.effect d h before in
     c.in_ok-delta-in-Ok.ensures.least d h a ∙ ap (λ z. difference d (settled V d z).0) done
 
@@ -40,7 +41,7 @@ pub returns-in_ok-delta-in-Ok-clause-reply : goal.returns-in_ok-delta-in-Ok-clau
 returns-in_ok-delta-in-Ok-clause-reply g c d h a =
     let V = numbers c.args.dict.now in
     let near = is_near_request id_order c.args.operations.now in
-    let before = agreed (c.in_ok-delta-in-Ok.ensures.goes near (within_of near c.in_ok-changes.field-0 c.in-Ok.changes c.in-Ok.is c.in_ok-changes.ensures.within)) d a in
+    let before = agreed (c.in_ok-delta-in-Ok.ensures.goes near (within_of (or_told near c.perform.new.notes.items) c.in_ok-changes.field-0 c.in-Ok.changes c.in-Ok.is c.in_ok-changes.ensures.within)) d a in
     let done = sym (ap (performed_so d) c.in-Ok.is) ∙ c.in_ok-changes.ensures.effect d h before in
     let least = c.in_ok-delta-in-Ok.ensures.least d h a in
     (λ i. Done (c.len.ensures i) (c.len-in-Ok.ensures i))

@@ -6,6 +6,7 @@ use Rattle.asking.specs.Near.{is_near_target}
 use Rattle.reads.specs.Reads.{Delta, applied}
 use Rattle.reads.proofs.Changes.{rises}
 use Rattle.update.specs.Asked.{IsWithin}
+use Rattle.update.specs.Known.{or_told}
 use Rattle.update.specs.Graphs.{quads_of}
 use Rattle.update.proofs.GraphEffects.{cleared_is, not_cleared}
 use Rattle.update.proofs.GraphNearness.{parts_within}
@@ -42,7 +43,7 @@ returns-clause-effect g c d a =
 
 pub returns-clause-within : goal.returns-clause-within
 returns-clause-within g c =
-    let near = is_near_target id_order c.args.target.now in
+    let near = or_told (is_near_target id_order c.args.target.now) c.quads_of.new.notes.items in
     let Q = quad_order id_order in
     let made = c.in_ok-own.ensures in
     let own : c.in_ok-own.own ≡ record { present = []; absent = set_of Q c.in_ok-quads.quads.items; there = []; gone = [] } =

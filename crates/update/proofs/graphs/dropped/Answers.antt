@@ -6,10 +6,12 @@ use Rattle.asking.specs.Near.{is_near_target}
 use Rattle.reads.specs.Reads.{Delta, applied}
 use Rattle.reads.proofs.Changes.{rises}
 use Rattle.update.specs.Asked.{IsWithin}
+use Rattle.update.specs.Known.{or_told}
 use Rattle.update.specs.Graphs.{quads_of, names_of}
 use Rattle.update.proofs.GraphEffects.{dropped_is, not_dropped}
 use Rattle.update.proofs.GraphNearness.{parts_within}
 use Rattle.asking.proofs.Notes.{goes_on, goes_short, goes_as, agreed}
+use Rattle.update.proofs.ToldReads.{quads_on}
 use Rattle.update.proofs.graphs.dropped.Goals as goal
 
 pub returns-then-not-exists-clause-effect : goal.returns-then-not-exists-clause-effect
@@ -46,7 +48,8 @@ returns-clause-effect g c d a =
 
 pub returns-clause-within : goal.returns-clause-within
 returns-clause-within g c =
-    let near = is_near_target id_order c.args.target.now in
+    let target = is_near_target id_order c.args.target.now in
+    let near = or_told target c.names_of.new.notes.items in
     let Q = quad_order id_order in
     let made = c.in_ok-own.ensures in
     let own : c.in_ok-own.own ≡ record { present = []; absent = set_of Q c.in_ok-quads.quads.items; there = []; gone = set_of id_order c.in_ok-names.names.items } =
@@ -57,4 +60,4 @@ returns-clause-within g c =
       gone = made.gone i;
     } in
     subst (IsWithin near) (sym own)
-    (parts_within near [] c.in_ok-quads.quads.items [] c.in_ok-names.names.items tt c.in_ok-quads.ensures.within tt c.in_ok-names.ensures.within)
+    (parts_within near [] c.in_ok-quads.quads.items [] c.in_ok-names.names.items tt (quads_on c.in_ok-names.ensures.goes target c.in_ok-quads.quads.items c.in_ok-quads.ensures.within) tt c.in_ok-names.ensures.within)

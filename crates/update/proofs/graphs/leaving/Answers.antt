@@ -4,6 +4,7 @@ use Rattle.datasets.specs.Id.{id_order}
 use Rattle.asking.specs.Near.{is_near_target}
 use Rattle.reads.specs.Reads.{applied}
 use Rattle.update.specs.Asked.{AskedQuads}
+use Rattle.update.specs.Known.{or_told}
 use Rattle.update.specs.Graphs.{quads_of, leaving}
 use Rattle.update.proofs.GraphNearness.{asked_more, both_asked}
 use Rattle.update.proofs.graphs.leaving.Goals as goal
@@ -21,7 +22,7 @@ returns-in-Copy-clause-seen g c =
 
 pub returns-in-Copy-clause-within : goal.returns-in-Copy-clause-within
 returns-in-Copy-clause-within g c allowed f h =
-    IfOk-weaker c.quads_of.result _ _ (λ quads k. asked_more (is_near_target id_order c.args.to.now) allowed f quads.items k) c.quads_of.ensures.within
+    IfOk-weaker c.quads_of.result _ _ (λ quads k. asked_more (or_told (is_near_target id_order c.args.to.now) c.quads_of.new.notes.items) allowed f quads.items k) c.quads_of.ensures.within
 
 pub returns-in_ok-quads-in-Move-clause-seen : goal.returns-in_ok-quads-in-Move-clause-seen
 returns-in_ok-quads-in-Move-clause-seen g c d a =
@@ -33,4 +34,4 @@ pub returns-in_ok-quads-in-Move-clause-within : goal.returns-in_ok-quads-in-Move
 returns-in_ok-quads-in-Move-clause-within g c allowed f h =
     let others = c.in_ok-others-in-Move.others.items in
     both_asked allowed c.args.found.items others c.in_ok-quads-in-Move.quads.items c.in_ok-quads-in-Move.ensures h
-    (asked_more (is_near_target id_order c.args.to.now) allowed f others c.in_ok-others-in-Move.ensures.within)
+    (asked_more (or_told (is_near_target id_order c.args.to.now) c.quads_of-in-Move.new.notes.items) allowed f others c.in_ok-others-in-Move.ensures.within)

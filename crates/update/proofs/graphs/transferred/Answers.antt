@@ -1,16 +1,19 @@
-use Rattle.std.proofs.Common.{◌≡◌, Ok, map, sym, ap, subst, ◌∙◌}
+use Rattle.std.proofs.Common.{◌≡◌, true, Ok, map, sym, ap, subst, ◌∙◌}
+use Rattle.std.proofs.lemmas.Bool.{or_left}
 use Rattle.sets.specs.Sets.{set_of}
 use Rattle.datasets.specs.Id.{id_order}
 use Rattle.datasets.specs.Dataset.{quad_order}
 use Rattle.algebra.specs.declared.update.GraphOperation.TheVariants as graphs
 use Rattle.meaning.specs.GraphOperations.{in_graph}
 use Rattle.asking.specs.Near.{is_near_graphs, is_near_target}
-use Rattle.reads.specs.Reads.{Delta, applied}
+use Rattle.reads.specs.Reads.{Delta, Read, applied}
 use Rattle.reads.proofs.Changes.{rises, nothing_changed}
 use Rattle.update.specs.Asked.{AskedNames, AskedQuads, IsWithin}
+use Rattle.update.specs.Known.{or_told}
 use Rattle.update.specs.Graphs.{quads_of, leaving, is_target_there}
 use Rattle.update.proofs.GraphEffects.{same_is, not_transferred, transferred_is, transfer_change, quads_of_one}
-use Rattle.update.proofs.GraphNearness.{first_near, second_near, come_near, leaving_near, put_near, asked_more, parts_within}
+use Rattle.update.proofs.GraphNearness.{first_near, second_near, come_near, leaving_near, put_near, asked_more, named_more, parts_within}
+use Rattle.update.proofs.ToldReads.{or_told_on, or_told_at}
 use Rattle.asking.proofs.Notes.{goes_on, goes_within, goes_short, goes_as, agreed}
 use Rattle.update.proofs.graphs.transferred.Goals as goal
 use Rattle.update.proofs.Nearness.{no_change_within}
@@ -23,7 +26,7 @@ returns-then-is_same_graph-clause-effect g c d a =
 
 pub returns-then-is_same_graph-clause-within : goal.returns-then-is_same_graph-clause-within
 returns-then-is_same_graph-clause-within g c =
-    let near = is_near_graphs id_order (graphs.Transfer c.args.how c.args.from c.args.to) in
+    let near = or_told (is_near_graphs id_order (graphs.Transfer c.args.how c.args.from c.args.to)) c.args.notes.now.items in
     subst (IsWithin near) (sym c.new.ensures) (no_change_within near)
 
 pub returns-in_err-exists-clause-goes : goal.returns-in_err-exists-clause-goes
@@ -137,12 +140,17 @@ returns-clause-within g c =
     let from = c.args.from in
     let to = c.args.to in
     let op = graphs.Transfer how from to in
-    let near = is_near_graphs id_order op in
+    let one = is_near_graphs id_order op in
+    let near = or_told one c.leaving.new.notes.items in
     let made = c.in_ok-own.ensures in
     let own : c.in_ok-own.own ≡ record { present = set_of (quad_order id_order) c.in_ok-come.come.items; absent = set_of (quad_order id_order) c.in_ok-gone.gone.items; there = set_of id_order c.in_ok-there.there.items; gone = set_of id_order c.in_ok-names.names.items } =
     λ i. record { present = made.present i; absent = made.absent i; there = made.there i; gone = made.gone i } in
-    let come = subst (AskedQuads near) (sym c.in_ok-come.ensures) (put_near how from to c.deref.result.now) in
-    let found = asked_more (is_near_target id_order c.target_of-first.result) near (λ r e. first_near how from to r (ap (λ t. is_near_target id_order t r) (sym c.target_of-first.ensures) ∙ e)) c.in_ok-found.found.items c.in_ok-found.ensures.within in
-    let gone = c.in_ok-gone.ensures.within near (λ r e. second_near how from to r (ap (λ t. is_near_target id_order t r) (sym c.target_of-second.ensures) ∙ e)) found in
+    let first = λ (r : Read) (e : is_near_target id_order c.target_of-first.result r ≡ true). first_near how from to r (ap (λ t. is_near_target id_order t r) (sym c.target_of-first.ensures) ∙ e) in
+    let second = λ (r : Read) (e : is_near_target id_order c.target_of-second.result r ≡ true). second_near how from to r (ap (λ t. is_near_target id_order t r) (sym c.target_of-second.ensures) ∙ e) in
+    let come = subst (AskedQuads near) (sym c.in_ok-come.ensures) (asked_more one near (λ r e. or_left _ _ e) _ (put_near how from to c.deref.result.now)) in
+    let found = asked_more (or_told (is_near_target id_order c.target_of-first.result) c.quads_of.new.notes.items) near (or_told_on c.in_ok-gone.ensures.goes (is_near_target id_order c.target_of-first.result) one first) c.in_ok-found.found.items c.in_ok-found.ensures.within in
+    let gone = c.in_ok-gone.ensures.within near (or_told_at (is_near_target id_order c.target_of-second.result) one second c.leaving.new.notes.items) found in
     subst (IsWithin near) (sym own)
-    (parts_within near c.in_ok-come.come.items c.in_ok-gone.gone.items c.in_ok-there.there.items c.in_ok-names.names.items come gone (subst (AskedNames near) (sym c.in_ok-there.ensures) (come_near how from to)) (subst (AskedNames near) (sym c.in_ok-names.ensures) (leaving_near how from to)))
+    (parts_within near c.in_ok-come.come.items c.in_ok-gone.gone.items c.in_ok-there.there.items c.in_ok-names.names.items come gone
+    (subst (AskedNames near) (sym c.in_ok-there.ensures) (named_more one near (λ r e. or_left _ _ e) _ (come_near how from to)))
+    (subst (AskedNames near) (sym c.in_ok-names.ensures) (named_more one near (λ r e. or_left _ _ e) _ (leaving_near how from to))))

@@ -5,15 +5,14 @@ use Rattle.reads.specs.Reads.{View, Read, Delta}
 use Rattle.reads.specs.declared.note.Note.{Note}
 use Rattle.asking.specs.Goes.{AreAllowed}
 use Rattle.asking.proofs.Notes.{goes_short, goes_as, agreed}
-use Rattle.update.specs.Asked.{IsWithin}
 use Rattle.update.specs.Changed.{IsNewOf}
 use Rattle.update.specs.Known.{WhatIsKnown, reads_for_untold, Tell}
-use Rattle.update.proofs.KnownQuads.{allowed_all, lot_told}
+use Rattle.update.proofs.KnownQuads.{lot_told}
 use Rattle.update.proofs.lot.new_at_once.Goals as goal
 
 -- what asks for the lot is allowed
-lot_allowed : (allowed : Read → Bool) (k : WhatIsKnown) (asked same : Delta) (reads : List Read) → reads ≡ reads_for_untold k same → same ≡ asked → IsWithin allowed asked → AreAllowed allowed reads
-lot_allowed allowed k asked same reads are is h = subst (AreAllowed allowed) (sym (are ∙ ap (reads_for_untold k) is)) (allowed_all allowed k asked h)
+lot_allowed : (allowed : Read → Bool) (k : WhatIsKnown) (asked same : Delta) (reads : List Read) → reads ≡ reads_for_untold k same → same ≡ asked → AreAllowed allowed (reads_for_untold k asked) → AreAllowed allowed reads
+lot_allowed allowed k asked same reads are is h = subst (AreAllowed allowed) (sym (are ∙ ap (reads_for_untold k) is)) h
 
 same_reads : (k : WhatIsKnown) (reads others : List Read) (notes : List Note) (d : View) → reads ≡ others → Tell k reads notes d → Tell k others notes d
 same_reads k reads others notes d e t = subst (λ rs. Tell k rs notes d) e t

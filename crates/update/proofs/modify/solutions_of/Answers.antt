@@ -1,4 +1,4 @@
-use Rattle.std.proofs.Common.{◌≡◌, Bool, true, refl, subst, sym, ◌∙◌, ap}
+use Rattle.std.proofs.Common.{◌≡◌, Bool, true, refl, subst, sym}
 use Rattle.sets.proofs.Every.{all_by}
 use Rattle.datasets.specs.Id.{id_order}
 use Rattle.algebra.specs.declared.template.QuadTemplate.{QuadTemplate}

@@ -7,6 +7,7 @@ use Rattle.reads.specs.Reads.{View, IsDataset, applied}
 use Rattle.reads.specs.Runs.{Agrees}
 use Rattle.asking.specs.Goes.{Goes}
 use Rattle.update.specs.Asked.{IsWithin}
+use Rattle.update.specs.Known.{or_told}
 use Rattle.update.proofs.operations.perform.Given as goal
 
 -- what is left to do, where the changes so far lead, comes to what all operations come to
@@ -17,5 +18,5 @@ invariant-loop-operation g l = record {
   goes : Goes g.S.Source.asks (is_near_request id_order l.operations) l.fn.source l.source l.fn.notes.items l.notes.items None;
   effect : (d : View) → IsDataset d → Agrees l.notes.items d →
       performed (numbers l.dict) l.place l.op (drop l.operation-index l.operations) (applied l.changes d) ≡ performed (numbers l.dict) l.place 0 l.operations d;
-  within : IsWithin (is_near_request id_order l.operations) l.changes;
+  within : IsWithin (or_told (is_near_request id_order l.operations) l.notes.items) l.changes;
 }

@@ -6,9 +6,11 @@ use Rattle.std.specs.Prelude.{filter}
 use Rattle.asking.specs.Near.{is_near_target}
 use Rattle.reads.specs.Reads.{applied}
 use Rattle.update.specs.Asked.{AskedQuads}
+use Rattle.update.specs.Known.{is_free_scan, or_told}
 use Rattle.update.specs.Graphs.{quads_of, whole}
 use Rattle.update.proofs.GraphEffects.{scanned_of}
 use Rattle.update.proofs.GraphNearness.{scan_near, quads_near}
+use Rattle.update.proofs.ToldReads.{noted_any}
 use Rattle.asking.proofs.Notes.{goes_short, goes_as}
 use Rattle.update.proofs.targets.quads_of.Goals as goal
 
@@ -31,7 +33,12 @@ returns-clause-seen g c d a =
     ∙ scanned_of t D.quads
 
 pub returns-clause-within : goal.returns-clause-within
-returns-clause-within g c = subst (AskedQuads (is_near_target id_order c.args.target.now)) (sym c.among.ensures) (quads_near c.args.target.now c.in_ok-quads.quads.items)
+returns-clause-within g c =
+    let t = c.args.target.now in
+    let notes = c.scan.new.notes.items in
+    let whole_of_it = c.whole-pattern.ensures ∙ ap whole c.place_of.ensures in
+    subst (AskedQuads (or_told (is_near_target id_order t) notes)) (sym c.among.ensures)
+    (quads_near t notes (λ e. noted_any is_free_scan (Scan c.whole-pattern.result) c.args.notes.now.items notes c.in_ok-found.ensures.noted (ap (λ p. is_free_scan (Scan p)) whole_of_it ∙ e)) c.in_ok-quads.quads.items)
 
 pub returns-in_err-quads-clause-goes : goal.returns-in_err-quads-clause-goes
 returns-in_err-quads-clause-goes g c =

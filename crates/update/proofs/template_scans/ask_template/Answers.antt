@@ -1,7 +1,7 @@
 use Rattle.std.proofs.Common.{ap, ◌∙◌}
 use Rattle.asking.proofs.Notes.{goes_as}
 use Rattle.update.specs.Once.{is_noted}
-use Rattle.update.proofs.NewNotes.{adds_nothing, adds_one}
+use Rattle.update.proofs.NewNotes.{adds_one}
 use Rattle.update.proofs.template_scans.ask_template.Goals as goal
 
 pub returns-in_err-_answer-clause-goes : goal.returns-in_err-_answer-clause-goes
