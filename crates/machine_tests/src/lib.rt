@@ -19,6 +19,8 @@ mod counters;
 #[cfg(test)]
 mod gate_entries;
 #[cfg(test)]
+mod lean_notes;
+#[cfg(test)]
 mod lines;
 #[cfg(test)]
 mod lock_holds;

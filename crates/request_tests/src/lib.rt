@@ -1,6 +1,6 @@
 //! Worked examples of requests: texts with their tokens, groups and trees, texts and blocks with
-//! their updates or refusals, values of filter expressions, and the numbers of terms. It has tests
-//! alone.
+//! their updates or refusals, values of filter expressions, pairs of solution mappings, and the
+//! numbers of terms. It has tests alone.
 #![tactic(auto)]
 
 #[cfg(test)]
@@ -9,6 +9,12 @@ mod blocks_by_threads;
 mod filters;
 #[cfg(test)]
 mod group_patterns;
+#[cfg(test)]
+mod kept_orders;
+#[cfg(test)]
+mod long_names;
+#[cfg(test)]
+mod mappings;
 #[cfg(test)]
 mod numbered_datasets;
 #[cfg(test)]

@@ -1,6 +1,8 @@
 //! Texts and blocks with the answers that the standard and this program's limits give them.
 
-use algebra::{Expression, GraphOperation, Link, Modify, Operation, Place, Plan, Slot};
+use algebra::{
+    Expression, GraphOperation, Link, Modify, Operation, Place, Plan, QuadTemplate, Slot, Target,
+};
 use meaning::Refusal;
 use rules::{BlockFault, split, verdicts};
 use std::alloc::{AllocError, Global};
@@ -223,6 +225,56 @@ fn texts(rt: HostRuntime) -> Result<(), BlockFault> {
     Ok(())
 }
 
+/// Texts of the parts of the language that are left out, and of operations on graphs that name none
+/// or two.
+const LEFT_OUT: [&str; 36] = [
+    "LOAD <a:b>",
+    "LOAD SILENT <a:b> INTO GRAPH <a:c>",
+    "SELECT * { }",
+    "ASK { }",
+    "BASE <a:b> INSERT DATA { }",
+    "INSERT DATA { [] <a:b> <a:c> }",
+    "INSERT DATA { <a:b> <a:c> [] }",
+    "INSERT DATA { <a:b> <a:c> ( ) }",
+    "INSERT DATA { <a:b> <a:c> 1e0 }",
+    "INSERT DATA { <a:b> <a:c> .5 }",
+    "INSERT DATA { <a:b> <a:c> +1 }",
+    "INSERT DATA { <a:b> <a:c> '''d''' }",
+    "INSERT DATA { <a:b> <a:c> \"\"\"d\"\"\" }",
+    "INSERT { } WHERE { ?s <a:b>/<a:c> ?o }",
+    "INSERT { } WHERE { ?s <a:b>|<a:c> ?o }",
+    "INSERT { } WHERE { ?s ^<a:b> ?o }",
+    "INSERT { } WHERE { ?s <a:b>* ?o }",
+    "INSERT { } WHERE { VALUES ?x { 1 } }",
+    "INSERT { } WHERE { BIND(1 AS ?x) }",
+    "INSERT { } WHERE { FILTER EXISTS { } }",
+    "INSERT { } WHERE { FILTER NOT EXISTS { } }",
+    "INSERT { } WHERE { SERVICE <a:b> { } }",
+    "INSERT { } WHERE { FILTER(?x IN (1)) }",
+    "INSERT { } WHERE { FILTER(IF(true, true, true)) }",
+    "INSERT { } WHERE { FILTER(COALESCE(?x)) }",
+    "INSERT { } WHERE { FILTER REGEX(?x, 'a') }",
+    "INSERT { } WHERE { FILTER(?x / 2 = 1) }",
+    "CLEAR",
+    "CLEAR <a:g>",
+    "CLEAR DEFAULT NAMED",
+    "CLEAR NAMED <a:g>",
+    "DROP SILENT",
+    "DROP GRAPH",
+    "DROP ALL SILENT",
+    "DROP GRAPH ALL",
+    "CREATE GRAPH DEFAULT",
+];
+
+#[test]
+fn what_is_left_out(rt: HostRuntime) -> Result<(), BlockFault> {
+    for text in &LEFT_OUT {
+        let found = answer(rt.alloc(), text)?;
+        assert!(rt; found == Some(Err(Refusal::Syntax)), "{text}");
+    }
+    Ok(())
+}
+
 /// Two parts, how often each stands in turn, what follows, and the answer.
 const LIMITS: [(&str, &str, usize, &str, Result<usize, Refusal>); 7] = [
     ("{", "}", 64, "", Ok(1)),
@@ -315,6 +367,59 @@ fn terms_of_blocks(rt: HostRuntime) -> Result<(), BlockFault> {
         matches!(terms.as_slice(), [subject, predicate, _]
             if is_iri(subject.get(), "http://e/b") && is_iri(predicate.get(), RDF_TYPE))
     );
+    Ok(())
+}
+
+/// Texts, and the IRIs of the terms of each.
+const NAMED: [(&str, &[&str]); 6] = [
+    // Of a prefix that is declared twice the last one counts.
+    (
+        "PREFIX a: <a:> PREFIX a: <b:> INSERT DATA { a:x a:y a:z }",
+        &["b:x", "b:y", "b:z"],
+    ),
+    // A prefix stands for the operations that follow, until it is declared again.
+    (
+        "PREFIX a: <a:> INSERT DATA { a:x a:y a:z } ; INSERT DATA { a:x a:x a:x }",
+        &["a:x", "a:y", "a:z", "a:x", "a:x", "a:x"],
+    ),
+    (
+        "PREFIX a: <a:> INSERT DATA { a:x a:x a:x } ; prefix a: <b:> INSERT DATA { a:x a:y a:z }",
+        &["a:x", "a:x", "a:x", "b:x", "b:y", "b:z"],
+    ),
+    // Prefixes that begin alike, and those that differ in case, are apart.
+    (
+        "PREFIX : <e:> PREFIX ab: <f:> PREFIX a: <g:> INSERT DATA { :x ab:x a:x }",
+        &["e:x", "f:x", "g:x"],
+    ),
+    (
+        "PREFIX a: <a:> PREFIX A: <b:> INSERT DATA { a:x A:x a:X }",
+        &["a:x", "b:x", "a:X"],
+    ),
+    // A name may have no local part.
+    (
+        "PREFIX a: <a:b> CREATE GRAPH a: ; DROP GRAPH a:c",
+        &["a:b", "a:bc"],
+    ),
+];
+
+/// Whether the terms of a block are these IRIs, in order.
+fn has_iris(alloc: Global, text: &str, iris: &[&str]) -> Result<bool, BlockFault> {
+    let block = split(alloc, text.as_bytes())?;
+    let terms = block.terms(alloc)?;
+    for (term, iri) in terms.iter().zip(iris.iter()) {
+        let iri: &str = *iri;
+        if !is_iri(term.get(), iri) {
+            return Ok(false);
+        }
+    }
+    Ok(terms.len() == iris.len())
+}
+
+#[test]
+fn names_by_their_prefixes(rt: HostRuntime) -> Result<(), BlockFault> {
+    for (text, iris) in &NAMED {
+        assert!(rt; has_iris(rt.alloc(), text, iris)?, "{text}");
+    }
     Ok(())
 }
 
@@ -449,5 +554,101 @@ fn operations(rt: HostRuntime) -> Result<(), BlockFault> {
     for (text, sought) in &SOUGHT {
         assert!(rt; is_found(rt.alloc(), text, *sought)?, "{text}");
     }
+    Ok(())
+}
+
+/// A text of DROP or CLEAR, whether it is silent and whether it is DROP, and what it names.
+type Taking = (&'static str, bool, bool, &'static str);
+
+const TAKINGS: [Taking; 12] = [
+    ("CLEAR GRAPH <a:g>", false, false, "a:g"),
+    ("CLEAR DEFAULT", false, false, "the default graph"),
+    ("CLEAR NAMED", false, false, "the named graphs"),
+    ("clear all", false, false, "all"),
+    ("CLEAR SILENT NAMED", true, false, "the named graphs"),
+    ("Clear Silent All", true, false, "all"),
+    ("DROP GRAPH <a:h>", false, true, "a:h"),
+    ("DROP SILENT GRAPH <a:h>", true, true, "a:h"),
+    ("drop named", false, true, "the named graphs"),
+    ("DROP ALL", false, true, "all"),
+    ("DROP SILENT DEFAULT", true, true, "the default graph"),
+    ("DROP SILENT ALL", true, true, "all"),
+];
+
+fn told_target(target: &Target<Term>) -> &str {
+    match target {
+        Target::Graph(Term::Iri(iri)) => iri.as_str(),
+        Target::Graph(_) => "no IRI",
+        Target::Default => "the default graph",
+        Target::Named => "the named graphs",
+        Target::All => "all",
+    }
+}
+
+/// Whether an operation is DROP or CLEAR of this.
+fn takes(operation: &GraphOperation<Term>, is_drop: bool, named: &str) -> bool {
+    match operation {
+        GraphOperation::Drop(target) => is_drop && told_target(target) == named,
+        GraphOperation::Clear(target) => !is_drop && told_target(target) == named,
+        _ => false,
+    }
+}
+
+/// Whether the only operation of a text is what a row says.
+fn is_taking(alloc: Global, row: &Taking) -> Result<bool, BlockFault> {
+    let (text, is_silent, is_drop, named) = *row;
+    let block = split(alloc, text.as_bytes())?;
+    let [Ok(operations)] = block.as_slice() else {
+        return Ok(false);
+    };
+    Ok(match operations.as_slice() {
+        [Operation::Graphs { silent, operation }] => {
+            *silent == is_silent && takes(operation, is_drop, named)
+        }
+        _ => false,
+    })
+}
+
+#[test]
+fn graphs_that_are_taken_away(rt: HostRuntime) -> Result<(), BlockFault> {
+    for row in &TAKINGS {
+        assert!(rt; is_taking(rt.alloc(), row)?, "{}", row.0);
+    }
+    Ok(())
+}
+
+const LABELLED: &str = "INSERT DATA { _:b <a:p> _:a GRAPH <a:g> { _:a <a:p> _:c } } ;
+    INSERT { _:c <a:p> _:b . _:b <a:p> _:c } WHERE { }";
+
+/// Whether the subjects and objects of templates are labels of these numbers.
+fn has_labels(quads: &[QuadTemplate<Term>], labels: &[(u32, u32)]) -> bool {
+    let mut pairs = quads.iter().zip(labels.iter());
+    quads.len() == labels.len()
+        && pairs.all(|pair| is_label(&pair.0.subject, pair.1.0)
+            && is_label(&pair.0.object, pair.1.1))
+}
+
+/// Whether an operation inserts quads with labels of these numbers.
+fn inserts_labels(operation: &Operation<Term>, labels: &[(u32, u32)]) -> bool {
+    match operation {
+        Operation::Modify(modify) => has_labels(modify.insert.as_slice(), labels),
+        _ => false,
+    }
+}
+
+// Labels are numbered from 0 in each operation, across graphs.
+#[test]
+fn labels_of_each_operation(rt: HostRuntime) -> Result<(), BlockFault> {
+    let block = split(rt.alloc(), LABELLED.as_bytes())?;
+    let is_labelled = match block.as_slice() {
+        [Ok(operations)] => {
+            matches!(operations.as_slice(), [first, second]
+                if inserts_labels(first, &[(0, 1), (1, 2)])
+                    && inserts_labels(second, &[(0, 1), (1, 0)]))
+        }
+        _ => false,
+    };
+    drop(block);
+    assert!(rt; is_labelled);
     Ok(())
 }
