@@ -16,12 +16,12 @@ use std::alloc::{AllocError, Global};
 use std::marker::Model;
 use update::execute;
 
-// Which incarnation of which request is run by whom.
+/// Which incarnation of which request is run by whom.
 #[derive(Clone, Copy)]
-struct Turn {
-    worker: u32,
-    place: usize,
-    incarnation: u64,
+pub struct Turn {
+    pub worker: u32,
+    pub place: usize,
+    pub incarnation: u64,
 }
 
 // What answers the reads of a turn: a book, by its steps.
@@ -107,8 +107,8 @@ fn told_of(
     Ok(told_by(&reply))
 }
 
-// A book after an event, and what is told of it.
-fn play_event<'a>(
+/// A book after an event, and what is told of it.
+pub fn play_event<'a>(
     alloc: Global,
     mut book: Book<'a>,
     worker: u32,

@@ -17,6 +17,8 @@ mod conflicts;
 #[cfg(test)]
 mod counters;
 #[cfg(test)]
+mod event_orders;
+#[cfg(test)]
 mod gate_entries;
 #[cfg(test)]
 mod lean_notes;
@@ -38,6 +40,8 @@ mod requests;
 mod sharing;
 #[cfg(test)]
 mod single_worker;
+#[cfg(test)]
+mod turns;
 #[cfg(test)]
 mod waiting_calls;
 #[cfg(test)]
