@@ -63,7 +63,8 @@ impl<'a> DatasetBuilder<'a> {
         }
     }
 
-    /// Puts in a quad, and the name of its graph. An `Err` comes only where memory runs out.
+    /// Puts in a quad, and the name of its graph. An `Err` comes only where memory runs out; what
+    /// the builder holds then is not said, so a caller drops it.
     pub fn add(&mut self, quad: Quad<TermCow<'a>>) -> Result<(), AllocError>
         ensures { OnOk result (self.new ≡ with_quad quad.entry self.old) }
     {
@@ -76,7 +77,8 @@ impl<'a> DatasetBuilder<'a> {
         Ok(())
     }
 
-    /// Puts in a graph, empty if no quad is in it. An `Err` comes only where memory runs out.
+    /// Puts in a graph, empty if no quad is in it. An `Err` comes only where memory runs out; what
+    /// the builder holds then is not said, so a caller drops it.
     pub fn declare(&mut self, name: TermCow<'a>) -> Result<(), AllocError>
         ensures { OnOk result (self.new ≡ with_graph name.entry self.old) }
     {

@@ -77,18 +77,21 @@ impl<'a> Walk<'a> {
         }
     }
 
-    /// The next step, a declaration. An error comes only where a growth was refused.
+    /// The next step, a declaration. An error comes only where a growth was refused, and leaves the
+    /// walk as it is.
     pub fn declare(&mut self, prefix: &Piece<'a>, iri: &IriText<'a>) -> Result<(), AllocError>
         ensures kinds { OnOk result ((rest : List Step) → kinds_with self.new rest
             ≡ kinds_with self.old (step.Declare prefix.now iri.now ∷ rest)) }
         ensures prefixes { OnOk result (self.new.prefixes
             ≡ declare prefix.now iri.now self.old.prefixes) }
+        ensures err { OnErr result (self.new ≡ self.old) }
     {
         self.prefixes.declare(prefix, iri)
     }
 
     /// The next step, an operation: finds its faults. An error comes only where a growth was
-    /// refused, or where INSERT DATA has 2^32 labels.
+    /// refused, or where INSERT DATA has 2^32 labels; what the walk has found then is not said, so a
+    /// caller drops it.
     pub fn see(&mut self, nodes: &OperationNodes<'_, 'a>) -> Result<(), AllocError>
         ensures kinds { OnOk result ((rest : List Step) → kinds_with self.new rest
             ≡ kinds_with self.old (step.Do nodes.now ∷ rest)) }

@@ -137,7 +137,8 @@ impl<'a> Labels<'a> {
     }
 
     /// Numbers for the labels among nodes, in their order. An error comes only where a growth was
-    /// refused, or where there are 2^32 labels.
+    /// refused, or where there are 2^32 labels; some of them may have numbers then, so a caller
+    /// drops the labels.
     pub fn add_nodes(&mut self, nodes: &[Node<'a>]) -> Result<(), AllocError>
         ensures { OnOk result (self.new ≡ with_labels (labels_of nodes.now) self.old) }
     {

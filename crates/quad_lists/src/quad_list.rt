@@ -207,9 +207,11 @@ impl QuadList {
         }
     }
 
-    /// One more at the end.
+    /// One more at the end. An error comes only where a growth was refused, and leaves the list as
+    /// it is.
     pub fn push(&mut self, alloc: Global, quad: &Quad<Id>) -> Result<(), AllocError>
-        ensures { OnOk result (self.new ≡ self.old ++ quad.now ∷ []) }
+        ensures ok { OnOk result (self.new ≡ self.old ++ quad.now ∷ []) }
+        ensures err { OnErr result (self.new ≡ self.old) }
     {
         match &mut self.entries {
             Entries::Narrow(known) => {

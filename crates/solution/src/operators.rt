@@ -51,7 +51,8 @@ pub fn joins(alloc: Global, left: &[Mapping], right: &Lookup) -> Result<Vec<Mapp
     Ok(found)
 }
 
-/// Adds the mappings under which a place of a pattern is this term.
+/// Adds the mappings under which a place of a pattern is this term. An error comes only where a
+/// growth was refused; some of them may have been added then, so a caller drops what it found.
 pub fn push_fitted(
     found: &mut Vec<Mapping>,
     place: Place<Id>,

@@ -118,7 +118,8 @@ impl Solutions {
         place_of(&self.mappings, mapping)
     }
 
-    /// Adds the mappings under which a place of a pattern is this term.
+    /// Adds the mappings under which a place of a pattern is this term. An error comes only where a
+    /// growth was refused; some of them may have been added then, so a caller drops what it found.
     pub fn push_fitted(
         self,
         place: Place<Id>,
