@@ -1,5 +1,5 @@
 //! A walk over the steps of a request, in which its faults are found.
-ghost use Rattle.std.specs.Prelude.{◌≡◌, ◌||◌, ◌^◌, ◌<◌, ◌∷◌, ◌++◌, [], List, nat_lt, IfOk, OnOk};
+ghost use Rattle.std.specs.Prelude.{◌≡◌, ◌||◌, ◌^◌, ◌<◌, ◌∷◌, ◌++◌, [], List, nat_lt, IfOk, OnOk, OnErr};
 ghost use Rattle.syntax_trees.specs.declared.tree.Step.{Step};
 ghost use Rattle.syntax_trees.specs.declared.tree.Syntax.{Syntax};
 ghost use Rattle.syntax_trees.specs.declared.tree.Step.TheVariants as step;
