@@ -298,7 +298,7 @@ module _ {A B : Type 0} (V : Vocabulary A) (W : Vocabulary B) (f : A → B) (k :
       ∙ ap (settled W (renamed f d)) (performed-map i 0 ops d h h')
   answer-map i (Err refusal) d h h' = refl
 
-  answer-known : (i : ℕ) (q : Request A) (d : Dataset A) → request_known k q ≡ true → dataset_known k d ≡ true → dataset_known k (answer_of V i q d).0 ≡ true
+  pub answer-known : (i : ℕ) (q : Request A) (d : Dataset A) → request_known k q ≡ true → dataset_known k d ≡ true → dataset_known k (answer_of V i q d).0 ≡ true
   answer-known i (Ok ops) d h h' = settled-known d (performed V i 0 ops d) h' (performed-known i 0 ops d h h')
   answer-known i (Err refusal) d h h' = h'
 
