@@ -3,24 +3,18 @@
 use Rattle.std.specs.Prelude.{Bool, true, false, ◌&&◌, Option, Some, None, slice_set}
 use Rattle.std.proofs.Common.{◌≡◌, ◌<◌, ℕ, zero, suc, List, [], ◌∷◌, refl, sym, ap, ◌∙◌, length, get_or, arith}
 use Rattle.std.proofs.lemmas.Bool.{false≢true, and_parts, and_from}
-use Rattle.std.proofs.lemmas.Nat.{mod_below}
 use Rattle.std.specs.Cmp.Lexicographic.{options_total}
 use Rattle.sets.proofs.SetLaws.{exact_by}
 use Rattle.datasets.specs.declared.id.Id.{Id}
-use Rattle.datasets.specs.declared.id.Id.TheVariants.{Known, Made}
 use Rattle.datasets.specs.declared.quad.Quad.{Quad}
 use Rattle.datasets.specs.declared.read.GraphPlace.{GraphPlace}
 use Rattle.datasets.specs.declared.read.GraphPlace.TheVariants.{Any, Only}
 use Rattle.datasets.specs.declared.read.QuadPattern.{QuadPattern}
 use Rattle.datasets.specs.Dataset.{matches, free_or, in_place}
 use Rattle.datasets.specs.Id.{id_order, id_total, id_exact, option_exact}
-use Rattle.version_overlay.specs.Seen.{slot_of, is_seen, is_graph_seen, lets, lets_graph, passes}
+use Rattle.version_overlay.specs.Seen.{is_seen, is_graph_seen, lets, lets_graph, passes}
 
 -- ---- slots
-
-pub slot_below : (x : Id) → slot_of x < 262144
-slot_below (Known n) = mod_below n 262144 (omega arith)
-slot_below (Made r o l s) = mod_below s 262144 (omega arith)
 
 pub still_set : (xs : List Bool) (i k : ℕ) → get_or xs k false ≡ true → get_or (slice_set xs i true) k false ≡ true
 still_set [] i k e = absurd (false≢true e)

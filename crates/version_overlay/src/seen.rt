@@ -10,11 +10,11 @@ use datasets::{GraphPlace, Id, Quad, QuadPattern};
 use std::alloc::{AllocError, Global};
 use std::marker::Model;
 
-/// How many slots a filter has.
+/// How many slots a filter has at most.
 const SLOTS: usize = 262_144;
 
 /// A filter of terms: it lets through each that was put, and few others. Contracts see its slots,
-/// each of which says whether a term of it was put. There are none before the first term.
+/// each of which says whether a term of it was put. There are as many as the terms so far need.
 #[derive(Drop)]
 pub struct SeenTerms {
     slots: Vec<bool>,
@@ -58,7 +58,7 @@ impl SeenTerms {
         }
         let slot = slot_of(term);
         if slot >= self.slots.len() {
-            self.slots.resize(SLOTS, false)?;
+            self.slots.resize(slot + 1, false)?;
         }
         self.slots[slot] = true;
         Ok(())
