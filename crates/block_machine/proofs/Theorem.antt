@@ -4,7 +4,7 @@ use Rattle.std.specs.Prelude.{if◌then◌else◌}
 use Rattle.std.proofs.lemmas.Bool.{cases_eq, and_parts}
 use Rattle.std.proofs.lemmas.List.{get_or-replicate}
 use Rattle.std.proofs.Math.ListN.{length-replicate}
-use Rattle.reads.specs.Reads.{View, Delta, says, applied, IsDataset}
+use Rattle.reads.specs.Reads.{View, Delta, says, applied}
 use Rattle.delta.specs.Same.{delta_eq}
 use Rattle.incarnations.specs.declared.state.Status.{Status}
 use Rattle.incarnations.specs.declared.state.Status.TheVariants.{Ready, Executing, Executed, Committed as HasCommitted}
@@ -25,7 +25,7 @@ use Rattle.block_machine.proofs.Known.{Clear, is_current-Clear, Known, known_mor
 use Rattle.block_machine.proofs.Invariant.{is_done, Holds, Ran, PassHolds, StampHolds, SlotHolds, InOrder, Invariant, Steady, slot_steady, each_replaced, replaced}
 use Rattle.delta.specs.declared.finished.Finished.{Finished}
 use Rattle.reads.specs.Runs.{Agrees}
-use Rattle.delta.specs.Sound.{IsSoundFor}
+use Rattle.delta.specs.Sound.{IsDatasetOf, IsSoundFor}
 
 -- WHAT A REPLY SAYS OF THE STATE
 
@@ -300,8 +300,8 @@ module _ (exact : DeltasAreOne) (m : Setting) (s : State) (inv : Invariant m s) 
 
   -- THE COMMIT
 
-  -- what was run one after another is a dataset
-  serial_dataset : IsSetting m → (n : ℕ) → IsDataset (dataset_after m n)
+  -- what was run one after another is a dataset of known terms
+  serial_dataset : IsSetting m → (n : ℕ) → IsDatasetOf m.known (dataset_after m n)
   unfolding dataset_after
   serial_dataset ok zero = ok.base
   serial_dataset ok (suc n) = ok.answers n (dataset_after m n) (serial_dataset ok n)
@@ -312,7 +312,7 @@ module _ (exact : DeltasAreOne) (m : Setting) (s : State) (inv : Invariant m s) 
   front_answer ok x ran known =
       let d = view_at m.base s.slots s.front in
       let same = inv.serial.dataset in
-      let is : IsDataset d = subst IsDataset (sym same) (serial_dataset ok s.front) in
+      let is : IsDatasetOf m.known d = subst (IsDatasetOf m.known) (sym same) (serial_dataset ok s.front) in
       let f = ran.finished in
       let agrees = subst (λ ns. Agrees ns d) (sym ran.transcript) (known_agrees d x.notes known) in
       let right = ran.sound d is agrees in (

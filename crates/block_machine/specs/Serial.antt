@@ -1,7 +1,8 @@
 -- One request after another, and the histories of the machine that are held to it.
-use Rattle.std.specs.Prelude.{◌≡◌, ℕ, zero, suc, List, [], ◌∷◌, ◌++◌, Some}
-use Rattle.reads.specs.Reads.{View, IsDataset}
-use Rattle.delta.specs.Sound.{IsSoundFor}
+use Rattle.std.specs.Prelude.{◌≡◌, ℕ, zero, suc, Bool, List, [], ◌∷◌, ◌++◌, Some}
+use Rattle.datasets.specs.declared.id.Id.{Id}
+use Rattle.reads.specs.Reads.{View}
+use Rattle.delta.specs.Sound.{IsDatasetOf, IsSoundFor}
 use Rattle.meaning.specs.declared.reply.Reply as request
 use Rattle.delta.specs.declared.finished.Finished.{Finished}
 use Rattle.incarnations.specs.declared.state.Event.{Event}
@@ -13,16 +14,18 @@ use Rattle.validate.specs.Below.{view_at}
 use Rattle.slots.specs.Slots.{replies_to}
 use Rattle.block_machine.specs.Machine.{State, IsAllowed, after, fresh, state_after}
 
--- What is run: a base, how many requests there are, and what each makes of a dataset and replies.
+-- What is run: which terms are known, a base, how many requests there are, and what each makes of a
+-- dataset and replies.
 pub record Setting : Type 0 where
+  pub known : Id → Bool
   pub base : View
   pub size : ℕ
   pub answer : ℕ → View → View × request.Reply
 
--- the base is a dataset, and each request makes a dataset of a dataset
+-- the base is a dataset of known terms, and each request makes one of one
 pub record IsSetting (m : Setting) : Type 0 where
-  pub base : IsDataset m.base
-  pub answers : (i : ℕ) (d : View) → IsDataset d → IsDataset (m.answer i d).0
+  pub base : IsDatasetOf m.known m.base
+  pub answers : (i : ℕ) (d : View) → IsDatasetOf m.known d → IsDatasetOf m.known (m.answer i d).0
 
 -- the dataset after the first n requests, one after another
 unfoldable pub dataset_after : Setting → ℕ → View
@@ -36,7 +39,7 @@ replies_after m (suc n) = replies_after m n ++ (m.answer n (dataset_after m n)).
 
 -- a finished run is sound for the request at this place
 abbrev pub IsSound : Setting → ℕ → Finished → Type 0
-IsSound m i finished = IsSoundFor (m.answer i) finished
+IsSound m i finished = IsSoundFor m.known (m.answer i) finished
 
 -- a published run is sound
 abbrev pub IsSoundEntry : Setting → Event → Reply → Type 0

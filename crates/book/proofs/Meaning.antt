@@ -1,31 +1,46 @@
 -- What the machine runs is the sequential run.
-use Rattle.std.proofs.Common.{◌≡◌, ℕ, zero, suc, ◌<◌, ◌≤◌, List, [], ◌∷◌, ◌++◌, length, Option, Some, None, Ok, slice_get, refl, sym, ap, ◌∙◌, arith}
-use Rattle.std.proofs.lemmas.Option.{slice_get-get_or}
+use Rattle.std.proofs.Common.{◌≡◌, ℕ, zero, suc, ◌<◌, ◌≤◌, true, List, [], ◌∷◌, ◌++◌, length, Option, Some, None, Ok, slice_get, refl, sym, ap, ◌∙◌, subst, arith}
+use Rattle.std.proofs.lemmas.List.Sums.{AllPass-from_list_all}
+use Rattle.std.proofs.lemmas.Option.{slice_get-get_or, slice_get_within, get_or_from_slice_get}
 use Rattle.terms.specs.declared.term.Term.{Term}
 use Rattle.datasets.specs.declared.id.Id.{Id}
 use Rattle.datasets.specs.Id.{id_total, id_exact}
-use Rattle.dict.specs.Dictionary.{numbers}
+use Rattle.dict.specs.Dictionary.{IsDictionary, is_known, numbers, term_of, written}
+use Rattle.dict.proofs.Numbers.{is_renaming}
 use Rattle.meaning.specs.Run.{Request, answer_of, run_of_first}
 use Rattle.meaning.specs.declared.reply.Reply as request
 use Rattle.meaning_laws.specs.Answers.{IsExactOrder}
+use Rattle.meaning_laws.specs.Renaming.{request_known}
 use Rattle.meaning_laws.proofs.Answers.{answers_with_datasets, goes_on_by_one}
-use Rattle.reads.specs.Reads.{View, IsDataset}
+use Rattle.meaning_laws.proofs.Renames.{answer-known}
+use Rattle.reads.specs.Reads.{View}
+use Rattle.delta.specs.Sound.{IsDatasetOf}
 use Rattle.block_machine.specs.Serial.{IsSetting, dataset_after, replies_after}
-use Rattle.book.specs.Run.{answer_at, setting}
+use Rattle.book.specs.Run.{answer_at, setting, HasAllTerms}
 
 module _ (terms : List Term) where
   exact : IsExactOrder (numbers terms)
   exact = record { total = id_total; exact = id_exact }
 
-  answer_dataset : (i : ℕ) (o : Option (Request Id)) (d : View) → IsDataset d → IsDataset (answer_at (numbers terms) i o d).0
-  answer_dataset i None d h = h
-  answer_dataset i (Some r) d h = answers_with_datasets (numbers terms) i r d exact h
+  answer_dataset : IsDictionary terms → (i : ℕ) (o : Option (Request Id)) (d : View) → ((r : Request Id) → o ≡ Some r → request_known (is_known terms) r ≡ true) → IsDatasetOf (is_known terms) d
+      → IsDatasetOf (is_known terms) (answer_at (numbers terms) i o d).0
+  answer_dataset is i None d has h = h
+  answer_dataset is i (Some r) d has h =
+      record {
+        set = answers_with_datasets (numbers terms) i r d exact h.set;
+        known = answer-known (numbers terms) written (term_of terms) (is_known terms) (is_renaming terms is) i r d (has r refl) h.known;
+      }
 
   module _ (base : View) (block : List (Request Id)) where
-    -- the base is a dataset, and each request makes a dataset of a dataset
-    pub is_setting : IsDataset base → IsSetting (setting terms base block)
+    -- the base is a dataset of known terms, and each request makes one of one
+    pub is_setting : IsDictionary terms → HasAllTerms terms base block → IsSetting (setting terms base block)
     unfolding setting
-    is_setting h = record { base = h; answers = λ i d k. answer_dataset i (slice_get block i) d k }
+    is_setting is has = record {
+      base = has.dataset;
+      answers = λ i d h. answer_dataset is i (slice_get block i) d
+          (λ r e. subst (λ (q : Request Id). request_known (is_known terms) q ≡ true) (get_or_from_slice_get block i r (Ok []) e)
+          (AllPass-from_list_all (request_known (is_known terms)) block has.requests i (Ok []) (slice_get_within block i r e))) h;
+    }
 
     abbrev pub so_far : ℕ → View × List request.Reply
     so_far n = run_of_first (numbers terms) n block base

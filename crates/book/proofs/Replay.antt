@@ -5,9 +5,9 @@ use Rattle.std.proofs.lemmas.List.{map-append, length-map}
 use Rattle.std.proofs.lemmas.Option.{slice_get-get_or, slice_get_within}
 use Rattle.terms.specs.declared.term.Term.{Term}
 use Rattle.datasets.specs.declared.id.Id.{Id}
-use Rattle.dict.specs.Dictionary.{numbers}
+use Rattle.dict.specs.Dictionary.{IsDictionary, is_known, numbers}
 use Rattle.meaning.specs.Run.{Request, answer_of, run_of_first}
-use Rattle.reads.specs.Reads.{View, IsDataset}
+use Rattle.reads.specs.Reads.{View}
 use Rattle.delta.specs.Sound.{IsSoundFor}
 use Rattle.delta.specs.declared.finished.Finished.{Finished}
 use Rattle.incarnations.specs.declared.state.Event.{Event}
@@ -25,7 +25,7 @@ use Rattle.block_machine.specs.Machine.{State, fresh, Unless, PublishReply, IsAl
 use Rattle.block_machine.specs.Serial.{Setting, IsSetting, IsSound, IsSoundEntry, IsLawful, IsHistory, FrontIsSerial}
 use Rattle.book.specs.declared.journal_entry.JournalEntry.{JournalEntry}
 use Rattle.book.specs.JournalEntry.{journal_entry_of, entry_in, history_from}
-use Rattle.book.specs.Run.{Run, run_of_journal, answer_at, setting, setting_of, front_run, IsReplayed, kept, IsSoundEvent}
+use Rattle.book.specs.Run.{Run, run_of_journal, answer_at, setting, setting_of, front_run, HasAllTerms, IsReplayed, kept, IsSoundEvent}
 use Rattle.book.proofs.Meaning.{is_setting, serial_run}
 
 -- before any event
@@ -33,22 +33,23 @@ pub run_none : (terms : List Term) (base : View) (block : List (Request Id)) (jo
 unfolding history_from
 run_none terms base block journal none = ap (run_of_journal terms base block) none
 
-none_yet : (run : Run) (machine : State) → IsDataset run.base → run.history ≡ [] → machine ≡ fresh (length run.block) → IsReplayed run [] machine
+none_yet : (run : Run) (machine : State) → IsDictionary run.terms → HasAllTerms run.terms run.base run.block → run.history ≡ [] → machine ≡ fresh (length run.block) → IsReplayed run [] machine
 unfolding state_after IsHistory
-none_yet run machine h none e =
+none_yet run machine is h none e =
     record {
-      base = h;
+      dictionary = is;
+      has_all_terms = h;
       lawful = subst (λ (es : List Entry). IsHistory (setting_of run) es) (sym none) tt;
       kept = ap (map journal_entry_of) none;
       state = e ∙ ap (λ (es : List Entry). state_after (fresh (length run.block)) es) (sym none);
     }
 
-pub replayed_none : (terms : List Term) (base : View) (block : List (Request Id)) (journal : List JournalEntry) (machine : State) → IsDataset base → journal ≡ [] → machine ≡ fresh (length block)
+pub replayed_none : (terms : List Term) (base : View) (block : List (Request Id)) (journal : List JournalEntry) (machine : State) → IsDictionary terms → HasAllTerms terms base block → journal ≡ [] → machine ≡ fresh (length block)
     → IsReplayed (run_of_journal terms base block journal) journal machine
 unfolding history_from
-replayed_none terms base block journal machine h none e =
+replayed_none terms base block journal machine is h none e =
     subst (λ (es : List JournalEntry). IsReplayed (run_of_journal terms base block es) es machine) (sym none)
-    (none_yet (run_of_journal terms base block []) machine h refl e)
+    (none_yet (run_of_journal terms base block []) machine is h refl e)
 
 module _ (run : Run) (journal : List JournalEntry) (machine : State) (r : IsReplayed run journal machine) where
   -- what a law says of every history, said of the book's journal and its machine
@@ -56,7 +57,7 @@ module _ (run : Run) (journal : List JournalEntry) (machine : State) (r : IsRepl
   unfolding setting
   said_of_book Says law =
       subst (λ (s : State). Says (setting_of run) run.history s) (sym r.state)
-      (law (setting_of run) run.history (is_setting run.terms run.base run.block r.base) r.lawful)
+      (law (setting_of run) run.history (is_setting run.terms run.base run.block r.dictionary r.has_all_terms) r.lawful)
 
   pub as_long : length run.history ≡ length journal
   as_long = sym (length-map run.history journal_entry_of) ∙ ap length r.kept
@@ -97,11 +98,11 @@ kept_after s w (Publish i n (Some f)) r = refl
 kept_after s w e r = refl
 
 -- what the machine runs at a place of the block
-sound_at : (run : Run) (i : ℕ) (f : Finished) → i < length run.block → ((r : Request Id) → slice_get run.block i ≡ Some r → IsSoundFor (answer_of (numbers run.terms) i r) f) → IsSound (setting_of run) i f
+sound_at : (run : Run) (i : ℕ) (f : Finished) → i < length run.block → ((r : Request Id) → slice_get run.block i ≡ Some r → IsSoundFor (is_known run.terms) (answer_of (numbers run.terms) i r) f) → IsSound (setting_of run) i f
 unfolding setting
 sound_at run i f lt sound = go (slice_get run.block i) refl
   where
-    go : (o : Option (Request Id)) → slice_get run.block i ≡ o → IsSoundFor (λ d. answer_at (numbers run.terms) i o d) f
+    go : (o : Option (Request Id)) → slice_get run.block i ≡ o → IsSoundFor (is_known run.terms) (λ d. answer_at (numbers run.terms) i o d) f
     go None e = absurd (let some = slice_get-get_or run.block i (Ok []) lt in (cc))
     go (Some r) e = sound r e
 
@@ -171,7 +172,8 @@ module _ (run : Run) (journal : List JournalEntry) (machine : State) (old : IsRe
       let lawful : IsLawful (setting_of run) machine entry = (kept_allowed run.base machine w e r allowed, kept_sound w e r sound allowed) in
       let next = goes_on run.history entry old.lawful (subst (λ (s : State). IsLawful (setting_of run) s entry) old.state lawful) in
       record {
-        base = old.base;
+        dictionary = old.dictionary;
+        has_all_terms = old.has_all_terms;
         lawful = next.0;
         kept = map-append journal_entry_of run.history (entry ∷ []) ∙ ap (λ es. es ++ journal_entry_of entry ∷ []) old.kept;
         state = is ∙ sym (kept_after machine w e r) ∙ ap (λ (x : State). after x w (kept e r) r) old.state ∙ sym next.1;

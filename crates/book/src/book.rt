@@ -1,6 +1,5 @@
 //! A block's machine with its journal.
 ghost use Rattle.std.specs.Prelude.{◌≡◌, ◌<◌, ◌≤◌, [], ◌∷◌, ◌++◌, map, ℕ, Some, None, true, false, nat_le, length, IfSome, IfOk, OnErr};
-ghost use Rattle.reads.specs.Reads.{IsDataset};
 ghost use Rattle.incarnations.specs.Kept.{kept_note_of};
 ghost use Rattle.incarnations.specs.Statuses.{is_closed};
 ghost use Rattle.incarnations.specs.Slots.{transcript_of};
@@ -11,7 +10,7 @@ ghost use Rattle.block_machine.specs.Scans.{HasScans};
 ghost use Rattle.block_machine.specs.Serial.{IsHistory};
 ghost use Rattle.block_machine.specs.Waiting.{has_work, IsLeastWork};
 ghost use Rattle.book.specs.JournalEntry.{journal_entry_of};
-ghost use Rattle.book.specs.Run.{state_of, setting_of, front_run, kept, IsSoundEvent};
+ghost use Rattle.book.specs.Run.{state_of, setting_of, front_run, HasAllTerms, kept, IsSoundEvent};
 
 use crate::journal::Journal;
 use crate::journal_entry::JournalEntry;
@@ -64,10 +63,12 @@ impl<'a> Book<'a> {
         base: &'a IndexedView,
         block: &'a [Request<Id>],
     ) -> Result<Book<'a>, AllocError>
-        requires { IsDataset base.now }
+        requires { HasAllTerms terms.now base.now block.now }
         ensures { IfOk result (λ book. book ≡ record
             { terms = terms.now; base = base.now; block = block.now; history = [] }) }
     {
+        // For the proof: the dictionary is one.
+        let _count = terms.len();
         let orders = base.orders(alloc)?;
         let machine = Machine::new(alloc, block.len(), &orders)?;
         Ok(Book {

@@ -2,6 +2,7 @@
 ghost use Rattle.std.specs.Prelude.{◌≡◌, ◌≢◌, ◌<◌, ◌≤◌, ◌-◌, ◌^◌, true, length, IfOk, IfErr, IfSome, OnOk, IsErrOf, string_bytes};
 ghost use Rattle.canonical_nquads.specs.Canonical.{text_of_pieces};
 ghost use Rattle.engines.specs.Failures.{is_unread, is_unwritten, is_journal_unwritten, FailedIf, OneFailedIf};
+ghost use Rattle.book.specs.Run.{HasAllTerms};
 ghost use Rattle.update.specs.Asked.{AreShort};
 ghost use Rattle.cli.specs.Journals.{IsFaultWithJournal, IsRecord, IsRecordAt, IsRecordOf, WroteJournal, WroteJournalInPart};
 ghost use Rattle.engines.specs.Outputs.{IfBoth, IfTouched, IsAnswerTo, Wrote, WroteInPart, taken};
@@ -66,6 +67,8 @@ fn recorded<T: Threads + Wait + Sync, G: Gate + Sync>(
     requires most { workers ≤ 64 }
     requires few { length numbered.now.block.items < 2 ^ 32 }
     requires short { AreShort numbered.now.block.items }
+    requires terms { HasAllTerms numbered.now.base.terms numbered.now.base.dataset
+        numbered.now.block.items }
     ensures { IfOk result (λ r. IsRecordAt numbered.now.base numbered.now.block.items r.outcome
         r.journal.items) }
 {

@@ -12,6 +12,7 @@ use Rattle.meaning.specs.declared.reply.Reply.{Reply}
 use Rattle.meaning_laws.specs.Renaming.{renamed, renamed_request, renamed_operation, dataset_known}
 use Rattle.numbering.specs.Numbered.{IsNumbered, IsCarried, CarriesBlock}
 use Rattle.store.specs.Base.{Base}
+use Rattle.book.specs.Run.{HasAllTerms}
 use Rattle.update.specs.Asked.{IsShort}
 use Rattle.update.specs.Asked.{AreShort}
 use Rattle.engines.specs.Outputs.{IsWhole}
@@ -34,6 +35,10 @@ module _ (d : Dataset Term) (block : List (Request Term)) (b : Base) (requests :
 
   pub same_length : length requests ≡ length block
   same_length = sym (length-map requests (renamed_request (term_of b.terms))) ∙ ap length numbered.block_is
+
+  -- the dictionary has all terms of the base and the block
+  pub has_all_terms : HasAllTerms b.terms b.dataset requests
+  has_all_terms = record { dataset = record { set = numbered.base.dataset; known = numbered.base.known }; requests = numbered.block_known }
 
   -- the run of the first n requests at numbers
   module _ (carries_block : CarriesBlock) (dataset : IsDataset term_order d) (n : ℕ) (after : Dataset Id) (replies : List Reply)

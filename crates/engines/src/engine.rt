@@ -37,6 +37,7 @@ pub trait Runs {
     ghost use Rattle.engines.specs.Outputs.{IsWhole};
     ghost use Rattle.canonical_nquads.specs.Canonical.{canonical, text_of_pieces};
     ghost use Rattle.numbering.specs.Numbered.{IsNumbered};
+    ghost use Rattle.book.specs.Run.{HasAllTerms};
     ghost use Rattle.datasets.specs.Dataset.{IsDataset};
     ghost use Rattle.terms.specs.Term.{term_order};
     ghost use Rattle.dict.specs.Dictionary.{term_of, is_known};
@@ -71,12 +72,14 @@ pub trait Runs {
         requires ready { Ready }
         ensures { IfOk result (λ n. IsNumbered dataset block n.base n.block.items) };
 
-    /// The outcome of the whole block, whose requests are fewer than 2^32. An `Err` is want of
-    /// memory.
+    /// The outcome of the whole block, whose requests are fewer than 2^32, on a base whose
+    /// dictionary has all their terms. An `Err` is want of memory.
     fn outcome(&self, alloc: Global, numbered: &Numbered) -> Result<Outcome, AllocError>
         requires ready { Ready }
         requires few { length numbered.now.block.items < 2 ^ 32 }
         requires short { AreShort numbered.now.block.items }
+        requires terms { HasAllTerms numbered.now.base.terms numbered.now.base.dataset
+            numbered.now.block.items }
         ensures { IfOk result (λ outcome. IsWhole numbered.now.base.terms numbered.now.base.dataset numbered.now.block.items outcome.dataset outcome.replies) };
 
     /// The dataset of terms that one at numbers stands for, where neither the base nor the block is

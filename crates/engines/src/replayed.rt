@@ -1,6 +1,6 @@
 //! The engine of the command `replay`.
 ghost use Rattle.std.specs.Prelude.{◌≡◌, ◌≢◌, ◌<◌, ◌≤◌, ◌-◌, ◌^◌, true, length, IfOk, IfErr, IfSome, OnOk, IsErrOf, string_bytes};
-ghost use Rattle.reads.specs.Reads.{IsDataset};
+ghost use Rattle.book.specs.Run.{HasAllTerms};
 ghost use Rattle.update.specs.Asked.{AreShort};
 ghost use Rattle.canonical_nquads.specs.Canonical.{text_of_pieces};
 ghost use Rattle.engines.specs.Failures.{is_unread, is_unwritten, FailedIf, OneFailedIf};
@@ -36,9 +36,10 @@ fn journal_fault(fault: JournalFault) -> Fault
 
 /// The outcome of the requests that are committed behind a journal's lines, at numbers of terms.
 fn outcome_of_lines(alloc: Global, numbered: &Numbered, lines: &[Line]) -> Result<Outcome, Fault>
-    requires dataset { IsDataset numbered.now.base.dataset }
     requires few { length numbered.now.block.items < 2 ^ 32 }
     requires short { AreShort numbered.now.block.items }
+    requires terms { HasAllTerms numbered.now.base.terms numbered.now.base.dataset
+        numbered.now.block.items }
     ensures outcome { IfOk result (IsFrontOf numbered.now.base numbered.now.block.items lines.now) }
     ensures fault { IfErr result (IsFaultOfLines numbered.now.base numbered.now.block.items
         lines.now) }

@@ -1,9 +1,8 @@
 //! The whole block, by workers on threads of their own.
 ghost use Rattle.std.specs.Prelude.{◌≡◌, ◌<◌, ◌≤◌, ◌^◌, length, All, IfOk};
-ghost use Rattle.book.specs.Run.{state_of};
+ghost use Rattle.book.specs.Run.{state_of, HasAllTerms};
 ghost use Rattle.dict.specs.Dictionary.{numbers};
 ghost use Rattle.meaning.specs.Run.{run};
-ghost use Rattle.reads.specs.Reads.{IsDataset};
 ghost use Rattle.update.specs.Asked.{AreShort};
 ghost use Rattle.blocklock.specs.History.{AreBelow};
 ghost use Rattle.shared.specs.Calls.{owner};
@@ -34,7 +33,7 @@ fn opened<'a>(
     block: &'a [Request<Id>],
     workers: u32,
 ) -> Result<(SharedBlock<'a>, Vec<Pass<'a>>), AllocError>
-    requires dataset { IsDataset base.now }
+    requires terms { HasAllTerms terms.now base.now block.now }
     requires workers { (0 < workers) × (workers ≤ 64) }
     ensures count { IfOk result (λ r. length r.1.items ≡ workers) }
     ensures seats { IfOk result (λ r. r.0.seats ≡ workers) }
@@ -64,7 +63,7 @@ pub fn run_book<'a, R: Threads + Wait + Sync, G: Gate + Sync>(
 ) -> Result<Book<'a>, AllocError>
     requires some { 0 < workers }
     requires most { workers ≤ 64 }
-    requires dataset { IsDataset base.now }
+    requires terms { HasAllTerms terms.now base.now block.now }
     requires size { length block.now < 2 ^ 32 }
     requires short { AreShort block.now }
     ensures terms { IfOk result (λ book. book.terms ≡ terms.now) }
@@ -108,7 +107,7 @@ pub fn run_block<R: Threads + Wait + Sync, G: Gate + Sync>(
 ) -> Result<Outcome, AllocError>
     requires some { 0 < workers }
     requires most { workers ≤ 64 }
-    requires dataset { IsDataset base.now }
+    requires terms { HasAllTerms terms.now base.now block.now }
     requires size { length block.now < 2 ^ 32 }
     requires short { AreShort block.now }
     ensures { IfOk result (λ outcome. (outcome.dataset, outcome.replies)

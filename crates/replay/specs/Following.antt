@@ -1,7 +1,7 @@
 -- One line of a journal as the next event of a book.
 use Rattle.std.specs.Prelude.{◌≡◌, ◌⊎◌, ℕ, Bool, true, false, [], ◌∷◌, ◌++◌, Option, Some, None, slice_get}
 use Rattle.datasets.specs.declared.id.Id.{Id}
-use Rattle.dict.specs.Dictionary.{numbers}
+use Rattle.dict.specs.Dictionary.{is_known, numbers}
 use Rattle.meaning.specs.Run.{Request, answer_of}
 use Rattle.delta.specs.Sound.{IsSoundFor}
 use Rattle.delta.specs.declared.finished.Finished.{Finished}
@@ -58,4 +58,6 @@ pub record GoesOnBy (old : Run) (line : Line) (new : Run) : Type 0 where
 
 -- a finished run of the request at this place of the block is sound
 abbrev pub IsSoundAt : Run → ℕ → Finished → Type 0
-IsSoundAt run i finished = (r : Request Id) → slice_get run.block i ≡ Some r → IsSoundFor (answer_of (numbers run.terms) i r) finished
+IsSoundAt run i finished =
+    (r : Request Id) → slice_get run.block i ≡ Some r
+    → IsSoundFor (is_known run.terms) (answer_of (numbers run.terms) i r) finished

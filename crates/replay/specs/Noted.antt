@@ -53,9 +53,9 @@ pub record AsksForOther (request : Request Id) (notes : List Note) : Type 0 wher
   pub other : IsOther read left
 
 -- a sound run has the first of these notes as its transcript, and some are left
-pub record EndsBefore (answer : View → View × Reply) (notes : List Note) : Type 0 where
+pub record EndsBefore (known : Id → Bool) (answer : View → View × Reply) (notes : List Note) : Type 0 where
   pub finished : Finished
-  pub sound : IsSoundFor answer finished
+  pub sound : IsSoundFor known answer finished
   pub left : List Note
   pub some : left ≢ []
   pub are : notes ≡ finished.transcript ++ left

@@ -2,7 +2,7 @@
 use Rattle.std.specs.Prelude.{◌≡◌, ◌⊎◌, ℕ, ◌+◌, List, length, take, Some, slice_get}
 use Rattle.terms.specs.declared.term.Term.{Term}
 use Rattle.datasets.specs.declared.id.Id.{Id}
-use Rattle.dict.specs.Dictionary.{numbers}
+use Rattle.dict.specs.Dictionary.{is_known, numbers}
 use Rattle.meaning.specs.Run.{Request, answer_of}
 use Rattle.reads.specs.Reads.{View}
 use Rattle.reads.specs.declared.note.Note.{Note}
@@ -30,7 +30,8 @@ notes_at run i = transcript_of (slot_at (state_of run).slots i).notes
 -- the notes of a request, if there is one, are not those of the run that they answer
 abbrev pub HasOtherNotes : Run → ℕ → Type 0
 HasOtherNotes run i =
-    (r : Request Id) → slice_get run.block i ≡ Some r → AsksForOther r (notes_at run i) ⊎ EndsBefore (answer_of (numbers run.terms) i r) (notes_at run i)
+    (r : Request Id) → slice_get run.block i ≡ Some r
+    → AsksForOther r (notes_at run i) ⊎ EndsBefore (is_known run.terms) (answer_of (numbers run.terms) i r) (notes_at run i)
 
 -- The line tells of a publication. The run that was published is in no journal, and the notes don't
 -- give it again.

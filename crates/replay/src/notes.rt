@@ -1,7 +1,7 @@
 //! A run that is made again, from what it noted.
 ghost use Rattle.std.specs.Prelude.{◌≡◌, ◌<◌, ◌^◌, ◌++◌, List, length, IfOk, IfSome, IfNone, OnErr};
 ghost use Rattle.datasets.specs.Id.{id_order};
-ghost use Rattle.dict.specs.Dictionary.{numbers};
+ghost use Rattle.dict.specs.Dictionary.{is_known, numbers};
 ghost use Rattle.asking.specs.Goes.{Stops};
 ghost use Rattle.asking.specs.Near.{is_near_request};
 ghost use Rattle.meaning.specs.Run.{answer_of};
@@ -72,7 +72,7 @@ fn run_again(
     answering: &mut Answering<'_, '_>,
 ) -> Result<Option<Finished>, AllocError>
     requires { IsShort request.now }
-    ensures sound { IfOk result (λ found. IfSome found (λ run. IsSoundFor
+    ensures sound { IfOk result (λ found. IfSome found (λ run. IsSoundFor (is_known terms.now)
         (answer_of (numbers terms.now) place request.now) run)) }
     ensures notes { IfOk result (λ found. IfSome found
         (λ run. BeginsWith answering.old.left run.transcript)) }

@@ -1,6 +1,6 @@
 //! Lines of a journal, played into a book.
 ghost use Rattle.std.specs.Prelude.{◌≡◌, ◌<◌, ◌^◌, [], length, IfOk, IfErr, OnOk};
-ghost use Rattle.reads.specs.Reads.{IsDataset};
+ghost use Rattle.book.specs.Run.{HasAllTerms};
 ghost use Rattle.update.specs.Asked.{AreShort};
 ghost use Rattle.replay.specs.Replays.{IsReplayOf, IsFault};
 
@@ -43,7 +43,7 @@ pub fn replay<'a>(
     block: &'a [Request<Id>],
     lines: &[Line],
 ) -> Result<Book<'a>, JournalFault>
-    requires base { IsDataset base.now }
+    requires terms { HasAllTerms terms.now base.now block.now }
     requires size { length block.now < 2 ^ 32 }
     requires short { AreShort block.now }
     ensures book { IfOk result (IsReplayOf terms.now base.now block.now lines.now) }

@@ -1,16 +1,22 @@
 -- A run goes on by one request.
-use Rattle.std.proofs.Common.{◌≡◌, ℕ, suc, ◌+◌, ◌<◌, ◌≤◌, List, [], ◌∷◌, ◌++◌, length, get_or, Some, slice_get, refl, sym, ap, ◌∙◌, subst, arith}
+use Rattle.std.proofs.Common.{◌≡◌, ℕ, suc, ◌+◌, ◌<◌, ◌≤◌, true, List, [], ◌∷◌, ◌++◌, length, get_or, Some, slice_get, refl, sym, ap, ◌∙◌, subst, arith}
+use Rattle.std.specs.List.{list_all}
 use Rattle.std.proofs.lemmas.List.{take_all}
+use Rattle.std.proofs.lemmas.List.Sums.{AllPass-from_list_all}
 use Rattle.std.proofs.lemmas.Option.{slice_get_read}
 use Rattle.terms.specs.declared.term.Term.{Term}
 use Rattle.datasets.specs.declared.id.Id.{Id}
 use Rattle.datasets.specs.Id.{id_total, id_exact}
-use Rattle.dict.specs.Dictionary.{numbers}
+use Rattle.dict.specs.Dictionary.{IsDictionary, is_known, numbers, term_of, written}
+use Rattle.dict.proofs.Numbers.{is_renaming}
 use Rattle.meaning.specs.Run.{Request, answer_of, run, run_of_first}
 use Rattle.meaning.specs.declared.reply.Reply.{Reply}
 use Rattle.meaning_laws.specs.Answers.{IsExactOrder, with_next}
+use Rattle.meaning_laws.specs.Renaming.{request_known}
 use Rattle.meaning_laws.proofs.Answers.{answers_with_datasets, goes_on_by_one}
-use Rattle.reads.specs.Reads.{View, IsDataset}
+use Rattle.meaning_laws.proofs.Renames.{answer-known}
+use Rattle.reads.specs.Reads.{View}
+use Rattle.delta.specs.Sound.{IsDatasetOf}
 use Rattle.update.specs.Asked.{IsShort}
 use Rattle.update.specs.Asked.{AreShort}
 
@@ -28,9 +34,15 @@ module _ (terms : List Term) (block : List (Request Id)) (base : View) where
   exact = record { total = id_total; exact = id_exact }
 
   module _ (n : ℕ) (request : Request Id) (d next : View) (replies : List Reply) (reply : Reply) (is : (next, reply) ≡ answer_of (numbers terms) n request d) where
-    pub next_dataset : IsDataset d → IsDataset next
-    next_dataset h =
-        subst (λ (e : View). IsDataset e) (sym (ap (λ p. p.0) is)) (answers_with_datasets (numbers terms) n request d exact h)
+    pub next_dataset : IsDictionary terms → list_all (request_known (is_known terms)) block ≡ true → n < length block → request ≡ get_or block n request → IsDatasetOf (is_known terms) d
+        → IsDatasetOf (is_known terms) next
+    next_dataset dictionary has within at h =
+        let request_has = subst (λ (q : Request Id). request_known (is_known terms) q ≡ true) (sym at) (AllPass-from_list_all (request_known (is_known terms)) block has n request within) in
+        subst (λ (e : View). IsDatasetOf (is_known terms) e) (sym (ap (λ p. p.0) is))
+        (record {
+          set = answers_with_datasets (numbers terms) n request d exact h.set;
+          known = answer-known (numbers terms) written (term_of terms) (is_known terms) (is_renaming terms dictionary) n request d request_has h.known;
+        })
 
     pub next_run : n < length block → request ≡ get_or block n request → (d, replies) ≡ run_of_first (numbers terms) n block base → (next, replies ++ reply ∷ []) ≡ run_of_first (numbers terms) (n + 1) block base
     next_run within at so_far =

@@ -64,7 +64,7 @@ module _ (laws : Laws) (covers_in_parts : CoversInParts) (m : Setting) (ok : IsS
       λ t. (part_of_view laws m.base k (state_at m history n).slots r i ∙ ap (λ (z : State). part_of_answer k (says r (view_at m.base z.slots i))) whole) t ∷ parts r i ks t
 
   answer : (r : Read) (i : ℕ) → answer_found m.base (parts_found m history (shards_of r) (map (λ k. n) (shards_of r))) i r ≡ says r (view_at m.base s.slots i)
-  answer r i = ap (merged r) (parts r i (shards_of r)) ∙ laws.merged (view_at m.base s.slots i) r (view_rises laws m.base ok.base s.slots i)
+  answer r i = ap (merged r) (parts r i (shards_of r)) ∙ laws.merged (view_at m.base s.slots i) r (view_rises laws m.base ok.base.set s.slots i)
 
   row : (i : ℕ) (r : Read) (reply : Reply) → ReadReply m.base s.slots i r reply → ReadFound m.base (state_at m history n).slots (parts_found m history (shards_of r) (map (λ k. n) (shards_of r))) i r reply
   row i r (Blocked j) h = blocked r i ∙ h

@@ -97,7 +97,7 @@ module _ (laws : Laws) (m : Setting) (ok : IsSetting m) (history : List ShardedE
       subst (λ (o : Option Pass). Invariant m (record { slots = slice_set s.slots i (passed (slot_at s.slots i) o); clock = s.clock; front = s.front })) (sym stands.now_is)
       (pass_kept laws.deltas m s inv i n w st found.pass stands.now_is found.note found.next
       (λ clear.
-      same_now laws m history i found.pass.start clear found.note ok.base (whole_at (slot_at s.slots i).notes found.pass.next found.note (whole i) found.next)
+      same_now laws m history i found.pass.start clear found.note ok.base.set (whole_at (slot_at s.slots i).notes found.pass.next found.note (whole i) found.next)
       (opening_of lengths) (found_lengths lengths) begun within.0 within.1
       (subst (λ (ks : List ℕ). SameParts m.base (parts_found m history ks (found_lengths lengths)) i found.note) shards_are found.answer)))
     where

@@ -1,7 +1,7 @@
 -- What a call on a shared book says of the pass that made it.
 use Rattle.std.specs.Prelude.{◌≡◌, ℕ, true, List, [], ◌∷◌, ◌++◌, Some, Result, Ok, Err, slice_get}
 use Rattle.datasets.specs.declared.id.Id.{Id}
-use Rattle.dict.specs.Dictionary.{numbers}
+use Rattle.dict.specs.Dictionary.{is_known, numbers}
 use Rattle.meaning.specs.Run.{Request, answer_of}
 use Rattle.delta.specs.Sound.{IsSoundFor}
 use Rattle.delta.specs.declared.finished.Finished.{Finished}
@@ -35,7 +35,9 @@ run_of s journal = record { terms = s.terms; base = s.base; block = s.block; his
 
 -- a finished run is sound for the request at its place
 abbrev pub IsSoundAt : Subject → ℕ → Finished → Type 0
-IsSoundAt s i finished = (r : Request Id) → slice_get s.block i ≡ Some r → IsSoundFor (answer_of (numbers s.terms) i r) finished
+IsSoundAt s i finished =
+    (r : Request Id) → slice_get s.block i ≡ Some r
+    → IsSoundFor (is_known s.terms) (answer_of (numbers s.terms) i r) finished
 
 -- an entry of a worker
 abbrev pub entry : ℕ → Event → Reply → Entry

@@ -1,10 +1,9 @@
 //! The calls.
 ghost use Rattle.std.specs.Prelude.{◌≡◌, ◌<◌, ◌≤◌, ◌∷◌, ◌++◌, ℕ, [], false, Some, slice_get, vec_len, All, IfOk, OnErr};
-ghost use Rattle.reads.specs.Reads.{IsDataset};
 ghost use Rattle.block_machine.specs.Machine.{IsAllowed};
 ghost use Rattle.block_machine.specs.Scans.{questions_of};
 ghost use Rattle.block_machine.specs.Serial.{IsHistory};
-ghost use Rattle.book.specs.Run.{state_of, setting_of, IsSoundEvent};
+ghost use Rattle.book.specs.Run.{state_of, setting_of, HasAllTerms, IsSoundEvent};
 ghost use Rattle.blocklock.specs.History.{AreBelow};
 ghost use Rattle.blocklock.specs.Passes.{IsIdleAt, Includes, Takes, MayGive, Watches, fresh_pass, given};
 ghost use Rattle.scheduler.specs.Task.{IsNext};
@@ -97,7 +96,7 @@ impl<'a> SharedBlock<'a> {
         block: &'a [Request<Id>],
         seats: u32,
     ) -> Result<(SharedBlock<'a>, Vec<Pass<'a>>), AllocError>
-        requires dataset { IsDataset base.now }
+        requires terms { HasAllTerms terms.now base.now block.now }
         requires seats { (0 < seats) × (seats ≤ 64) }
         ensures count { IfOk result (λ r. vec_len r.1 ≡ seats) }
         ensures seats { IfOk result (λ r. r.0.seats ≡ seats) }

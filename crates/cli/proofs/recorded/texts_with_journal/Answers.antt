@@ -1,7 +1,7 @@
 use Rattle.std.proofs.Common.{◌∙◌, ap, arith}
 use Rattle.canonical_nquads.specs.Canonical.{canonical}
 use Rattle.command_line.specs.Replies.{reply_lines}
-use Rattle.engines.proofs.Composed.{short, same_length, known, named_dataset, named_is, replies_are, all_of}
+use Rattle.engines.proofs.Composed.{short, has_all_terms, same_length, known, named_dataset, named_is, replies_are, all_of}
 use Rattle.cli.proofs.recorded.texts_with_journal.Goals as goal
 
 pub recorded-requires-clause-few : goal.recorded-requires-clause-few
@@ -12,6 +12,9 @@ recorded-requires-clause-few g c =
 
 pub recorded-requires-clause-short : goal.recorded-requires-clause-short
 recorded-requires-clause-short g c _ _ = short _ _ _ _ c.in_ok-numbered.ensures c.requires.short
+
+pub recorded-requires-clause-terms : goal.recorded-requires-clause-terms
+recorded-requires-clause-terms g c _ _ = has_all_terms _ _ _ _ c.in_ok-numbered.ensures
 
 pub texts_of_outcome-requires-clause-known : goal.texts_of_outcome-requires-clause-known
 texts_of_outcome-requires-clause-known g c =

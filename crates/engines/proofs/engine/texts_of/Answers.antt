@@ -1,11 +1,14 @@
 use Rattle.std.proofs.Common.{ap, ◌∙◌}
 use Rattle.canonical_nquads.specs.Canonical.{canonical}
 use Rattle.command_line.specs.Replies.{reply_lines}
-use Rattle.engines.proofs.Composed.{short, known, named_dataset, named_is, replies_are, all_of}
+use Rattle.engines.proofs.Composed.{short, has_all_terms, known, named_dataset, named_is, replies_are, all_of}
 use Rattle.engines.proofs.engine.texts_of.Goals as goal
 
 pub outcome-requires-clause-short : goal.outcome-requires-clause-short
 outcome-requires-clause-short g c = short _ _ _ _ c.in_ok-numbered.ensures c.requires.short
+
+pub outcome-requires-clause-terms : goal.outcome-requires-clause-terms
+outcome-requires-clause-terms g c = has_all_terms _ _ _ _ c.in_ok-numbered.ensures
 
 pub texts_of_outcome-requires-clause-known : goal.texts_of_outcome-requires-clause-known
 texts_of_outcome-requires-clause-known g c =

@@ -5,7 +5,7 @@ use Rattle.command_line.specs.Replies.{reply_lines}
 use Rattle.book.specs.Run.{state_of}
 use Rattle.journal.specs.Text.{journal_text}
 use Rattle.engines.specs.Journals.{IsReplayFault}
-use Rattle.engines.proofs.Composed.{short, known, named_dataset, named_is, replies_are}
+use Rattle.engines.proofs.Composed.{short, has_all_terms, known, named_dataset, named_is, replies_are}
 use Rattle.engines.proofs.Committed.{front_outcome, replay_is, bad_journal, bad_lines}
 use Rattle.engines.proofs.replayed.texts_of_journal.Goals as goal
 
@@ -28,6 +28,9 @@ returns-in_err-outcome-clause-fault c =
 
 pub outcome_of_lines-requires-clause-short : goal.outcome_of_lines-requires-clause-short
 outcome_of_lines-requires-clause-short c = short _ _ _ _ c.in-Ok.ensures c.requires.short
+
+pub outcome_of_lines-requires-clause-terms : goal.outcome_of_lines-requires-clause-terms
+outcome_of_lines-requires-clause-terms c = has_all_terms _ _ _ _ c.in-Ok.ensures
 
 pub texts_of_outcome-requires-clause-known : goal.texts_of_outcome-requires-clause-known
 texts_of_outcome-requires-clause-known c =
