@@ -1,16 +1,15 @@
 //! Executions of requests.
 ghost use Rattle.std.specs.Prelude.{◌≡◌, ◌<◌, ◌^◌, length, Ok, IsErr, IfOk, IfErr};
 ghost use Rattle.datasets.specs.Id.{id_order};
-ghost use Rattle.dict.specs.Dictionary.{numbers};
+ghost use Rattle.dict.specs.Dictionary.{is_known, numbers};
 ghost use Rattle.asking.specs.Near.{is_near_request};
 ghost use Rattle.meaning.specs.Run.{answer_of};
-ghost use Rattle.reads.specs.Reads.{View, IsDataset};
-ghost use Rattle.reads.specs.Runs.{Agrees};
 ghost use Rattle.delta.specs.Sound.{IsSoundFor};
 ghost use Rattle.reads.specs.Asking.{Asked};
 ghost use Rattle.asking.specs.Goes.{Goes, Stops, AllAllowed, stop_of};
 ghost use Rattle.update.specs.Asked.{IsShort, operations_of};
-ghost use Rattle.update.specs.Executed.{IsLeastFor};
+ghost use Rattle.recount.specs.Counted.{counted_notes};
+ghost use Rattle.update.specs.Executed.{IsLeastFor, IsReplyFor};
 
 use crate::least::least_of;
 use crate::operations::perform;
@@ -19,11 +18,12 @@ use delta::{Delta, Finished};
 use dict::{Dict, Id};
 use meaning::{Reply, Request};
 use reads::{Note, SharedItems, Source, Stop};
+use recount::{Recount, count_as_they_came};
 use std::alloc::Global;
 use std::marker::Model;
 
 /// A finished run of a request at a place of a block. It is sound for the request, its change is
-/// the least that is, and each of its reads is near the request.
+/// the least that is, both by what its answers count as, and each of its reads is near the request.
 #[derive(Drop)]
 pub struct Execution<'a> {
     dict: &'a Dict,
@@ -68,8 +68,8 @@ fn performed<S: Source>(
         notes.old.items notes.new.items (stop_of result) }
     ensures least { IfOk result (λ outcome. IsLeastFor
         (answer_of (numbers dict.now) place (Ok operations.now)) notes.new.items outcome.delta) }
-    ensures reply { IfOk result (λ outcome. (d : View) → IsDataset d → Agrees notes.new.items d
-        → outcome.reply ≡ (answer_of (numbers dict.now) place (Ok operations.now) d).1) }
+    ensures reply { IfOk result (λ outcome. IsReplyFor
+        (answer_of (numbers dict.now) place (Ok operations.now)) notes.new.items outcome.reply) }
 {
     match perform(alloc, dict, place, operations, source, notes)? {
         Ok(changes) => {
@@ -105,8 +105,8 @@ fn outcome_of<S: Source>(
     ensures refused { IsErr request.now → source.new ≡ source.old }
     ensures least { IfOk result (λ outcome. IsLeastFor
         (answer_of (numbers dict.now) place request.now) notes.new.items outcome.delta) }
-    ensures reply { IfOk result (λ outcome. (d : View) → IsDataset d → Agrees notes.new.items d
-        → outcome.reply ≡ (answer_of (numbers dict.now) place request.now d).1) }
+    ensures reply { IfOk result (λ outcome. IsReplyFor
+        (answer_of (numbers dict.now) place request.now) notes.new.items outcome.reply) }
 {
     match request {
         Ok(operations) => performed(alloc, dict, place, operations.as_slice(), source, notes),
@@ -117,10 +117,66 @@ fn outcome_of<S: Source>(
     }
 }
 
+// What a request comes to where its source was asked already, by what the answers count as.
+fn outcome_again<S: Source>(
+    alloc: Global,
+    dict: &Dict,
+    place: u32,
+    request: &Request<Id>,
+    recount: &mut Recount<'_, S>,
+) -> Result<Outcome, Stop>
+    requires short { IsShort request.now }
+    requires dict { recount.old.dict.now ≡ dict.now }
+    ensures lent { (recount.new.source.ghost_name ≡ recount.old.source.ghost_name)
+        × (recount.new.notes.ghost_name ≡ recount.old.notes.ghost_name) }
+    ensures goes { Goes S.asks (is_near_request id_order (operations_of request.now))
+        recount.old.source.now recount.new.source.now recount.old.notes.now.items
+        recount.new.notes.now.items (stop_of result) }
+    ensures refused { IsErr request.now → recount.new.source.now ≡ recount.old.source.now }
+    ensures least { IfOk result (λ outcome. IsLeastFor
+        (answer_of (numbers dict.now) place request.now)
+        (counted_notes (is_known dict.now) recount.new.notes.now.items) outcome.delta) }
+    ensures reply { IfOk result (λ outcome. IsReplyFor
+        (answer_of (numbers dict.now) place request.now)
+        (counted_notes (is_known dict.now) recount.new.notes.now.items) outcome.reply) }
+{
+    let mut counted = Vec::new(alloc);
+    outcome_of(alloc, dict, place, request, recount, &mut counted)
+}
+
+// What a request comes to by what the answers count as. Where one doesn't count as it came, the
+// request is run once more.
+fn counted_outcome<S: Source>(
+    alloc: Global,
+    dict: &Dict,
+    place: u32,
+    request: &Request<Id>,
+    source: &mut S,
+    notes: &mut Vec<Note>,
+) -> Result<Outcome, Stop>
+    requires { IsShort request.now }
+    ensures goes { Goes S.asks (is_near_request id_order (operations_of request.now)) source.old
+        source.new notes.old.items notes.new.items (stop_of result) }
+    ensures refused { IsErr request.now → source.new ≡ source.old }
+    ensures least { IfOk result (λ outcome. IsLeastFor
+        (answer_of (numbers dict.now) place request.now)
+        (counted_notes (is_known dict.now) notes.new.items) outcome.delta) }
+    ensures reply { IfOk result (λ outcome. IsReplyFor
+        (answer_of (numbers dict.now) place request.now)
+        (counted_notes (is_known dict.now) notes.new.items) outcome.reply) }
+{
+    let outcome = outcome_of(alloc, dict, place, request, source, notes)?;
+    if count_as_they_came(dict, notes) {
+        return Ok(outcome);
+    }
+    let mut recount = Recount::new(alloc, dict, source, notes);
+    outcome_again(alloc, dict, place, request, &mut recount)
+}
+
 /// The execution of the request at this place of the block, counted from 0, from what a source
 /// answers. Whatever it answers, the execution is sound, and its transcript is what was asked and
-/// answered, in order. It stops as the source does, and for want of memory. A refused request asks
-/// nothing.
+/// answered, in order. An answer that lies is taken for what it counts as. It stops as the source
+/// does, and for want of memory. A refused request asks nothing.
 pub fn execute<'a, S: Source>(
     alloc: Global,
     dict: &'a Dict,
@@ -137,7 +193,7 @@ pub fn execute<'a, S: Source>(
     ensures refused { IsErr request.now → source.new ≡ source.old }
 {
     let mut notes = Vec::new(alloc);
-    let outcome = outcome_of(alloc, dict, place, request, source, &mut notes)?;
+    let outcome = counted_outcome(alloc, dict, place, request, source, &mut notes)?;
     let transcript = SharedItems::from_vec(alloc, notes)?;
     Ok(Execution {
         dict,
@@ -155,10 +211,14 @@ impl<'a> Execution<'a> {
     /// The finished run of the request.
     pub fn finished(&self) -> &Finished
         ensures finished { result.now ≡ self.now.finished }
-        ensures sound { IsSoundFor (answer_of (numbers self.now.terms) self.now.place
-            self.now.request) result.now }
-        ensures least { IsLeastFor (answer_of (numbers self.now.terms) self.now.place
-            self.now.request) result.now.transcript result.now.delta }
+        ensures sound { IsSoundFor (is_known self.now.terms)
+            (answer_of (numbers self.now.terms) self.now.place self.now.request) result.now }
+        ensures least { IsLeastFor
+            (answer_of (numbers self.now.terms) self.now.place self.now.request)
+            (counted_notes (is_known self.now.terms) result.now.transcript) result.now.delta }
+        ensures reply { IsReplyFor
+            (answer_of (numbers self.now.terms) self.now.place self.now.request)
+            (counted_notes (is_known self.now.terms) result.now.transcript) result.now.reply }
         ensures near { AllAllowed (is_near_request id_order (operations_of self.now.request))
             result.now.transcript }
     {
@@ -168,10 +228,14 @@ impl<'a> Execution<'a> {
     /// The finished run, by itself.
     pub fn into_finished(self) -> Finished
         ensures finished { result ≡ self.entry.finished }
-        ensures sound { IsSoundFor (answer_of (numbers self.entry.terms) self.entry.place
-            self.entry.request) result }
-        ensures least { IsLeastFor (answer_of (numbers self.entry.terms) self.entry.place
-            self.entry.request) result.transcript result.delta }
+        ensures sound { IsSoundFor (is_known self.entry.terms)
+            (answer_of (numbers self.entry.terms) self.entry.place self.entry.request) result }
+        ensures least { IsLeastFor
+            (answer_of (numbers self.entry.terms) self.entry.place self.entry.request)
+            (counted_notes (is_known self.entry.terms) result.transcript) result.delta }
+        ensures reply { IsReplyFor
+            (answer_of (numbers self.entry.terms) self.entry.place self.entry.request)
+            (counted_notes (is_known self.entry.terms) result.transcript) result.reply }
         ensures near { AllAllowed (is_near_request id_order (operations_of self.entry.request))
             result.transcript }
     {

@@ -17,9 +17,9 @@ invariant_of-result g c =
     let outcome = c.in_ok-outcome.outcome in
     let near = all_near c.new-notes.ensures.items c.in_ok-outcome.ensures.goes in
     subst (λ (notes : List Note). IsExecuted (record { terms = c.args.dict.now; place = c.args.place; request = c.args.request.now; finished = record { transcript = notes; delta = outcome.delta; reply = outcome.reply } }))
-    (sym c.in_ok-transcript.ensures) (executed c.args.dict.now c.args.place c.args.request.now c.outcome_of.new.notes.items outcome.delta outcome.reply c.in_ok-outcome.ensures.least c.in_ok-outcome.ensures.reply near)
+    (sym c.in_ok-transcript.ensures) (executed c.args.dict.now c.args.place c.args.request.now c.counted_outcome.new.notes.items outcome.delta outcome.reply c.in_ok-outcome.ensures.least c.in_ok-outcome.ensures.reply near)
 
 pub returns-clause-asked : goal.returns-clause-asked
 returns-clause-asked g c =
-    subst (λ (notes : List Note). Asked g.S.Source.asks c.args.source.now notes c.outcome_of.new.source) (sym c.in_ok-transcript.ensures)
+    subst (λ (notes : List Note). Asked g.S.Source.asks c.args.source.now notes c.counted_outcome.new.source) (sym c.in_ok-transcript.ensures)
     (all_asked c.new-notes.ensures.items c.in_ok-outcome.ensures.goes)

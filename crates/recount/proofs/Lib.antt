@@ -1,0 +1,3 @@
+pub mod CountedLaws
+mod Noting
+pub mod RecountLaws
