@@ -1,6 +1,6 @@
 -- A pass that answered the reads of a run is for the same duty.
-use Rattle.std.proofs.Common.{◌≡◌, Bool, List, Option, Some, ◌⊎◌, inl, inr, Result, Ok, Err, ap, subst, ◌∙◌}
-use Rattle.reads.specs.Reads.{Read, Answer}
+use Rattle.std.proofs.Common.{Bool, List, Some, inl, inr, ap, subst, ◌∙◌}
+use Rattle.reads.specs.Reads.{Read}
 use Rattle.reads.specs.declared.note.Note.{Note}
 use Rattle.reads.specs.declared.source.Stop.{Stop}
 use Rattle.reads.specs.Asking.{Asked}

@@ -1,6 +1,7 @@
 //! Blocks run one request after another.
-ghost use Rattle.std.specs.Prelude.{IsTrue};
+ghost use Rattle.std.specs.Prelude.{IsTrue, IfOk};
 ghost use Rattle.update.specs.Asked.{AreShort, IsShort};
+ghost use Rattle.machine_tests.specs.Terms.{KnowsAll};
 
 use crate::numbered_blocks::{count_quads, has_quads, numbered, numbered_by};
 use datasets::Id;
@@ -76,7 +77,9 @@ pub fn are_short(block: &[Request<Id>]) -> bool
 }
 
 /// What a block over a base comes to, request by request, where it has at most a thousand.
-pub fn outcome(alloc: Global, numbered: &Numbered) -> Result<Option<Outcome>, AllocError> {
+pub fn outcome(alloc: Global, numbered: &Numbered) -> Result<Option<Outcome>, AllocError>
+    requires { KnowsAll numbered.now }
+{
     let block = numbered.block.as_slice();
     if block.len() > 1000 || !are_short(block) {
         return Ok(None);
@@ -90,7 +93,9 @@ fn is_come_to(
     numbered: &Numbered,
     replies: &[Reply],
     quads: &str,
-) -> Result<bool, AllocError> {
+) -> Result<bool, AllocError>
+    requires { KnowsAll numbered.now }
+{
     let Some(outcome) = outcome(alloc, numbered)? else {
         return Ok(false);
     };
@@ -160,7 +165,9 @@ fn are_as_told(replies: &[Reply]) -> bool {
 }
 
 // Whether each request of the rounds is told what it does, and the sixteen quads are in at the end.
-fn is_joined(alloc: Global, numbered: &Numbered) -> Result<bool, AllocError> {
+fn is_joined(alloc: Global, numbered: &Numbered) -> Result<bool, AllocError>
+    requires { KnowsAll numbered.now }
+{
     let Some(outcome) = outcome(alloc, numbered)? else {
         return Ok(false);
     };
@@ -169,7 +176,9 @@ fn is_joined(alloc: Global, numbered: &Numbered) -> Result<bool, AllocError> {
 }
 
 // The rounds at their numbers.
-fn numbered_rounds(alloc: Global) -> Result<Numbered, Fail> {
+fn numbered_rounds(alloc: Global) -> Result<Numbered, Fail>
+    ensures { IfOk result (λ n. KnowsAll n) }
+{
     let block = rounds(alloc)?;
     numbered(alloc, "", block.as_str())
 }
@@ -184,7 +193,9 @@ fn changes_are_joined(rt: HostRuntime) -> Result<(), Fail> {
 }
 
 // The same at numbers that threads find.
-fn rounds_by_threads<T: Threads + Sync>(rt: &T, alloc: Global) -> Result<Numbered, Fail> {
+fn rounds_by_threads<T: Threads + Sync>(rt: &T, alloc: Global) -> Result<Numbered, Fail>
+    ensures { IfOk result (λ n. KnowsAll n) }
+{
     let block = rounds(alloc)?;
     numbered_by(rt, alloc, block.as_str())
 }
@@ -222,7 +233,9 @@ fn are_put_in<R: Threads + Wait + Sync>(
     rt: &R,
     alloc: Global,
     numbered: &Numbered,
-) -> Result<bool, AllocError> {
+) -> Result<bool, AllocError>
+    requires { KnowsAll numbered.now }
+{
     let block = numbered.block.as_slice();
     if block.len() > 1000 || !are_short(block) {
         return Ok(false);

@@ -16,12 +16,12 @@ use std::alloc::{AllocError, Global};
 use std::marker::Model;
 use update::execute;
 
-// Which incarnation of which request is run by whom.
+/// Which incarnation of which request is run by whom.
 #[derive(Clone, Copy)]
-struct Turn {
-    worker: u32,
-    place: usize,
-    incarnation: u64,
+pub struct Turn {
+    pub worker: u32,
+    pub place: usize,
+    pub incarnation: u64,
 }
 
 // What answers the reads of a turn: a book, by its steps.
@@ -107,8 +107,8 @@ fn told_of(
     Ok(told_by(&reply))
 }
 
-// A book after an event, and what is told of it.
-fn play_event<'a>(
+/// A book after an event, and what is told of it.
+pub fn play_event<'a>(
     alloc: Global,
     mut book: Book<'a>,
     worker: u32,
@@ -140,13 +140,14 @@ fn publish<'a>(alloc: Global, book: Book<'a>, turn: Turn) -> Result<(Book<'a>, T
     }
 }
 
-// The event of a step that publishes no run and reads nothing.
+// The event of a step that publishes no run. A read asks for all graph names.
 fn event_of(step: Step) -> Option<Event>
     ensures { (book : Run) → IfSome result (IsSoundEvent book) }
 {
     match step {
-        Step::Publish(_, _) | Step::Read(_, _) => None,
+        Step::Publish(_, _) => None,
         Step::Take(i) => Some(Event::Take(i)),
+        Step::Read(i, n) => Some(Event::Read(i, n, Read::Graphs)),
         Step::PublishNothing(i, n) => Some(Event::Publish(i, n, None)),
         Step::Begin(i, n) => Some(Event::Begin(i, n)),
         Step::Check(i, n) => Some(Event::Check(i, n)),

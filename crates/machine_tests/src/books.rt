@@ -1,8 +1,9 @@
 //! Blocks run through a book, in orders that workers side by side may take.
-ghost use Rattle.reads.specs.Reads.{IsDataset};
+ghost use Rattle.book.specs.Run.{HasAllTerms};
+ghost use Rattle.machine_tests.specs.Terms.{KnowsAll};
 
 use crate::book_steps::play;
-use crate::lines::Step::{Begin, Check, Commit, GiveUp, Publish, PublishNothing, Take};
+use crate::lines::Step::{Begin, Check, Commit, GiveUp, Publish, PublishNothing, Read, Take};
 use crate::lines::Told::{
     Aborted, Begun, Committed, Given, NotYet, NotYours, Passed, Published, Stale, Taken,
 };
@@ -41,7 +42,33 @@ const REMOVED: Reply = Reply::Done {
     removed: 1,
 };
 
-pub const WALKS: [Walk; 6] = [
+const NOTHING: Reply = Reply::Done {
+    added: 0,
+    removed: 0,
+};
+
+/// The journal of two workers at a request that asks nothing, with each refusal of an event.
+pub const REFUSALS: &str = "sparql-block journal 1
+00 take 0000 > taken 0
+01 publish 0000 0 > not-yours
+01 giveup 0000 0 > not-yours
+01 read 0000 0 graphs > not-yours
+00 publish 0000 1 > stale
+00 take 0000 > stale
+00 begin 0000 0 > stale
+00 check 0000 0 > stale
+00 commit 0000 > not-yet
+00 take 0001 > stale
+00 commit 0001 > stale
+00 publish 0000 0 > published
+00 check 0000 0 > not-yet
+00 begin 0000 0 > begun
+00 commit 0000 > committed
+00 commit 0000 > stale
+00 begin 0000 0 > stale
+";
+
+pub const WALKS: [Walk; 7] = [
     // The second request runs before the first has published, and is checked after it. At last it
     // waits for the first one's commit.
     Walk {
@@ -312,6 +339,34 @@ pub const WALKS: [Walk; 6] = [
         replies: &[],
         quads: "",
     },
+    // Each refusal of an event at a request that asks nothing, and what is outside the block.
+    Walk {
+        base: "",
+        block: "\n",
+        lines: &[
+            (0, Take(0), Taken(0)),
+            (1, Publish(0, 0), NotYours),
+            (1, GiveUp(0, 0), NotYours),
+            (1, Read(0, 0), NotYours),
+            (0, Publish(0, 1), Stale),
+            (0, Take(0), Stale),
+            (0, Begin(0, 0), Stale),
+            (0, Check(0, 0), Stale),
+            (0, Commit(0), NotYet),
+            (0, Take(1), Stale),
+            (0, Commit(1), Stale),
+            (0, Publish(0, 0), Published),
+            (0, Check(0, 0), NotYet),
+            (0, Begin(0, 0), Begun),
+            (0, Commit(0), Committed),
+            (0, Commit(0), Stale),
+            (0, Begin(0, 0), Stale),
+        ],
+        journal: REFUSALS,
+        reads: 0,
+        replies: &[NOTHING],
+        quads: "",
+    },
 ];
 
 // The book after a line of a walk, whose step is told what it says.
@@ -336,7 +391,7 @@ pub fn walked<'a>(
     base: &'a IndexedView,
     lines: &[(u32, Step, Told)],
 ) -> Result<Book<'a>, AllocError>
-    requires { IsDataset base.now }
+    requires { HasAllTerms numbered.now.base.terms base.now numbered.now.block.items }
 {
     let mut book = Book::new(
         alloc,
@@ -366,7 +421,9 @@ fn is_walked(
     alloc: Global,
     numbered: &Numbered,
     walk: &Walk,
-) -> Result<bool, AllocError> {
+) -> Result<bool, AllocError>
+    requires { KnowsAll numbered.now }
+{
     let book = walked(rt, alloc, numbered, numbered.base.dataset(), walk.lines)?;
     let is_come_to = is_come_to(alloc, &book, walk);
     drop(book);

@@ -1,4 +1,5 @@
 //! Requests that conflict many times in a row.
+ghost use Rattle.machine_tests.specs.Terms.{KnowsAll};
 
 use crate::counters::{counter, is_counted_by};
 use crate::waits::Count;
@@ -103,7 +104,9 @@ fn do_count<R: Threads + Wait + Sync>(
     alloc: Global,
     numbered: &Numbered,
     workers: u32,
-) -> Result<bool, AllocError> {
+) -> Result<bool, AllocError>
+    requires { KnowsAll numbered.now }
+{
     let gate = Queue::new(rt, workers as usize);
     let is_counted = is_counted_by(rt, alloc, numbered, workers, &gate);
     let was_held = gate.given_up.get() == 0 && gate.in_vain.get().saturating_add(2) >= gate.workers;
@@ -116,7 +119,9 @@ fn all_count<R: Threads + Wait + Sync>(
     rt: &R,
     alloc: Global,
     numbered: &Numbered,
-) -> Result<bool, AllocError> {
+) -> Result<bool, AllocError>
+    requires { KnowsAll numbered.now }
+{
     for workers in [4u32, 8, 12] {
         if !do_count(rt, alloc, numbered, workers)? {
             return Ok(false);

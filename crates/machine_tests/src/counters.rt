@@ -1,5 +1,7 @@
 //! A block in which each request moves one counter on, so that each conflicts with the one before
 //! it.
+ghost use Rattle.std.specs.Prelude.{IfOk};
+ghost use Rattle.machine_tests.specs.Terms.{KnowsAll};
 
 use crate::blocks::{are_short, outcome};
 use crate::numbered_blocks::{numbered, quads_of, repeated};
@@ -35,7 +37,9 @@ fn numbers(alloc: Global, moves: u32) -> Result<String, AllocError> {
 }
 
 /// A counter and a block of so many requests, each of which moves it on.
-pub fn counter(alloc: Global, moves: u32) -> Result<Numbered, Fail> {
+pub fn counter(alloc: Global, moves: u32) -> Result<Numbered, Fail>
+    ensures { IfOk result (λ n. KnowsAll n) }
+{
     let base = numbers(alloc, moves)?;
     let block = repeated(alloc, MOVE, moves)?;
     numbered(alloc, base.as_str(), block.as_str())
@@ -66,7 +70,9 @@ fn are_counted(
 }
 
 // Whether an outcome is that of the requests one after another, and counts them.
-fn is_counted(alloc: Global, numbered: &Numbered, one: &Outcome) -> Result<bool, AllocError> {
+fn is_counted(alloc: Global, numbered: &Numbered, one: &Outcome) -> Result<bool, AllocError>
+    requires { KnowsAll numbered.now }
+{
     let Some(other) = outcome(alloc, numbered)? else {
         return Ok(false);
     };
@@ -81,7 +87,9 @@ pub fn is_counted_by<R: Threads + Wait + Sync, G: Gate + Sync>(
     numbered: &Numbered,
     workers: u32,
     gate: &G,
-) -> Result<bool, AllocError> {
+) -> Result<bool, AllocError>
+    requires { KnowsAll numbered.now }
+{
     let block = numbered.block.as_slice();
     if workers == 0 || workers > 64 || block.len() > 1000 || !are_short(block) {
         return Ok(false);

@@ -1,4 +1,6 @@
 //! What a pool's gate sees of the workers, beside the journal of their book.
+ghost use Rattle.std.specs.Prelude.{IfOk};
+ghost use Rattle.machine_tests.specs.Terms.{KnowsAll};
 
 use crate::blocks::are_short;
 use crate::lines::{Line, line_of, line_of_kept};
@@ -66,7 +68,9 @@ fn is_run<'a, R: Threads + Wait + Sync>(
     numbered: &'a Numbered,
     workers: u32,
     gate: &Sees<'_, R>,
-) -> Result<bool, AllocError> {
+) -> Result<bool, AllocError>
+    requires { KnowsAll numbered.now }
+{
     let block = numbered.block.as_slice();
     if workers == 0 || workers > 4 || block.len() > 1000 || !are_short(block) {
         return Ok(false);
@@ -85,7 +89,9 @@ fn is_seen<R: Threads + Wait + Sync>(
     alloc: Global,
     numbered: &Numbered,
     workers: u32,
-) -> Result<bool, AllocError> {
+) -> Result<bool, AllocError>
+    requires { KnowsAll numbered.now }
+{
     let gate = Sees {
         rt,
         lines: Mutex::new(Vec::new(alloc)),
@@ -98,7 +104,9 @@ const BLOCK: &str =
     "INSERT DATA { <x:a> <x:p> <x:b> }\n----\nINSERT DATA { <x:a> <x:p> <x:b> , <x:c> }";
 
 // That block 32 times, at its numbers.
-fn long_numbered(alloc: Global) -> Result<Numbered, Fail> {
+fn long_numbered(alloc: Global) -> Result<Numbered, Fail>
+    ensures { IfOk result (λ n. KnowsAll n) }
+{
     let block = repeated(alloc, BLOCK, 32)?;
     numbered(alloc, "", block.as_str())
 }

@@ -17,9 +17,13 @@ mod conflicts;
 #[cfg(test)]
 mod counters;
 #[cfg(test)]
+mod event_orders;
+#[cfg(test)]
 mod gate_entries;
 #[cfg(test)]
 mod lean_notes;
+#[cfg(test)]
+mod lies;
 #[cfg(test)]
 mod lines;
 #[cfg(test)]
@@ -31,6 +35,8 @@ mod numbered_blocks;
 #[cfg(test)]
 mod pools;
 #[cfg(test)]
+mod refusals;
+#[cfg(test)]
 mod replays;
 #[cfg(test)]
 mod requests;
@@ -38,6 +44,8 @@ mod requests;
 mod sharing;
 #[cfg(test)]
 mod single_worker;
+#[cfg(test)]
+mod turns;
 #[cfg(test)]
 mod waiting_calls;
 #[cfg(test)]

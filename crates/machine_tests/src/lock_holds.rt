@@ -1,9 +1,8 @@
 //! Many events of a worker while it holds a shared book once.
-ghost use Rattle.reads.specs.Reads.{IsDataset};
 ghost use Rattle.shared.specs.Calls.{IsSoundAt};
 ghost use Rattle.shared.specs.Duty.{IsPassFor};
 
-use crate::book_inputs::Topic;
+use crate::book_inputs::{Topic, nothing, topic_of};
 use crate::lines::{Step, Told, told_by, told_with_count};
 use crate::numbered_blocks::{numbered, request_at};
 use crate::sharing::{BLOCK, are_told, opened_alone, opened_by_two};
@@ -11,7 +10,7 @@ use crate::single_worker::{executed, published};
 use block_machine::Reply;
 use datasets::{GraphPlace, QuadPattern, Read};
 use delta::Finished;
-use reads::{IndexedView, Scanned, View};
+use reads::Scanned;
 use shared::{Next, Pass, SharedBlock};
 use std::alloc::{AllocError, Global};
 use std::sync::Wait;
@@ -99,9 +98,7 @@ fn first_task<R: Wait>(
     alloc: Global,
     topic: &Topic<'_>,
     most: usize,
-) -> Result<Next, AllocError>
-    requires { IsDataset topic.now.base }
-{
+) -> Result<Next, AllocError> {
     let (shared, mut pass) = opened_alone(alloc, topic)?;
     let next = shared.take_next(rt, alloc, &mut pass, most);
     drop(pass);
@@ -171,9 +168,7 @@ fn push_both<'a, R: Wait>(
 }
 
 // The replies to the two workers of a book.
-fn replies_of<R: Wait>(rt: &R, alloc: Global, topic: &Topic<'_>) -> Result<Vec<Reply>, AllocError>
-    requires { IsDataset topic.now.base }
-{
+fn replies_of<R: Wait>(rt: &R, alloc: Global, topic: &Topic<'_>) -> Result<Vec<Reply>, AllocError> {
     let (shared, first, second) = opened_by_two(alloc, topic)?;
     let mut replies = Vec::new(alloc);
     let pushed = push_both(rt, alloc, &shared, topic, first, second, &mut replies);
@@ -187,9 +182,7 @@ fn replies_to_publication<R: Wait>(
     rt: &R,
     alloc: Global,
     topic: &Topic<'_>,
-) -> Result<Vec<Reply>, AllocError>
-    requires { IsDataset topic.now.base }
-{
+) -> Result<Vec<Reply>, AllocError> {
     let (shared, pass) = opened_alone(alloc, topic)?;
     let mut replies = Vec::new(alloc);
     let pushed = publishes_settled(rt, alloc, &shared, topic, pass, &mut replies);
@@ -217,9 +210,7 @@ const EXPECTED: [(Told, u64); 6] = [
 ];
 
 // Whether the two workers are told so.
-fn are_expected<R: Wait>(rt: &R, alloc: Global, topic: &Topic<'_>) -> Result<bool, AllocError>
-    requires { IsDataset topic.now.base }
-{
+fn are_expected<R: Wait>(rt: &R, alloc: Global, topic: &Topic<'_>) -> Result<bool, AllocError> {
     let replies = replies_of(rt, alloc, topic)?;
     let told = told(alloc, replies.as_slice())?;
     Ok(told.as_slice() == EXPECTED.as_slice())
@@ -235,9 +226,7 @@ const PUBLISHED: [(Told, u64); 6] = [
 ];
 
 // Whether the one worker is told so.
-fn is_published<R: Wait>(rt: &R, alloc: Global, topic: &Topic<'_>) -> Result<bool, AllocError>
-    requires { IsDataset topic.now.base }
-{
+fn is_published<R: Wait>(rt: &R, alloc: Global, topic: &Topic<'_>) -> Result<bool, AllocError> {
     let replies = replies_to_publication(rt, alloc, topic)?;
     let told = told(alloc, replies.as_slice())?;
     Ok(told.as_slice() == PUBLISHED.as_slice())
@@ -250,9 +239,7 @@ fn first_told<R: Wait>(
     alloc: Global,
     topic: &Topic<'_>,
     most: usize,
-) -> Result<(bool, Option<Told>), AllocError>
-    requires { IsDataset topic.now.base }
-{
+) -> Result<(bool, Option<Told>), AllocError> {
     let next = first_task(rt, alloc, topic, most)?;
     let told = match &next.taken {
         Some(reply) => Some(told_by(reply)),
@@ -262,9 +249,7 @@ fn first_told<R: Wait>(
 }
 
 // Whether each of these workers is told what it should be.
-fn are_all_told<R: Wait>(rt: &R, alloc: Global, topic: &Topic<'_>) -> Result<bool, AllocError>
-    requires { IsDataset topic.now.base }
-{
+fn are_all_told<R: Wait>(rt: &R, alloc: Global, topic: &Topic<'_>) -> Result<bool, AllocError> {
     Ok(
         are_expected(rt, alloc, topic)?
             && is_published(rt, alloc, topic)?
@@ -277,12 +262,8 @@ fn are_all_told<R: Wait>(rt: &R, alloc: Global, topic: &Topic<'_>) -> Result<boo
 fn many_events_in_one_hold(rt: HostRuntime) -> Result<(), Fail> {
     let alloc = rt.alloc();
     let numbered = numbered(alloc, "", BLOCK)?;
-    let base = IndexedView::new(alloc, View::new(alloc), &[])?;
-    let topic = Topic {
-        terms: numbered.base.terms(),
-        base: &base,
-        block: &numbered.block,
-    };
+    let base = nothing(alloc)?;
+    let topic = topic_of(&numbered, &base);
     let are_told = are_all_told(&rt, alloc, &topic);
     drop(base);
     drop(numbered);

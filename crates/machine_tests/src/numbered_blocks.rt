@@ -1,6 +1,7 @@
 //! Bases and blocks that are written as texts, at numbers of terms; and quads at numbers as texts
 //! again.
-ghost use Rattle.std.specs.Prelude.{◌≡◌, ◌<◌, Some, IfSome, slice_get};
+ghost use Rattle.std.specs.Prelude.{◌≡◌, ◌<◌, Some, IfSome, IfOk, slice_get};
+ghost use Rattle.machine_tests.specs.Terms.{KnowsAll};
 ghost use Rattle.update.specs.Asked.{IsShort};
 
 use datasets::{Id, Quad};
@@ -16,13 +17,17 @@ use std::thread::Threads;
 use terms::{DataSet, Term, canonical};
 
 // A base and a block that is read at numbers.
-fn numbered_over(alloc: Global, base: &str, block: Block) -> Result<Numbered, BaseFault> {
+fn numbered_over(alloc: Global, base: &str, block: Block) -> Result<Numbered, BaseFault>
+    ensures { IfOk result (λ n. KnowsAll n) }
+{
     let base = read_bytes(alloc, base.as_bytes())?;
     Ok(number(alloc, base, block)?)
 }
 
 /// A base and a block at numbers.
-pub fn numbered(alloc: Global, base: &str, block: &str) -> Result<Numbered, Fail> {
+pub fn numbered(alloc: Global, base: &str, block: &str) -> Result<Numbered, Fail>
+    ensures { IfOk result (λ n. KnowsAll n) }
+{
     let block = split(alloc, block.as_bytes())?;
     Ok(numbered_over(alloc, base, block)?)
 }
@@ -168,7 +173,9 @@ fn falling(alloc: Global, quads: u32) -> Result<Vec<u8>, AllocError> {
 }
 
 // The block at numbers, over a base that one thread puts in order.
-fn by_one(alloc: Global, base: DataSet) -> Result<Numbered, Fail> {
+fn by_one(alloc: Global, base: DataSet) -> Result<Numbered, Fail>
+    ensures { IfOk result (λ n. KnowsAll n) }
+{
     Ok(number(alloc, base, split(alloc, MOVED)?)?)
 }
 
@@ -179,16 +186,16 @@ fn by_threads<T: Threads + Sync>(
     alloc: Global,
     base: DataSet,
     block: &[u8],
-) -> Result<Numbered, Fail> {
+) -> Result<Numbered, Fail>
+    ensures { IfOk result (λ n. KnowsAll n) }
+{
     Ok(number_by(rt, alloc, base, split(alloc, block)?, 3)?)
 }
 
 /// A block over no base, at numbers that threads find.
-pub fn numbered_by<T: Threads + Sync>(
-    rt: &T,
-    alloc: Global,
-    block: &str,
-) -> Result<Numbered, Fail> {
+pub fn numbered_by<T: Threads + Sync>(rt: &T, alloc: Global, block: &str) -> Result<Numbered, Fail>
+    ensures { IfOk result (λ n. KnowsAll n) }
+{
     by_threads(rt, alloc, falling_base(alloc, 0)?, block.as_bytes())
 }
 

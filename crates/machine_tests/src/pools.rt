@@ -1,4 +1,5 @@
 //! Blocks run by a pool whose gate holds workers up until others have got on.
+ghost use Rattle.machine_tests.specs.Terms.{KnowsAll};
 
 use crate::blocks::are_short;
 use crate::counters::{counter, is_counted_by};
@@ -227,7 +228,9 @@ fn come_to<R: Threads + Wait + Sync>(
     workers: u32,
     row: &Row,
     gate: &Holds,
-) -> Result<bool, AllocError> {
+) -> Result<bool, AllocError>
+    requires { KnowsAll numbered.now }
+{
     let block = numbered.block.as_slice();
     if workers == 0 || workers > 64 || block.len() > 1000 || !are_short(block) {
         return Ok(false);
@@ -247,7 +250,9 @@ fn come_out<R: Threads + Wait + Sync>(
     numbered: &Numbered,
     workers: u32,
     row: &Row,
-) -> Result<bool, AllocError> {
+) -> Result<bool, AllocError>
+    requires { KnowsAll numbered.now }
+{
     let gate = Holds::new(row.holds);
     let come_to = come_to(rt, alloc, numbered, workers, row, &gate);
     let gave_in = gate.gave_in.load(Ordering::SeqCst);
@@ -261,7 +266,9 @@ fn all_come_out<R: Threads + Wait + Sync>(
     alloc: Global,
     numbered: &Numbered,
     row: &Row,
-) -> Result<bool, AllocError> {
+) -> Result<bool, AllocError>
+    requires { KnowsAll numbered.now }
+{
     for workers in row.workers {
         if !come_out(rt, alloc, numbered, *workers, row)? {
             return Ok(false);
@@ -375,7 +382,9 @@ fn count_by_turns<R: Threads + Wait + Sync>(
     alloc: Global,
     numbered: &Numbered,
     first: u32,
-) -> Result<bool, AllocError> {
+) -> Result<bool, AllocError>
+    requires { KnowsAll numbered.now }
+{
     let gate = Turns {
         rt,
         first,
@@ -394,7 +403,9 @@ fn count_in_both_orders<R: Threads + Wait + Sync>(
     rt: &R,
     alloc: Global,
     numbered: &Numbered,
-) -> Result<bool, AllocError> {
+) -> Result<bool, AllocError>
+    requires { KnowsAll numbered.now }
+{
     Ok(count_by_turns(rt, alloc, numbered, 0)? && count_by_turns(rt, alloc, numbered, 1)?)
 }
 

@@ -1,8 +1,10 @@
 //! Journals of walked books: their lines, the books that these are replayed to, and checks whose
 //! reply is chosen.
-ghost use Rattle.reads.specs.Reads.{IsDataset};
+ghost use Rattle.book.specs.Run.{HasAllTerms};
+ghost use Rattle.machine_tests.specs.Terms.{IsKnownToAll, KnowsAll};
 
 use crate::blocks::are_short;
+use crate::book_inputs::nothing;
 use crate::books::{WALKS, Walk, walked};
 use crate::lines::Step::{Begin, Publish, Take};
 use crate::lines::Told::{Aborted, Begun, NotYet, Passed, Published, Stale, Taken};
@@ -11,14 +13,14 @@ use crate::numbered_blocks::numbered;
 use book::Book;
 use journal::{JournalFault, Line, write_lines};
 use numbering::Numbered;
-use reads::{IndexedView, View};
+use reads::IndexedView;
 use replay::{lines_of, replay};
 use std::alloc::{AllocError, Global};
 use std::process::Abort;
 use std::test::Fail;
 
-// Whether the journal of a book has this text.
-fn has_text(alloc: Global, book: &Book<'_>, journal: &str) -> Result<bool, AllocError> {
+/// Whether the journal of a book has this text.
+pub fn has_text(alloc: Global, book: &Book<'_>, journal: &str) -> Result<bool, AllocError> {
     let lines = lines_of(alloc, book)?;
     Ok(write_lines(alloc, lines.as_slice(), 1)?.as_slice() == journal.as_bytes())
 }
@@ -32,7 +34,7 @@ fn are_replayed<'a>(
     lines: &[Line],
     journal: &str,
 ) -> Result<bool, JournalFault>
-    requires { IsDataset base.now }
+    requires { HasAllTerms numbered.now.base.terms base.now numbered.now.block.items }
 {
     let block = numbered.block.as_slice();
     if block.len() > 1000 || !are_short(block) {
@@ -52,7 +54,7 @@ fn is_replayed(
     book: &Book<'_>,
     journal: &str,
 ) -> Result<bool, JournalFault>
-    requires { IsDataset base.now }
+    requires { HasAllTerms numbered.now.base.terms base.now numbered.now.block.items }
 {
     if !has_text(alloc, book, journal)? {
         return Ok(false);
@@ -67,7 +69,9 @@ fn is_walk_replayed(
     alloc: Global,
     numbered: &Numbered,
     walk: &Walk,
-) -> Result<bool, JournalFault> {
+) -> Result<bool, JournalFault>
+    requires { KnowsAll numbered.now }
+{
     let base = numbered.base.dataset();
     let book = walked(rt, alloc, numbered, base, walk.lines)?;
     let is_replayed = is_replayed(alloc, numbered, base, &book, walk.journal);
@@ -265,7 +269,7 @@ fn told_of<'a>(
     base: &'a IndexedView,
     choice: &Choice,
 ) -> Result<Told, AllocError>
-    requires { IsDataset base.now }
+    requires { HasAllTerms numbered.now.base.terms base.now numbered.now.block.items }
 {
     let mut book = walked(rt, alloc, numbered, base, choice.lines)?;
     let reply = book.check_as(alloc, 2, choice.place, 0, choice.passed);
@@ -275,7 +279,7 @@ fn told_of<'a>(
 
 // The same with the block at its numbers.
 fn told(rt: &impl Abort, alloc: Global, base: &IndexedView, choice: &Choice) -> Result<Told, Fail>
-    requires { IsDataset base.now }
+    requires { IsKnownToAll base.now }
 {
     let numbered = numbered(alloc, "", choice.block)?;
     let told = told_of(rt, alloc, &numbered, base, choice);
@@ -284,7 +288,7 @@ fn told(rt: &impl Abort, alloc: Global, base: &IndexedView, choice: &Choice) -> 
 }
 
 fn check_choices(rt: &impl Abort, alloc: Global, base: &IndexedView) -> Result<(), Fail>
-    requires { IsDataset base.now }
+    requires { IsKnownToAll base.now }
 {
     for choice in &CHOICES {
         let told = told(rt, alloc, base, choice)?;
@@ -295,7 +299,7 @@ fn check_choices(rt: &impl Abort, alloc: Global, base: &IndexedView) -> Result<(
 
 #[test]
 fn chosen_checks(rt: HostRuntime) -> Result<(), Fail> {
-    let base = IndexedView::new(rt.alloc(), View::new(rt.alloc()), &[])?;
+    let base = nothing(rt.alloc())?;
     let checked = check_choices(&rt, rt.alloc(), &base);
     drop(base);
     checked

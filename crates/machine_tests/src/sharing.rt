@@ -1,15 +1,13 @@
 //! A shared book and one worker alone, by calls that never wait.
 ghost use Rattle.std.specs.Prelude.{◌≡◌, ◌+◌, ◌<◌, ◌≤◌, vec_len, All, IfOk};
-ghost use Rattle.reads.specs.Reads.{IsDataset};
 ghost use Rattle.shared.specs.Duty.{IsPassFor};
 
-use crate::book_inputs::Topic;
+use crate::book_inputs::{Topic, nothing, topic_of};
 use crate::lines::{Step, Told, told_by};
 use crate::numbered_blocks::numbered;
 use crate::single_worker::{published, published_as};
 use block_machine::Reply;
-use numbering::Numbered;
-use reads::{IndexedView, View};
+use datasets::Read;
 use shared::{Pass, SharedBlock};
 use std::alloc::{AllocError, Global};
 use std::sync::Wait;
@@ -21,7 +19,6 @@ fn opened<'a>(
     topic: &Topic<'a>,
     seats: u32,
 ) -> Result<(SharedBlock<'a>, Vec<Pass<'a>>), AllocError>
-    requires dataset { IsDataset topic.now.base }
     requires seats { (0 < seats) × (seats ≤ 64) }
     ensures count { IfOk result (λ r. vec_len r.1 ≡ seats) }
     ensures each { IfOk result (λ r. All (IsPassFor (record { table = r.0; subject = topic.now }))
@@ -48,7 +45,6 @@ pub fn opened_alone<'a>(
     alloc: Global,
     topic: &Topic<'a>,
 ) -> Result<(SharedBlock<'a>, Pass<'a>), AllocError>
-    requires { IsDataset topic.now.base }
     ensures { IfOk result (λ r. IsPassFor (record { table = r.0; subject = topic.now }) r.1) }
 {
     let (shared, mut passes) = opened(alloc, topic, 1)?;
@@ -61,7 +57,6 @@ pub fn opened_by_two<'a>(
     alloc: Global,
     topic: &Topic<'a>,
 ) -> Result<(SharedBlock<'a>, Pass<'a>, Pass<'a>), AllocError>
-    requires { IsDataset topic.now.base }
     ensures first { IfOk result (λ r. IsPassFor (record { table = r.0; subject = topic.now }) r.1) }
     ensures second { IfOk result (λ r. IsPassFor (record { table = r.0; subject = topic.now }) r.2) }
 {
@@ -71,7 +66,8 @@ pub fn opened_by_two<'a>(
     Ok((shared, first, second))
 }
 
-// What a call that never waits is told, or nothing where it made no event.
+// What a call that never waits is told, or nothing where it made no event. A read asks for all graph
+// names.
 fn tried<'a>(
     alloc: Global,
     shared: &SharedBlock<'a>,
@@ -89,7 +85,8 @@ fn tried<'a>(
         Step::Check(i, n) => shared.try_check(alloc, pass, i, n),
         Step::Commit(i) => shared.try_commit(alloc, pass, i),
         Step::GiveUp(i, n) => shared.try_give_up(alloc, pass, i, n),
-        Step::Read(_, _) | Step::Publish(_, _) | Step::PublishNothing(_, _) => Ok(Reply::Stale),
+        Step::Read(i, n) => shared.try_read(alloc, pass, i, n, &Read::Graphs),
+        Step::Publish(_, _) | Step::PublishNothing(_, _) => Ok(Reply::Stale),
     };
     match made {
         Ok(reply) => Some(told_by(&reply)),
@@ -152,9 +149,7 @@ fn front_of_others<'a, R: Wait>(
     rt: &R,
     alloc: Global,
     topic: &Topic<'a>,
-) -> Result<Option<usize>, AllocError>
-    requires { IsDataset topic.now.base }
-{
+) -> Result<Option<usize>, AllocError> {
     let (shared, mut first, second) = opened_by_two(alloc, topic)?;
     let went = goes_through(alloc, &shared, topic, second);
     let front = shared.front(rt, &mut first);
@@ -193,31 +188,18 @@ fn goes_by_journal<'a>(
 }
 
 // Whether a worker alone goes through them.
-fn alone_goes(alloc: Global, topic: &Topic<'_>) -> Result<bool, AllocError>
-    requires { IsDataset topic.now.base }
-{
+fn alone_goes(alloc: Global, topic: &Topic<'_>) -> Result<bool, AllocError> {
     let (shared, pass) = opened_alone(alloc, topic)?;
     let went = goes_by_journal(alloc, &shared, topic, pass);
     drop(shared);
     Ok(went)
 }
 
-/// A numbered block over a base of its own.
-pub fn topic_of<'a>(numbered: &'a Numbered, base: &'a IndexedView) -> Topic<'a>
-    ensures { result.base ≡ base.now }
-{
-    Topic {
-        terms: numbered.base.terms(),
-        base,
-        block: &numbered.block,
-    }
-}
-
 #[test]
 fn calls_succeed(rt: HostRuntime) -> Result<(), Fail> {
     let alloc = rt.alloc();
     let numbered = numbered(alloc, "", "\n")?;
-    let base = IndexedView::new(alloc, View::new(alloc), &[])?;
+    let base = nothing(alloc)?;
     let went = alone_goes(alloc, &topic_of(&numbered, &base));
     drop(base);
     drop(numbered);
@@ -233,7 +215,7 @@ pub const BLOCK: &str =
 fn front_counts_others(rt: HostRuntime) -> Result<(), Fail> {
     let alloc = rt.alloc();
     let numbered = numbered(alloc, "", BLOCK)?;
-    let base = IndexedView::new(alloc, View::new(alloc), &[])?;
+    let base = nothing(alloc)?;
     let front = front_of_others(&rt, alloc, &topic_of(&numbered, &base));
     drop(base);
     drop(numbered);

@@ -1,20 +1,18 @@
 //! Each call on a shared book that may wait, by a worker alone, with what it is told.
 ghost use Rattle.std.specs.Prelude.{◌<◌, All, IfOk, vec_len};
-ghost use Rattle.reads.specs.Reads.{IsDataset};
 ghost use Rattle.blocklock.specs.Passes.{IsIdleAt};
 ghost use Rattle.shared.specs.Calls.{IsSoundAt};
 ghost use Rattle.shared.specs.Duty.{IsPassFor};
 
-use crate::book_inputs::Topic;
+use crate::book_inputs::{Topic, nothing, topic_of};
 use crate::lines::{Step, Told, told_with_count};
 use crate::numbered_blocks::{numbered, request_at};
-use crate::sharing::{BLOCK, opened_alone, topic_of};
+use crate::sharing::{BLOCK, opened_alone};
 use crate::single_worker::executed;
 use block_machine::Reply;
 use book::Book;
 use datasets::{GraphPlace, Id, QuadPattern, Read};
 use delta::Finished;
-use reads::{IndexedView, View};
 use scheduler::Task;
 use shared::{Pass, SharedBlock};
 use std::alloc::{AllocError, Global};
@@ -247,9 +245,7 @@ fn closed<'a, R: Wait>(
 }
 
 // Whether it has an entry for each call that was answered, and one for the read of the run.
-fn is_closed<R: Wait>(rt: &R, alloc: Global, topic: &Topic<'_>) -> Result<bool, AllocError>
-    requires { IsDataset topic.now.base }
-{
+fn is_closed<R: Wait>(rt: &R, alloc: Global, topic: &Topic<'_>) -> Result<bool, AllocError> {
     let (shared, pass) = opened_alone(alloc, topic)?;
     let (book, went) = closed(rt, alloc, shared, topic, pass)?;
     let has_entries = book.front() == 1 && book.journal().len() == 11;
@@ -261,7 +257,7 @@ fn is_closed<R: Wait>(rt: &R, alloc: Global, topic: &Topic<'_>) -> Result<bool, 
 fn calls_that_may_wait(rt: HostRuntime) -> Result<(), Fail> {
     let alloc = rt.alloc();
     let numbered = numbered(alloc, "", BLOCK)?;
-    let base = IndexedView::new(alloc, View::new(alloc), &[])?;
+    let base = nothing(alloc)?;
     let is_closed = is_closed(&rt, alloc, &topic_of(&numbered, &base));
     drop(base);
     drop(numbered);
