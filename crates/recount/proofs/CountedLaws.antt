@@ -1,13 +1,14 @@
 -- What answers count as.
-use Rattle.std.proofs.Common.{◌≡◌, ℕ, suc, zero, ◌+◌, ◌<◌, ◌≤◌, Bool, true, false, ◌&&◌, List, [], ◌∷◌, ◌++◌, length, drop, get_or, Some, filter, cond, refl, ap, sym, ◌∙◌, subst}
+use Rattle.std.proofs.Common.{◌≡◌, ℕ, suc, zero, ◌+◌, ◌<◌, ◌≤◌, Bool, true, false, ◌&&◌, List, [], ◌∷◌, ◌++◌, length, drop, get_or, unwrap_or, Some, Ordering, filter, cond, refl, ap, sym, ◌∙◌, subst}
 use Rattle.std.proofs.lemmas.List.{drop_more, drop_all}
 use Rattle.std.specs.Prelude.{slice_get}
 use Rattle.std.specs.List.{list_all}
 use Rattle.std.specs.List.Sorted.{IsStrictlySortedBy}
+use Rattle.std.specs.Cmp.{IsTotalOrder}
 use Rattle.std.proofs.lemmas.Bool.{and_parts, and_from}
 use Rattle.std.proofs.lemmas.List.Kept.{IsStrictlySortedBy-filter}
 use Rattle.sets.specs.Sets.{set_of}
-use Rattle.sets.proofs.SetLaws.{set_of-set}
+use Rattle.sets.proofs.SetLaws.{set_of-set, sorted-set_of}
 use Rattle.datasets.specs.declared.id.Id.{Id}
 use Rattle.datasets.specs.declared.quad.Quad.{Quad}
 use Rattle.datasets.specs.declared.read.QuadPattern.{QuadPattern}
@@ -15,6 +16,7 @@ use Rattle.datasets.specs.declared.read.Read.TheVariants.{Scan, GraphIs, Graphs}
 use Rattle.datasets.specs.Dataset.{Quads, Is, Names, quad_order, matches}
 use Rattle.datasets.specs.Id.{id_order, id_total, id_exact, quad_total, quad_exact}
 use Rattle.meaning_laws.specs.Renaming.{quad_known, dataset_known}
+use Rattle.meaning_laws.proofs.RenamedSets.{all-set_of}
 use Rattle.reads.specs.Reads.{View, Read, Answer, IsDataset, says, told_quads, told_names}
 use Rattle.reads.specs.Runs.{Agrees}
 use Rattle.reads.specs.declared.note.Note.{Note}
@@ -42,6 +44,18 @@ all_both p q [] h = refl
 all_both p q (x ∷ xs) h =
     let parts = and_parts (q x) (list_all q xs) h in
     pass_if (λ x. p x && q x) (p x) x (filter p xs) (λ e. and_from (p x) (q x) e parts.0) (all_both p q xs parts.1)
+
+-- what passes a test is left by it
+own_pass : {A : Type 0} (p : A → Bool) (xs : List A) → list_all p (filter p xs) ≡ true
+own_pass p [] = refl
+own_pass p (x ∷ xs) = pass_if p (p x) x (filter p xs) (λ e. e) (own_pass p xs)
+
+-- a list that is the set of those of it that pass is a set of which all pass
+set_of_those : {A : Type 0} {R : A → A → Ordering} → IsTotalOrder R → (p : A → Bool) (xs : List A) → set_of R (filter p xs) ≡ xs → IsStrictlySortedBy R xs × (list_all p xs ≡ true)
+set_of_those {A} {R} total p xs e = (
+  subst (IsStrictlySortedBy R) e (sorted-set_of total (filter p xs)),
+  subst (λ ys. list_all p ys ≡ true) e (all-set_of R R (λ x. x) p (λ x y h k. refl) (filter p xs) (own_pass p xs)),
+)
 
 module _ (known : Id → Bool) where
   -- a set of quads that all count counts as it is
@@ -75,6 +89,29 @@ module _ (known : Id → Bool) where
   pub graphs_count : (n : Note) (ns : List Id) → n.read ≡ Graphs → Some ns ≡ told_names n.answer
       → IsStrictlySortedBy id_order ns → list_all known ns ≡ true → counted_note known n ≡ n
   graphs_count n ns e f set all = as_read n Graphs (Names ns) e (told_as_names n.answer ns f) (ap Names (names_count ns set all))
+
+  -- ---- notes that don't
+
+  as_told : (n : Note) (r : Read) → n.read ≡ r → counted_note known n ≡ n → counted known r n.answer ≡ n.answer
+  as_told n r e h = subst (λ z. counted known z n.answer ≡ n.answer) e (ap (λ m. m.answer) h)
+
+  pub scan_told : (n : Note) (p : QuadPattern Id) (qs : List (Quad Id)) → n.read ≡ Scan p → Some qs ≡ told_quads n.answer → counted_note known n ≡ n
+      → IsStrictlySortedBy (quad_order id_order) qs × (list_all (counts known p) qs ≡ true)
+  scan_told n p qs e f h =
+      let told : Some (set_of (quad_order id_order) (filter (counts known p) (unwrap_or (told_quads n.answer) []))) ≡ Some qs = ap told_quads (as_told n (Scan p) e h) ∙ sym f in
+      let so : set_of (quad_order id_order) (filter (counts known p) (unwrap_or (Some qs) [])) ≡ qs
+      = ap (λ o. set_of (quad_order id_order) (filter (counts known p) (unwrap_or o []))) f ∙ cc in
+      set_of_those (quad_total id_total) (counts known p) qs so
+
+  pub graphs_told : (n : Note) (ns : List Id) → n.read ≡ Graphs → Some ns ≡ told_names n.answer → counted_note known n ≡ n
+      → IsStrictlySortedBy id_order ns × (list_all known ns ≡ true)
+  graphs_told n ns e f h =
+      let told : Some (set_of id_order (filter known (unwrap_or (told_names n.answer) []))) ≡ Some ns = ap told_names (as_told n Graphs e h) ∙ sym f in
+      let so : set_of id_order (filter known (unwrap_or (Some ns) [])) ≡ ns
+      = ap (λ o. set_of id_order (filter known (unwrap_or o []))) f ∙ cc in
+      set_of_those id_total known ns so
+
+  -- ---- notes, one after another
 
   pub next_counts : (notes : List Note) (i : ℕ) (n : Note) → i < length notes → n ≡ get_or notes i n → counted_note known n ≡ n
       → counted_notes known (drop (i + 1) notes) ≡ drop (i + 1) notes → counted_notes known (drop i notes) ≡ drop i notes

@@ -1,5 +1,5 @@
 //! What an answer counts as.
-ghost use Rattle.std.specs.Prelude.{◌≡◌, Bool, IsTrue, IfOk, filter, unwrap_or, []};
+ghost use Rattle.std.specs.Prelude.{◌≡◌, ◌↔◌, Bool, IsTrue, IfOk, filter, unwrap_or, []};
 ghost use Rattle.std.specs.List.{list_all};
 ghost use Rattle.datasets.specs.Id.{id_order};
 ghost use Rattle.dict.specs.Dictionary.{is_known as the_is_known};
@@ -78,8 +78,8 @@ fn are_known(dict: &Dict, names: &[Id]) -> bool
 }
 
 // Whether an answer counts as it came.
-fn counts_as_it_came(dict: &Dict, note: &Note) -> bool
-    ensures { IsTrue result → counted_note (the_is_known dict.now) note.now ≡ note.now }
+fn is_honest(dict: &Dict, note: &Note) -> bool
+    ensures { IsTrue result ↔ (counted_note (the_is_known dict.now) note.now ≡ note.now) }
 {
     match &note.read {
         Read::Scan(pattern) => match note.answer.quads() {
@@ -95,11 +95,11 @@ fn counts_as_it_came(dict: &Dict, note: &Note) -> bool
 }
 
 /// Whether the answers of all notes count as they came.
-pub fn count_as_they_came(dict: &Dict, notes: &[Note]) -> bool
-    ensures { IsTrue result → counted_notes (the_is_known dict.now) notes.now ≡ notes.now }
+pub fn are_honest(dict: &Dict, notes: &[Note]) -> bool
+    ensures { IsTrue result ↔ (counted_notes (the_is_known dict.now) notes.now ≡ notes.now) }
 {
     for note in notes {
-        if !counts_as_it_came(dict, note) {
+        if !is_honest(dict, note) {
             return false;
         }
     }

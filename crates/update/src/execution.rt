@@ -18,7 +18,7 @@ use delta::{Delta, Finished};
 use dict::{Dict, Id};
 use meaning::{Reply, Request};
 use reads::{Note, SharedItems, Source, Stop};
-use recount::{Recount, count_as_they_came};
+use recount::{Recount, are_honest};
 use std::alloc::Global;
 use std::marker::Model;
 
@@ -166,7 +166,7 @@ fn counted_outcome<S: Source>(
         (counted_notes (is_known dict.now) notes.new.items) outcome.reply) }
 {
     let outcome = outcome_of(alloc, dict, place, request, source, notes)?;
-    if count_as_they_came(dict, notes) {
+    if are_honest(dict, notes) {
         return Ok(outcome);
     }
     let mut recount = Recount::new(alloc, dict, source, notes);

@@ -1,7 +1,7 @@
 use Rattle.std.proofs.Common.{◌≡◌, drop}
 use Rattle.dict.specs.Dictionary.{is_known}
 use Rattle.recount.specs.Counted.{counted_notes}
-use Rattle.recount.proofs.answers.count_as_they_came.Given as goal
+use Rattle.recount.proofs.answers.are_honest.Given as goal
 
 -- where the notes that are left count as they came, all do
 abbrev pub invariant-loop-note : goal.invariant-loop-note
