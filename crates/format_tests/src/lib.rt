@@ -7,6 +7,8 @@ mod builders;
 #[cfg(test)]
 mod datasets_of_terms;
 #[cfg(test)]
+mod feeds;
+#[cfg(test)]
 mod fixtures;
 #[cfg(test)]
 mod journals;

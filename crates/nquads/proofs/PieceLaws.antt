@@ -25,25 +25,30 @@ use Rattle.nquads.specs.Pieces.{ArePieces}
 
 -- ---- the lines of two pieces
 
--- the lines before what follows the LF, and that there is one where no CR came before
-abbrev pub Before : (cr : Bool) → ((List ℕ) → List (List ℕ)) → Type 0
-Before cr all = (before : List (List ℕ)) × ((ys : List ℕ) → all ys ≡ before ++ lines_after false ys) × (cr ≡ false → (first : List ℕ) × (others : List (List ℕ)) × (before ≡ first ∷ others))
+-- the lines before what follows an LF, or a CR, and that there is one where no CR came before
+abbrev pub Before : (end cr : Bool) → ((List ℕ) → List (List ℕ)) → Type 0
+Before end cr all = (before : List (List ℕ)) × ((ys : List ℕ) → all ys ≡ before ++ lines_after end ys) × (cr ≡ false → (first : List ℕ) × (others : List (List ℕ)) × (before ≡ first ∷ others))
 
 -- one byte more in front, by whether it is an LF or a CR
-one_byte : (n m cr : Bool) (b : ℕ) (after inner : List ℕ → List (List ℕ)) → Before true after → Before false inner
-    → Before cr (λ ys. cond n (cond cr (inner ys) ([] ∷ inner ys)) (cond m ([] ∷ after ys) (onto_first b (inner ys))))
-one_byte true m true b after inner x y = (y.0, y.1, λ e. absurd cc)
-one_byte true m false b after inner x y = ([] ∷ y.0, λ ys. ap (λ ls. [] ∷ ls) (y.1 ys), λ e. ([], y.0, refl))
-one_byte false true cr b after inner x y = ([] ∷ x.0, λ ys. ap (λ ls. [] ∷ ls) (x.1 ys), λ e. ([], x.0, refl))
-one_byte false false cr b after inner x y =
+one_byte : (end n m cr : Bool) (b : ℕ) (after inner : List ℕ → List (List ℕ)) → Before end true after → Before end false inner
+    → Before end cr (λ ys. cond n (cond cr (inner ys) ([] ∷ inner ys)) (cond m ([] ∷ after ys) (onto_first b (inner ys))))
+one_byte end true m true b after inner x y = (y.0, y.1, λ e. absurd cc)
+one_byte end true m false b after inner x y = ([] ∷ y.0, λ ys. ap (λ ls. [] ∷ ls) (y.1 ys), λ e. ([], y.0, refl))
+one_byte end false true cr b after inner x y = ([] ∷ x.0, λ ys. ap (λ ls. [] ∷ ls) (x.1 ys), λ e. ([], x.0, refl))
+one_byte end false false cr b after inner x y =
     let some = y.2 refl in
-    ((b ∷ some.0) ∷ some.1, λ ys. ap (onto_first b) (y.1 ys ∙ ap (λ ls. ls ++ lines_after false ys) some.2), λ e. (b ∷ some.0, some.1, refl))
+    ((b ∷ some.0) ∷ some.1, λ ys. ap (onto_first b) (y.1 ys ∙ ap (λ ls. ls ++ lines_after end ys) some.2), λ e. (b ∷ some.0, some.1, refl))
 
-pub lines_before : (front : List ℕ) (cr : Bool) → Before cr (λ ys. lines_after cr (front ++ 10 ∷ ys))
+pub lines_before : (front : List ℕ) (cr : Bool) → Before false cr (λ ys. lines_after cr (front ++ 10 ∷ ys))
 lines_before [] true = ([], λ ys. refl, λ e. absurd cc)
 lines_before [] false = ([] ∷ [], λ ys. refl, λ e. ([], [], refl))
 lines_before (b ∷ bs) cr =
-    one_byte (eqb b 10) (eqb b 13) cr b (λ ys. lines_after true (bs ++ 10 ∷ ys)) (λ ys. lines_after false (bs ++ 10 ∷ ys)) (lines_before bs true) (lines_before bs false)
+    one_byte false (eqb b 10) (eqb b 13) cr b (λ ys. lines_after true (bs ++ 10 ∷ ys)) (λ ys. lines_after false (bs ++ 10 ∷ ys)) (lines_before bs true) (lines_before bs false)
+
+pub lines_before_cr : (front : List ℕ) (cr : Bool) → Before true cr (λ ys. lines_after cr (front ++ 13 ∷ ys))
+lines_before_cr [] cr = ([] ∷ [], λ ys. refl, λ e. ([], [], refl))
+lines_before_cr (b ∷ bs) cr =
+    one_byte true (eqb b 10) (eqb b 13) cr b (λ ys. lines_after true (bs ++ 13 ∷ ys)) (λ ys. lines_after false (bs ++ 13 ∷ ys)) (lines_before_cr bs true) (lines_before_cr bs false)
 
 -- ---- two datasets, in either order
 
@@ -104,12 +109,11 @@ module _ (read : LinesAreRead) where
   -- ---- and the dataset
 
   module _ (unite : ListsUnite) where
-    pub united_spelled : (text first rest : List ℕ) (d e : Dataset Term) → ArePieces text first rest → Spells first d → Spells rest e → Spells text (united d e)
-    united_spelled text first rest d e pieces a b =
-        let before = lines_before pieces.0 false in
-        let front : lines first ≡ before.0 ++ [] ∷ [] = ap lines pieces.1 ∙ before.1 [] in
-        let whole : lines text ≡ before.0 ++ lines rest = ap lines (pieces.2 ∙ ap (λ t. t ++ rest) pieces.1 ∙ append_assoc pieces.0 (10 ∷ []) rest) ∙ before.1 rest in
-        let parts = in_parts before.0 ([] ∷ []) a.said (subst (λ ls. AreLines ls a.said) front a.each) in
+    -- a text whose lines are those of its first part, but for the empty one behind it, and of the rest
+    pub cut_spelled : (before : List (List ℕ)) (text first rest : List ℕ) (d e : Dataset Term) → lines first ≡ before ++ [] ∷ [] → lines text ≡ before ++ lines rest
+        → Spells first d → Spells rest e → Spells text (united d e)
+    cut_spelled before text first rest d e front whole a b =
+        let parts = in_parts before ([] ∷ []) a.said (subst (λ ls. AreLines ls a.said) front a.each) in
         let said : a.said ≡ parts.0 ++ Nothing ∷ [] = parts.4 ∙ ap (λ t. parts.0 ++ t) (last_says parts.1 parts.3) in
         let quads : stated a.said ≡ stated parts.0 = ap stated said ∙ stated_both parts.0 (Nothing ∷ []) ∙ append-nil (stated parts.0) in
         let names : declared a.said ≡ declared parts.0 = ap declared said ∙ declared_both parts.0 (Nothing ∷ []) ∙ append-nil (declared parts.0) in
@@ -126,3 +130,10 @@ module _ (read : LinesAreRead) where
           quads = ap (λ (x : Dataset Term). x.quads) both;
           names = ap (λ (x : Dataset Term). x.names) both;
         }
+
+    pub united_spelled : (text first rest : List ℕ) (d e : Dataset Term) → ArePieces text first rest → Spells first d → Spells rest e → Spells text (united d e)
+    united_spelled text first rest d e pieces a b =
+        let before = lines_before pieces.0 false in
+        let front : lines first ≡ before.0 ++ [] ∷ [] = ap lines pieces.1 ∙ before.1 [] in
+        let whole : lines text ≡ before.0 ++ lines rest = ap lines (pieces.2 ∙ ap (λ t. t ++ rest) pieces.1 ∙ append_assoc pieces.0 (10 ∷ []) rest) ∙ before.1 rest in
+        cut_spelled before.0 text first rest d e front whole a b

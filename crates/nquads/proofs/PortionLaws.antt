@@ -29,7 +29,7 @@ use Rattle.nquads.specs.Checked.{first_bad, StopsAt}
 use Rattle.nquads.specs.Portions.{IsReadText, EndsWithLine, IsFrontRead, AreRead, both, behind, all_behind, if_behind, as_one, ends_of, ends_in, IsPartlyRead, StopsBehind, StopsFurther, StopsWithin}
 use Rattle.nquads.proofs.WholeLaws.{whole_found, no_bad_in}
 use Rattle.nquads.proofs.LongLaws.{first_bad_is, all_good, within, beyond, front_within-front}
-use Rattle.nquads.proofs.PieceLaws.{lines_before, are_both, in_parts, united_spelled}
+use Rattle.nquads.proofs.PieceLaws.{lines_before, are_both, in_parts, cut_spelled}
 
 -- ---- how many lines there are
 
@@ -112,18 +112,30 @@ module _ (read : LinesAreRead) where
 
 -- ---- two texts as one
 
+lines_cut : (front : List ℕ) → EndsWithLine front → (before : List (List ℕ)) × ((ys : List ℕ) → lines (front ++ ys) ≡ before ++ lines ys)
+lines_cut front ends =
+    let b = lines_before ends.0 false in
+    (b.0, λ ys. ap lines (ap (λ t. t ++ ys) ends.1 ∙ append_assoc ends.0 (10 ∷ []) ys) ∙ b.1 ys)
+
+-- a text whose lines are those of its first part, but for the empty one behind it, and of the rest
+pub cut_read : LinesAreRead → ListsUnite → (before : List (List ℕ)) (text first rest : List ℕ) (a b both : ReadText) → lines first ≡ before ++ [] ∷ [] → lines text ≡ before ++ lines rest
+    → IsReadText first a → IsReadText rest b → both.dataset ≡ united a.dataset b.dataset → both.ends ≡ a.ends + b.ends → IsReadText text both
+cut_read read unite before text first rest a b both alone whole is_a is_b dataset ends =
+    let front : length (lines first) ≡ length before + 1 = ap length alone ∙ length-append before ([] ∷ []) in
+    let many : length (lines text) ≡ length before + length (lines rest) = ap length whole ∙ length-append before (lines rest) in
+    let number : a.ends + 1 ≡ length (lines first) = is_a.ends in
+    let later : b.ends + 1 ≡ length (lines rest) = is_b.ends in
+    record {
+      spelled = subst (λ d. Spells text d) (sym dataset) (cut_spelled read unite before text first rest a.dataset b.dataset alone whole is_a.spelled is_b.spelled);
+      ends = omega arith;
+    }
+
 pub both_read : LinesAreRead → ListsUnite → (text first rest : List ℕ) (a b both : ReadText) → ArePieces text first rest → IsReadText first a → IsReadText rest b
     → both.dataset ≡ united a.dataset b.dataset → both.ends ≡ a.ends + b.ends → IsReadText text both
 both_read read unite text first rest a b both pieces is_a is_b dataset ends =
-    let before = lines_of_front read first a (pieces.0, pieces.1) is_a in
-    let whole : lines text ≡ before.before ++ lines rest = ap lines pieces.2 ∙ before.cut rest in
-    let many : length (lines text) ≡ length before.before + length (lines rest) = ap length whole ∙ length-append before.before (lines rest) in
-    let number : length before.before ≡ a.ends = before.number in
-    let later : b.ends + 1 ≡ length (lines rest) = is_b.ends in
-    record {
-      spelled = subst (λ d. Spells text d) (sym dataset) (united_spelled read unite text first rest a.dataset b.dataset pieces is_a.spelled is_b.spelled);
-      ends = omega arith;
-    }
+    let before = lines_cut first (pieces.0, pieces.1) in
+    let alone : lines first ≡ before.0 ++ [] ∷ [] = ap lines (sym (append-nil first)) ∙ before.1 [] in
+    cut_read read unite before.0 text first rest a b both alone (ap lines pieces.2 ∙ before.1 rest) is_a is_b dataset ends
 
 pub then_read : LinesAreRead → ListsUnite → (front later both : ReadText) → both.dataset ≡ united front.dataset later.dataset → both.ends ≡ front.ends + later.ends
     → (whole text : List ℕ) → IsFrontRead whole (Some front) → IsReadText text later → IsReadText (whole ++ text) both
@@ -169,7 +181,7 @@ as_behind front behind pieces e = ap (if_behind front) e
 
 -- ---- bad lines among others
 
-bad_in_front : (ls later : List (List ℕ)) (n : ℕ) → IsFirstBadOf ls n → IsFirstBadOf (ls ++ later) n
+pub bad_in_front : (ls later : List (List ℕ)) (n : ℕ) → IsFirstBadOf ls n → IsFirstBadOf (ls ++ later) n
 bad_in_front ls later n b = record {
   before = b.before;
   bad = b.bad;
@@ -181,7 +193,7 @@ bad_in_front ls later n b = record {
   number = b.number;
 }
 
-bad_behind : (before ls : List (List ℕ)) (said : List Line) (n : ℕ) → AreLines before said → IsFirstBadOf ls n → IsFirstBadOf (before ++ ls) (length before + n)
+pub bad_behind : (before ls : List (List ℕ)) (said : List Line) (n : ℕ) → AreLines before said → IsFirstBadOf ls n → IsFirstBadOf (before ++ ls) (length before + n)
 bad_behind before ls said n good b =
     let number : n ≡ length b.front + 1 = b.number in
     let all : length (before ++ b.front) ≡ length before + length b.front = length-append before b.front in
@@ -206,7 +218,7 @@ not_more : (x y : List ℕ) (front after : List (List ℕ)) → [] ∷ [] ≡ x 
 not_more x y [] after e = absurd cc
 not_more x y (f ∷ front) after e = absurd cc
 
-empty_says : IsLine [] Nothing
+pub empty_says : IsLine [] Nothing
 empty_says = record { utf8 = IsUtf8-nil; says = nothing (at_end (record { blanks = []; cut = refl; each = refl })) refl }
 
 -- the empty line that comes last isn't bad
@@ -218,7 +230,7 @@ bad_before_last (l ∷ ls) (f ∷ front) bad after here e =
     let r = bad_before_last ls front bad after here (tail_is l f (ls ++ [] ∷ []) (front ++ bad ∷ after) e) in
     (r.0, (λ i. head_is l f (ls ++ [] ∷ []) (front ++ bad ∷ after) e i ∷ r.1 i))
 
-bad_but_last : (ls : List (List ℕ)) (n : ℕ) → IsFirstBadOf (ls ++ [] ∷ []) n → IsFirstBadOf ls n
+pub bad_but_last : (ls : List (List ℕ)) (n : ℕ) → IsFirstBadOf (ls ++ [] ∷ []) n → IsFirstBadOf ls n
 bad_but_last ls n b =
     let r = bad_before_last ls b.front b.bad b.after b.here b.cut in
     record { before = b.before; bad = b.bad; after = r.0; front = b.front; cut = r.1; good = b.good; here = b.here; number = b.number }
@@ -234,7 +246,7 @@ taken_behind true front rest k h =
     ap (λ n. take n (front ++ rest)) (let e : length front + k - 1 ≡ length front + (k - 1) = omega arith in e) ∙ take-append-add front rest (k - 1)
 taken_behind false front rest k h = take-append-add front rest k
 
-front_further : (front rest : List ℕ) (k : ℕ) → 1 ≤ k → front_within (length front + k) (front ++ rest) ≡ front ++ front_within k rest
+pub front_further : (front rest : List ℕ) (k : ℕ) → 1 ≤ k → front_within (length front + k) (front ++ rest) ≡ front ++ front_within k rest
 front_further front rest k h =
     let a : get_or (front ++ rest) (length front + k - 1) 0 ≡ get_or rest (k - 1) 0 =
     get_or-append_right front rest (length front + k - 1) 0 (omega arith) ∙ ap (λ n. get_or rest n 0) (let e : length front + k - 1 - length front ≡ k - 1 = omega arith in e) in
@@ -261,10 +273,10 @@ front_alone front rest ends =
     ap (λ x. take (cond (eqb x 13 && eqb (get_or (front ++ rest) (length front) 0) 10) (length front - 1) (length front)) (front ++ rest)) (ends_in_lf front rest ends)
     ∙ take-append_seam front rest
 
-nothing_within : (rest : List ℕ) → front_within 0 rest ≡ []
+pub nothing_within : (rest : List ℕ) → front_within 0 rest ≡ []
 nothing_within rest = none_taken (eqb (get_or rest 0 0) 13 && eqb (get_or rest 0 0) 10) rest
 
-front_behind : (front rest : List ℕ) (k : ℕ) → AreWhole front → front_within (length front + k) (front ++ rest) ≡ front ++ front_within k rest
+pub front_behind : (front rest : List ℕ) (k : ℕ) → AreWhole front → front_within (length front + k) (front ++ rest) ≡ front ++ front_within k rest
 front_behind front rest k whole = elim (leb_tells 1 k) [
   | inl h ↦ front_further front rest k h.1
   | inr h ↦ elim whole [
@@ -276,7 +288,7 @@ front_behind front rest k whole = elim (leb_tells 1 k) [
   ]
 ]
 
-but_last_behind : (before : List (List ℕ)) (x : List ℕ) (xs : List (List ℕ)) → but_last (before ++ x ∷ xs) ≡ before ++ but_last (x ∷ xs)
+pub but_last_behind : (before : List (List ℕ)) (x : List ℕ) (xs : List (List ℕ)) → but_last (before ++ x ∷ xs) ≡ before ++ but_last (x ∷ xs)
 but_last_behind [] x xs = refl
 but_last_behind (l ∷ []) x xs = refl
 but_last_behind (l ∷ k ∷ before) x xs = ap (λ t. l ∷ t) (but_last_behind (k ∷ before) x xs)
@@ -284,7 +296,7 @@ but_last_behind (l ∷ k ∷ before) x xs = ap (λ t. l ∷ t) (but_last_behind 
 but_last_of : (before ls : List (List ℕ)) (x : List ℕ) (xs : List (List ℕ)) → ls ≡ x ∷ xs → but_last (before ++ ls) ≡ before ++ but_last ls
 but_last_of before ls x xs e = rw e (but_last_behind before x xs)
 
-ended_after : (before : List (List ℕ)) (text : List ℕ) → but_last (before ++ lines text) ≡ before ++ but_last (lines text)
+pub ended_after : (before : List (List ℕ)) (text : List ℕ) → but_last (before ++ lines text) ≡ before ++ but_last (lines text)
 ended_after before text = but_last_of before (lines text) _ _ (lines_first text)
 
 whole_front : (front : List ℕ) (text : Option ReadText) → IsFrontRead front text → AreWhole front
@@ -298,11 +310,6 @@ ended_further front rest before k whole cut =
     ap (λ t. but_last (lines t)) (front_behind front rest k whole) ∙ ap but_last (cut (front_within k rest)) ∙ ended_after before (front_within k rest)
 
 -- ---- what is answered
-
-lines_cut : (front : List ℕ) → EndsWithLine front → (before : List (List ℕ)) × ((ys : List ℕ) → lines (front ++ ys) ≡ before ++ lines ys)
-lines_cut front ends =
-    let b = lines_before ends.0 false in
-    (b.0, λ ys. ap lines (ap (λ t. t ++ ys) ends.1 ∙ append_assoc ends.0 (10 ∷ []) ys) ∙ b.1 ys)
 
 both_whole : (front more : List ℕ) → EndsWithLine more → AreWhole (front ++ more)
 both_whole front more ends = inr (front ++ ends.0, ap (λ t. front ++ t) ends.1 ∙ sym (append_assoc front ends.0 (10 ∷ [])))

@@ -101,7 +101,7 @@ module _ (read : LinesAreRead) where
     kept front names q = sym (grows front names q)
 
     -- a name is put in as that of a quad's graph is
-    declared_too : (front : List (Quad Term)) (names : List Term) (g : Term) → keep (dataset_of front names) (Graph g) ≡ dataset_of front (names ++ g ∷ [])
+    pub declared_too : (front : List (Quad Term)) (names : List Term) (g : Term) → keep (dataset_of front names) (Graph g) ≡ dataset_of front (names ++ g ∷ [])
     declared_too front names g =
         let more : Dataset Term → Dataset Term = λ d. record { quads = set_of (quad_order term_order) front; names = d.names } in
         sym (ap more (grows front names (record { subject = g; predicate = g; object = g; graph = Some g })))

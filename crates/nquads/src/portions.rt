@@ -5,7 +5,7 @@ ghost use Rattle.devices.specs.Front.{IsFilled, is_device as is_unread};
 ghost use Rattle.nquads.specs.Long.{IsAnswer, front_within, is_device};
 ghost use Rattle.nquads.specs.Pieces.{ArePieces};
 ghost use Rattle.nquads.specs.declared.fault.BaseFault.TheVariants.{OutOfMemory};
-ghost use Rattle.nquads.specs.Portions.{AreRead, IsPartlyRead, DidNotCome, StopsBehind, StopsFurther, StopsWithin, ends_of, as_one};
+ghost use Rattle.nquads.specs.Portions.{IsReadText, AreRead, IsPartlyRead, DidNotCome, StopsBehind, StopsFurther, StopsWithin, ends_of, as_one};
 
 use crate::base::{MOST_BYTES, check_lines, ended_front};
 use crate::fault::BaseFault;
@@ -67,17 +67,29 @@ fn whole_lines(text: &[u8]) -> Option<(&[u8], &[u8])>
     Some(text.split_at(end))
 }
 
-/// Reads a text by one thread, before which so many lines come.
-fn read_alone(alloc: Global, text: &[u8], before: usize) -> Result<ReadPieces, BaseFault>
+/// Reads a text before which so many lines come.
+pub(crate) fn read_after(alloc: Global, text: &[u8], before: usize) -> Result<ReadText, BaseFault>
     requires { before + length text.now < 2 ^ 64 - 1 }
-    ensures ok { IfOk result (AreRead text.now) }
+    ensures ok { IfOk result (IsReadText text.now) }
     ensures err { IfErr result (StopsBehind before text.now) }
 {
     lines_are_read();
     lists_grow_as_datasets();
     match read_counted(alloc, text) {
-        Ok(read) => Ok(ReadPieces::Only(read)),
+        Ok(read) => Ok(read),
         Err(BaseFault::BadLine(number)) => Err(BaseFault::BadLine(before + number)),
+        Err(fault) => Err(fault),
+    }
+}
+
+/// The same, as one piece.
+fn read_alone(alloc: Global, text: &[u8], before: usize) -> Result<ReadPieces, BaseFault>
+    requires { before + length text.now < 2 ^ 64 - 1 }
+    ensures ok { IfOk result (AreRead text.now) }
+    ensures err { IfErr result (StopsBehind before text.now) }
+{
+    match read_after(alloc, text, before) {
+        Ok(read) => Ok(ReadPieces::Only(read)),
         Err(fault) => Err(fault),
     }
 }
@@ -433,7 +445,7 @@ fn read_lines_of<T: Threads + Sync, R: Read>(
 }
 
 /// Why a text that is longer than the limit is not read, before which so many lines come.
-fn fault_within(alloc: Global, text: &[u8], before: usize, limit: usize) -> BaseFault
+pub(crate) fn fault_within(alloc: Global, text: &[u8], before: usize, limit: usize) -> BaseFault
     requires long { limit < length text.now }
     requires few { before + length text.now < 2 ^ 64 - 1 }
     ensures { StopsWithin before limit text.now result }

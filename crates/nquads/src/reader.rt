@@ -1,5 +1,5 @@
 //! The reader.
-ghost use Rattle.std.specs.Prelude.{◌≡◌, ◌+◌, ◌<◌, ◌^◌, IfOk, IsErrOf, IfErr, ℕ, OnOk, OnErr, Some, None, Ok, length};
+ghost use Rattle.std.specs.Prelude.{◌≡◌, ◌+◌, ◌<◌, ◌^◌, IfOk, IsErrOf, IfErr, MatchOption, ℕ, OnOk, OnErr, Some, None, Ok, length};
 ghost use Rattle.datasets.specs.Dataset.{Dataset};
 ghost use Rattle.terms.specs.declared.term.Term.{Term};
 ghost use Rattle.nquads_lines.specs.Lines.{lines};
@@ -9,11 +9,12 @@ ghost use Rattle.nquads.specs.Whole.{Faults, Reads, ReadsText, read_from, no_qua
 
 use crate::fault::BaseFault;
 use dataset_builder::DatasetBuilder;
+use datasets::Quad;
 use nquads_lines::laws::lines_are_read;
 use nquads_lines::{Line, Stop, first_line, line_of};
 use std::alloc::{AllocError, Global};
-use terms::DataSet;
 use terms::laws::lists_grow_as_datasets;
+use terms::{DataSet, Term, TermCow};
 
 /// Puts what a line says into the dataset.
 fn keep<'a>(dataset: &mut DatasetBuilder<'a>, said: Line<'a>) -> Result<(), AllocError>
@@ -35,6 +36,60 @@ pub fn read_line(alloc: Global, line: &[u8], number: usize) -> Result<Line<'_>, 
         Ok(said) => Ok(said),
         Err(Stop::Memory) => Err(BaseFault::OutOfMemory),
         Err(Stop::Bad) => Err(BaseFault::BadLine(number)),
+    }
+}
+
+/// A quad of terms that have memory of their own.
+fn owned_quad(alloc: Global, quad: Quad<TermCow<'_>>) -> Result<Quad<Term>, AllocError>
+    ensures { IfOk result (λ owned. owned ≡ quad.entry) }
+{
+    let subject = quad.subject.into_term(alloc)?;
+    let predicate = quad.predicate.into_term(alloc)?;
+    let object = quad.object.into_term(alloc)?;
+    let graph = match quad.graph {
+        Some(name) => Some(name.into_term(alloc)?),
+        None => None,
+    };
+    Ok(Quad {
+        subject,
+        predicate,
+        object,
+        graph,
+    })
+}
+
+/// Puts what a line says into a dataset that outlives the text. An `Err` leaves it as it was.
+fn keep_owned(alloc: Global, dataset: &mut DataSet, said: Line<'_>) -> Result<(), AllocError>
+    ensures ok { OnOk result (dataset.new ≡ keep dataset.old said.entry) }
+    ensures err { OnErr result (dataset.new ≡ dataset.old) }
+{
+    match said {
+        Line::Nothing => Ok(()),
+        Line::Graph(name) => dataset.declare(name.into_term(alloc)?),
+        Line::Statement(quad) => dataset.add(owned_quad(alloc, quad)?),
+    }
+}
+
+/// Reads a line, which has this number, and puts what it says into a dataset. An `Err` leaves it as
+/// it was.
+pub fn add_line(
+    alloc: Global,
+    dataset: &mut DataSet,
+    line: &[u8],
+    number: usize,
+) -> Result<(), BaseFault>
+    ensures ok { OnOk result (MatchOption (line_of line.now) ⊥
+        (λ said. dataset.new ≡ keep dataset.old said)) }
+    ensures bad { IfErr result (λ e. Faults e number (line_of line.now)) }
+    ensures same { OnErr result (dataset.new ≡ dataset.old) }
+{
+    let said = match read_line(alloc, line, number) {
+        Ok(said) => said,
+        Err(fault) => return Err(fault),
+    };
+    match keep_owned(alloc, dataset, said) {
+        Ok(()) => Ok(()),
+        Err(_) => Err(BaseFault::OutOfMemory),
     }
 }
 

@@ -3,7 +3,7 @@ use Rattle.nquads_lines.specs.Lines.{lines}
 use Rattle.nquads.specs.Whole.{Reads, read_from, no_quads}
 use Rattle.nquads.proofs.WholeLaws.{whole_bad, whole_found}
 use Rattle.nquads.proofs.PortionLaws.{bad_within}
-use Rattle.nquads.proofs.portions.read_alone.Goals as goal
+use Rattle.nquads.proofs.portions.read_after.Goals as goal
 
 pub overflow_add-result : goal.overflow_add-result
 overflow_add-result c =
