@@ -21,6 +21,10 @@ mod event_orders;
 #[cfg(test)]
 mod gate_entries;
 #[cfg(test)]
+mod hinted_runs;
+#[cfg(test)]
+mod hints;
+#[cfg(test)]
 mod lean_notes;
 #[cfg(test)]
 mod lies;

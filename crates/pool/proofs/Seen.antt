@@ -133,6 +133,15 @@ pub took_seen : {E : Type 0} (a b : Viewed) (most : ℕ) (r : Result Next E) (ne
 took_seen a b most (Ok t) next h is = let same : t ≡ next = cc in subst (TakeIsSeen b) same (took_by_seen a b most t.task t.taken h)
 took_seen a b most (Err e) next h is = absurd cc
 
+-- a hint was tried as it is, whose request could be taken
+pub hint_seen : {E : Type 0} (a b : Viewed) (hint : Task) (place : ℕ) (r : Result Reply E) (told : Reply) → hint ≡ task.Take place → Made a b (Take place) r → r ≡ Ok told
+    → TakeIsSeen b (record { task = Some hint; taken = Some told })
+hint_seen a b hint place r told is made ok i reply at it =
+    let both : task.Take place ≡ task.Take i = sym is ∙ same_Some hint (task.Take i) at in
+    let same : place ≡ i = cc in
+    let told_it : told ≡ reply = same_Some told reply it in
+    subst (λ (x : ℕ × Reply). HasSeen b (Take x.0) x.1) (λ z. (same z, told_it z)) (made_seen a b (Take place) r told made ok)
+
 later_took : {E : Type 0} (a b : Viewed) (most : ℕ) (r : Result Next E) → Took a b most r → IsLater a b
 later_took a b most (Ok t) h = by_taken t.task t.taken h
   where

@@ -9,6 +9,7 @@ use denote.Struct.Tuple.{TupleAt}
 use denote.RattleType.{RattleType}
 use denote.Param.Send.{IsSend, IsSync, sendable, param_send, arg_send}
 use Rattle.std.proofs.Crossing.{crosses}
+use Rattle.scheduler.proofs.hints.Hints.TheSendSync as hints
 use Rattle.shared.proofs.Sent.{requests, dict, indexed_view, shared, passes}
 use Rattle.std.specs.contracts.alloc.Global as Global
 use Rattle.std.specs.contracts.alloc.AllocError as AllocError
@@ -20,6 +21,7 @@ use Rattle.shared.specs.contracts.pass.Pass as Pass
 use Rattle.pool.specs.contracts.crew.Crew as Crew
 use Rattle.pool.specs.contracts.lengths.Lengths as Lengths
 use Rattle.pool.specs.contracts.pace.Pace as Pace
+use Rattle.pool.specs.contracts.seat.Seat as Seat
 use Rattle.pool.specs.contracts.worker.Workers as Workers
 
 lengths : IsSync Lengths.the_row
@@ -28,12 +30,15 @@ lengths = search (sendable, crosses) depth 40
 pace : IsSync Pace.the_row
 pace = search (sendable, crosses) depth 20
 
+seat : (a : NamedLft) → IsSend (Seat.the_row a)
+seat a = let p = passes a in let h = hints.the_field_send in search sendable depth 20
+
 module _ (a lent : NamedLft) (T G : RattleType) (y : IsSync T) (z : IsSync G) where
   workers : IsSend (Workers.the_row lent a T G)
   workers = let s = shared a in let r = requests in let d = dict in let v = indexed_view in let n = lengths in let p = pace in search (sendable, crosses) depth 20
 
   pub crew : IsSend (Crew.the_row lent a T G)
-  crew = let w = workers in let p = passes a in search (sendable, crosses) depth 20
+  crew = let w = workers in let s = seat a in search (sendable, crosses) depth 20
 
 module _ (a : NamedLft) where
   all : IsSend (Vec.the_row (Pass.the_row a) Global.the_row ghosts)

@@ -11,7 +11,8 @@ mod lengths;
 mod pace;
 mod patience;
 mod run;
+mod seat;
 mod worker;
 
 pub use gate::{Gate, Open};
-pub use run::{run_block, run_book};
+pub use run::{run_block, run_book, run_book_with_hints};

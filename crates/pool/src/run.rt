@@ -12,6 +12,7 @@ use crate::crew::Crew;
 use crate::gate::Gate;
 use crate::lengths::Lengths;
 use crate::pace::Pace;
+use crate::seat::seats_of;
 use crate::worker::Workers;
 use book::Book;
 use datasets::Id;
@@ -19,6 +20,7 @@ use delta::Outcome;
 use dict::Dict;
 use meaning::Request;
 use reads::IndexedView;
+use scheduler::Hints;
 use shared::{Pass, SharedBlock};
 use std::alloc::{AllocError, Global};
 use std::sync::Wait;
@@ -48,10 +50,55 @@ fn opened<'a>(
     Ok((shared, passes))
 }
 
-/// Runs a block on a base to its end, by this many workers, from 1 to 64, each on a thread of its
-/// own where one can be had; the calling thread is one of them. Where it returns, all requests are
-/// committed in the book, and each entry of its journal is of one of these workers. The gate sees
-/// each answered event. An error comes only where a growth was refused.
+/// Runs a block on a base to its end, by a worker for each of these hints, from 1 to 64, each on a
+/// thread of its own where one can be had; the calling thread is one of them. A worker looks for
+/// tasks where its hints say, before it asks the book; they may be of any requests. Where it
+/// returns, all requests are committed in the book, and each entry of its journal is of one of
+/// these workers. The gate sees each answered event. An error comes only where a growth was
+/// refused.
+pub fn run_book_with_hints<'a, R: Threads + Wait + Sync, G: Gate + Sync>(
+    rt: &R,
+    alloc: Global,
+    terms: &'a Dict,
+    base: &'a IndexedView,
+    block: &'a [Request<Id>],
+    hints: Vec<Hints>,
+    gate: &G,
+) -> Result<Book<'a>, AllocError>
+    requires some { 0 < length hints.items }
+    requires most { length hints.items ≤ 64 }
+    requires terms { HasAllTerms terms.now base.now block.now }
+    requires size { length block.now < 2 ^ 32 }
+    requires short { AreShort block.now }
+    ensures terms { IfOk result (λ book. book.terms ≡ terms.now) }
+    ensures base { IfOk result (λ book. book.base ≡ base.now) }
+    ensures block { IfOk result (λ book. book.block ≡ block.now) }
+    ensures whole { IfOk result (λ book. length block.now ≤ (state_of book).front) }
+    ensures workers { IfOk result (λ book. AreBelow owner (length hints.items)
+        book.history) }
+{
+    let (shared, passes) = opened(alloc, terms, base, block, hints.len() as u32)?;
+    let seats = seats_of(alloc, passes, hints)?;
+    let pace = Pace::new();
+    let lengths = Lengths::new(alloc, block.len())?;
+    let stopped = AtomicBool::new(false);
+    let workers = Workers {
+        rt,
+        alloc,
+        shared: &shared,
+        terms,
+        base,
+        block,
+        gate,
+        pace: &pace,
+        lengths: &lengths,
+        stopped: &stopped,
+    };
+    let passes = Crew { workers, seats }.work()?;
+    Ok(shared.close(rt, passes))
+}
+
+/// The same by this many workers, from 1 to 64, with no hints at first.
 pub fn run_book<'a, R: Threads + Wait + Sync, G: Gate + Sync>(
     rt: &R,
     alloc: Global,
@@ -72,24 +119,8 @@ pub fn run_book<'a, R: Threads + Wait + Sync, G: Gate + Sync>(
     ensures whole { IfOk result (λ book. length block.now ≤ (state_of book).front) }
     ensures workers { IfOk result (λ book. AreBelow owner workers book.history) }
 {
-    let (shared, passes) = opened(alloc, terms, base, block, workers)?;
-    let pace = Pace::new();
-    let lengths = Lengths::new(alloc, block.len())?;
-    let stopped = AtomicBool::new(false);
-    let workers = Workers {
-        rt,
-        alloc,
-        shared: &shared,
-        terms,
-        base,
-        block,
-        gate,
-        pace: &pace,
-        lengths: &lengths,
-        stopped: &stopped,
-    };
-    let passes = Crew { workers, passes }.work()?;
-    Ok(shared.close(rt, passes))
+    let hints = Hints::new(alloc, workers)?;
+    run_book_with_hints(rt, alloc, terms, base, block, hints, gate)
 }
 
 /// Runs a block on a base by this many workers, from 1 to 64, each on a thread of its own where one

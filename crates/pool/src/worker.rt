@@ -13,13 +13,14 @@ use crate::gate::Gate;
 use crate::lengths::Lengths;
 use crate::pace::Pace;
 use crate::patience::Patience;
+use crate::seat::Seat;
 use block_machine::{Entry, Event, Reply};
 use datasets::Id;
 use delta::Finished;
 use dict::Dict;
 use meaning::Request;
 use reads::{IndexedView, Stop};
-use scheduler::Task;
+use scheduler::{Hints, Task};
 use shared::{Next, Pass, SharedBlock};
 use std::alloc::{AllocError, Global};
 use std::collections::VecDeque;
@@ -459,12 +460,64 @@ impl<'s, 'a, R: Wait, G: Gate> Workers<'s, 'a, R, G> {
         self.follow(pass, next)
     }
 
-    // Runs the request that was taken last, or looks for the next task. It answers as `follow`
-    // does.
+    // Leaves a hint at what could be done next when the worker last had the book, for whoever looks
+    // first. A request that is too far ahead is not to be taken yet.
+    fn leave_hint(&self, hints: &mut Hints, found: Option<Task>) -> Result<(), AllocError>
+        requires { length self.now.subject.block < 2 ^ 32 }
+    {
+        match found {
+            None => Ok(()),
+            Some(Task::Take(_)) => Ok(()),
+            Some(task) if task.place() < self.block.len() => hints.push(task),
+            Some(_) => Ok(()),
+        }
+    }
+
+    // What a hint says, with the reply to the take where it says that a request can be taken and
+    // the request is not too far ahead.
+    fn taken_by_hint(&self, pass: &mut Pass<'a>, hint: Task) -> Result<Next, AllocError>
+        requires { IsPassFor self.now pass.old }
+        ensures pass { IsPassFor self.now pass.new }
+        ensures seen { IfOk result (TakeIsSeen pass.new) }
+    {
+        let task = Some(hint);
+        match hint {
+            Task::Take(place) if place < self.pace.until() => {
+                let reply = self.shared.take(self.rt, self.alloc, pass, place)?;
+                let taken = Some(reply);
+                Ok(Next { task, taken })
+            }
+            _ => Ok(Next { task, taken: None }),
+        }
+    }
+
+    // Tries a hint as it is, if there is one. It answers as `follow` does.
+    fn try_hint(
+        &self,
+        pass: Pass<'a>,
+        hints: &mut Hints,
+    ) -> Result<(Pass<'a>, bool, Next), AllocError>
+        requires pass { IsPassFor self.now pass }
+        requires size { length self.now.subject.block < 2 ^ 32 }
+        requires short { AreShort self.now.subject.block }
+        ensures pass { IfOk result (λ r. IsPassFor self.now r.0) }
+        ensures seen { IfOk result (λ r. TakeIsSeen r.0 r.2) }
+    {
+        let Some(hint) = hints.find() else {
+            return Ok((pass, false, Next::nothing()));
+        };
+        let mut pass = pass;
+        let next = self.taken_by_hint(&mut pass, hint)?;
+        self.follow(pass, next)
+    }
+
+    // Runs the request that was taken last, or tries a hint, or looks for the next task. It answers
+    // as `follow` does.
     fn go_on(
         &self,
         pass: Pass<'a>,
         next: Next,
+        hints: &mut Hints,
         patience: &mut Patience,
     ) -> Result<(Pass<'a>, bool, Next), AllocError>
         requires pass { IsPassFor self.now pass }
@@ -477,25 +530,33 @@ impl<'s, 'a, R: Wait, G: Gate> Workers<'s, 'a, R, G> {
         if next.taken.is_some() {
             return self.follow(pass, next);
         }
+        self.leave_hint(hints, next.task)?;
+        let (pass, got_on, next) = self.try_hint(pass, hints)?;
+        if got_on || next.task.is_some() {
+            return Ok((pass, got_on, next));
+        }
         self.pace.wait_for_room(self.rt, patience);
         self.advance(pass)
     }
 
     // Does tasks until all requests are committed, or one of the workers was refused memory.
-    fn work(&self, pass: Pass<'a>) -> Result<Pass<'a>, AllocError>
-        requires pass { IsPassFor self.now pass }
+    fn work(&self, seat: Seat<'a>) -> Result<Pass<'a>, AllocError>
+        requires pass { IsPassFor self.now seat }
         requires size { length self.now.subject.block < 2 ^ 32 }
         requires short { AreShort self.now.subject.block }
         ensures { IfOk result (IsDone self.now) }
     {
-        let mut pass = pass;
+        let Seat {
+            mut pass,
+            mut hints,
+        } = seat;
         let mut next = Next::nothing();
         let mut patience = Patience::new();
         for _ in self.rt.forever() {
             if self.stopped.load(Ordering::SeqCst) {
                 return Err(AllocError);
             }
-            let (later, got_on, found) = self.go_on(pass, next, &mut patience)?;
+            let (later, got_on, found) = self.go_on(pass, next, &mut hints, &mut patience)?;
             pass = later;
             next = found;
             if got_on {
@@ -514,13 +575,13 @@ impl<'s, 'a, R: Wait, G: Gate> Workers<'s, 'a, R, G> {
 
     /// Does tasks until all requests are committed. An error comes only where a growth was refused,
     /// to this worker or another; then all stop.
-    pub fn work_or_stop(&self, pass: Pass<'a>) -> Result<Pass<'a>, AllocError>
-        requires pass { IsPassFor self.now pass }
+    pub fn work_or_stop(&self, seat: Seat<'a>) -> Result<Pass<'a>, AllocError>
+        requires pass { IsPassFor self.now seat }
         requires size { length self.now.subject.block < 2 ^ 32 }
         requires short { AreShort self.now.subject.block }
         ensures { IfOk result (IsDone self.now) }
     {
-        let worked = self.work(pass);
+        let worked = self.work(seat);
         if worked.is_err() {
             self.stopped.store(true, Ordering::SeqCst);
         }

@@ -1,1 +1,4 @@
 mod Tasks
+mod HintDeques
+mod Seats
+pub mod Sent

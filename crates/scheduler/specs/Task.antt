@@ -1,5 +1,5 @@
 -- What a worker can do where the machine is.
-use Rattle.std.specs.Prelude.{◌≡◌, ◌≤◌, ◌<◌, ℕ, Bool, true, false, List, Option, Some, None, IfSome, is_some}
+use Rattle.std.specs.Prelude.{◌≡◌, ◌≤◌, ◌<◌, ◌^◌, ℕ, Bool, true, false, List, Option, Some, None, IfSome, is_some}
 use Rattle.incarnations.specs.declared.state.Status.{Status}
 use Rattle.incarnations.specs.declared.state.Status.TheVariants.{Ready, Executing, Executed, Committed}
 use Rattle.incarnations.specs.Slots.{Slot}
@@ -15,6 +15,10 @@ place_of (task.Commit i) = i
 place_of (task.Take i) = i
 place_of (task.Begin i n) = i
 place_of (task.Check i n) = i
+
+-- a task of a request that a block may have
+abbrev pub IsHint : Task → Type 0
+IsHint t = place_of t < 2 ^ 32
 
 -- A task is lawful: the machine would commit the request; it is ready; it is executed, no pass
 -- stands, and no stamp that holds; it is executed, and a pass stands.

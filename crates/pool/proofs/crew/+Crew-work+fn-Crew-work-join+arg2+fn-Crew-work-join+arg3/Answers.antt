@@ -14,8 +14,8 @@ join-alone-requires-send-A g t c κs within = answers 3 _ [] _ (done _)
 
 pub returns : goal.returns
 returns g t c =
-    both_done c.args.self.workers c.in_ok-last.others.workers c.in_ok-last.last.workers c.args.self.passes.items c.in_ok-last.others.passes.items c.in_ok-last.last.passes.items
+    both_done c.args.self.workers c.in_ok-last.others.workers c.in_ok-last.last.workers c.args.self.seats.items c.in_ok-last.others.seats.items c.in_ok-last.last.seats.items
     c.in_ok-done.done.items c.in_ok-last_done.last_done.items _ c.in_ok-last.ensures.others.0 c.in_ok-last.ensures.last.0 (omega (arith, c.in_ok-last.ensures.count))
-    (IfOk-at_ok (λ done. AreDone c.in_ok-last.others.workers c.in_ok-last.others.passes.items done.items) c.in_ok-done.was c.join-alone.ensures.second)
-    (IfOk-at_ok (λ done. AreDone c.in_ok-last.last.workers c.in_ok-last.last.passes.items done.items) c.in_ok-last_done.was c.join-alone.ensures.first)
+    (IfOk-at_ok (λ done. AreDone c.in_ok-last.others.workers c.in_ok-last.others.seats.items done.items) c.in_ok-done.was c.join-alone.ensures.second)
+    (IfOk-at_ok (λ done. AreDone c.in_ok-last.last.workers c.in_ok-last.last.seats.items done.items) c.in_ok-last_done.was c.join-alone.ensures.first)
     c.in_ok-append.ensures.items
