@@ -18,11 +18,11 @@ Example = collections.namedtuple("Example", "name base block replies dataset")
 Ended = collections.namedtuple("Ended", "status replies error files")
 
 
-def arguments(about, **numbers):
-    """The command line: the program's path, whether all is tried, and for each of these names, with its help, a
-    number where it is given."""
+def arguments(about, program="sparql-block", **numbers):
+    """The command line: the program's path, by default in build/, whether all is tried, and for each of these names,
+    with its help, a number where it is given."""
     it = argparse.ArgumentParser(description=about, formatter_class=argparse.RawDescriptionHelpFormatter)
-    it.add_argument("program", nargs="?", default=f"{ROOT}/build/sparql-block", help="its path, by default %(default)s")
+    it.add_argument("program", nargs="?", default=f"{ROOT}/build/{program}", help="its path, by default %(default)s")
     it.add_argument("--all", action="store_true", help="try all; by default a part of it, the same each time")
     for name, text in numbers.items():
         it.add_argument(f"--{name}", type=int, metavar="N", help=text)

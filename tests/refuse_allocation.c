@@ -49,8 +49,8 @@ int posix_memalign(void **place, size_t alignment, size_t size) {
   return *place ? 0 : ENOMEM;
 }
 
-/* It takes no memory, so that it counts nothing. */
-static void end(void) {
+/* It takes no memory, so that it counts nothing. A program that returns from main ends so. */
+__attribute__((destructor)) static void end(void) {
   const char *name = getenv("COUNTED");
   char text[32];
   int length = snprintf(text, sizeof text, "%lu\n", asked);
@@ -61,7 +61,7 @@ static void end(void) {
   }
 }
 
-/* The program ends so, which runs no destructor. */
+/* One that exits ends so, which runs no destructor. */
 void _exit(int status) {
   end();
   syscall(SYS_exit_group, status);
