@@ -21,7 +21,6 @@ mod event_orders;
 #[cfg(test)]
 mod gate_entries;
 #[cfg(test)]
-#[cfg(test)]
 mod hints;
 #[cfg(test)]
 mod lean_notes;
